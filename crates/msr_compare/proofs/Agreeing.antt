@@ -5,7 +5,7 @@ use Rattle.msr_devices.specs.Device.{Device}
 use Rattle.msr_input.specs.Rows.{RowReading, HasReadRows, row_settings}
 use Rattle.msr_input.specs.declared.settings.Settings.{Settings}
 use Rattle.msr_compare.specs.declared.comparison.Difference.{Difference}
-use Rattle.msr_compare.specs.declared.tally.Tally.{Tally}
+use Rattle.msr_compare.specs.declared.tally.RowTally.{RowTally}
 use Rattle.msr_compare.specs.Symbols.{Symbol}
 use Rattle.msr_compare.specs.Sides.{Standing, HasTaken, IsAtEnd, IsFetched, IsTallied, weight}
 use Rattle.msr_compare.specs.Meetings.{HaveFetched, HaveMet, HaveTaken, IsFound, PassesAlike, PassesOnly, StandStill}
@@ -25,7 +25,7 @@ pass_one settings start now side new done front h ahead only = record {
   joined = h.joined;
   stands = ap (λ (r : RowReading). r.following) only.reading ∙ h.stands;
   symbols = h.symbols ∙ ap (λ (l : List Symbol). done ++ l) ahead ∙ sym (append_assoc done front new.ahead);
-  tallied = subst (λ (t : Tally). IsTallied h.records settings.tolerance (h.given ++ option_to_list h.joining.current) h.joining.current t) (sym only.tally)
+  tallied = subst (λ (t : RowTally). IsTallied h.records settings.tolerance (h.given ++ option_to_list h.joining.current) h.joining.current t) (sym only.tally)
       h.tallied;
   end = λ e. subst (λ (r : RowReading). IsAtEnd r) (sym only.reading) (h.end (sym only.ended ∙ e));
 }

@@ -16,7 +16,7 @@ use Rattle.msr_segments.proofs.Divisions.{cases_last, last_same, no_empty}
 use Rattle.msr_segments.proofs.DivisionLaws.{one_list}
 use Rattle.msr_segments.proofs.Histories.{no_segments}
 use Rattle.msr_segments.proofs.StepLaws.{pushes_grow, steps_push}
-use Rattle.msr_compare.specs.declared.tally.Tally.{Tally}
+use Rattle.msr_compare.specs.declared.tally.RowTally.{RowTally}
 use Rattle.msr_compare.specs.Moves.{IsDistance, LieWithin, IsGreatestMove}
 use Rattle.msr_compare.specs.Differences.{samples_in}
 use Rattle.msr_compare.specs.Symbols.{Symbol, Opens, Holds, symbols_of, row_symbols}
@@ -124,7 +124,7 @@ move_joins old rows given row segment micros distance new h current k is greates
 
 -- What is known after a row: the joiner and the segments, and the tally.
 pub record Advance (tolerance count : ℕ) (rows : List Row) (following : Following) (symbols : List Symbol)
-    (tally : Tally) : Type 0 where
+    (tally : RowTally) : Type 0 where
   pub joining : Joining
   pub given : List Segment
   pub joined : HasJoined joining rows given
@@ -139,7 +139,7 @@ pub record Advance (tolerance count : ℕ) (rows : List Row) (following : Follow
   pub greatest : IsGreatestMove tolerance rows tally.moved
 
 advance_begins : (old new : Joining) (rows : List Row) (given : List Segment) (row : Row) (ended : Option Segment)
-    (next : Following) (count : ℕ) (symbols : List Symbol) (before after : Tally) → HasJoined old rows given
+    (next : Following) (count : ℕ) (symbols : List Symbol) (before after : RowTally) → HasJoined old rows given
     → symbols_of (given ++ option_to_list old.current) ≡ symbols
     → before.segments ≡ length (given ++ option_to_list old.current)
     → before.samples ≡ samples_in (given ++ option_to_list old.current)
@@ -187,7 +187,7 @@ joins_whole given segment row =
     ∙ ap (λ (l : List Symbol). l ++ map Holds row.samples) (sym (symbols_snoc given segment))
 
 -- the distance that was told of a row that joins
-told_distance : (tolerance : ℕ) (segment : Segment) (row : Row) (tally : Tally) (told : ℕ) → tolerance ≤ 1_000_000
+told_distance : (tolerance : ℕ) (segment : Segment) (row : Row) (tally : RowTally) (told : ℕ) → tolerance ≤ 1_000_000
     → ContinuesSegment tolerance segment row → tally.start ≡ segment.start → tally.count ≡ length segment.samples
     → TellsDistance row.key.rate tally.start tally.count row.start told
     → IsDistance segment.key.rate segment.start (length segment.samples) row.start told
@@ -201,7 +201,7 @@ told_distance tolerance segment row tally told bounded k start count tells =
     (sym (tells.told_is (omega (arith, small, bounded)))) is
 
 advance_joins : (old new : Joining) (rows : List Row) (given : List Segment) (row : Row) (ended : Option Segment)
-    (next : Following) (count : ℕ) (symbols : List Symbol) (before after : Tally) → HasJoined old rows given
+    (next : Following) (count : ℕ) (symbols : List Symbol) (before after : RowTally) → HasJoined old rows given
     → symbols_of (given ++ option_to_list old.current) ≡ symbols
     → before.segments ≡ length (given ++ option_to_list old.current)
     → before.samples ≡ samples_in (given ++ option_to_list old.current)
@@ -256,7 +256,7 @@ advance_joins old new rows given row ended next count symbols before after h s s
 
 -- a row more, whatever it does
 pub advance : (old : Joining) (rows : List Row) (given : List Segment) (row : Row) (answer : Step) (was next : Following)
-    (count : ℕ) (symbols : List Symbol) (before after : Tally) → HasJoined old rows given → was ≡ following_of old
+    (count : ℕ) (symbols : List Symbol) (before after : RowTally) → HasJoined old rows given → was ≡ following_of old
     → symbols_of (given ++ option_to_list old.current) ≡ symbols
     → before.segments ≡ length (given ++ option_to_list old.current)
     → before.samples ≡ samples_in (given ++ option_to_list old.current)

@@ -11,7 +11,7 @@ use Rattle.msr_input.specs.Records.{left_with}
 use Rattle.msr_input.specs.Rows.{RowReading, HasReadRows, row_settings}
 use Rattle.msr_input.specs.declared.settings.Settings.{Settings}
 use Rattle.msr_input.specs.declared.row_reader.NextRow.{NextRow}
-use Rattle.msr_compare.specs.declared.tally.Tally.{Tally}
+use Rattle.msr_compare.specs.declared.tally.RowTally.{RowTally}
 use Rattle.msr_compare.specs.Moves.{IsGreatestMove}
 use Rattle.msr_compare.specs.Differences.{samples_in}
 use Rattle.msr_compare.specs.Symbols.{Symbol, symbols_of, row_symbols}
@@ -21,19 +21,19 @@ use Rattle.msr_compare.specs.Tallies.{TalliesRow}
 -- compared, and whether the input was read to its end
 pub record Standing : Type 0 where
   pub reading : RowReading
-  pub tally : Tally
+  pub tally : RowTally
   pub ahead : List Symbol
   pub ended : Bool
 
 -- the segment that was begun last is that of the tally
-abbrev pub IsOpenIn : Option Segment → Tally → Type 0
+abbrev pub IsOpenIn : Option Segment → RowTally → Type 0
 IsOpenIn current tally =
     (segment : Segment) → current ≡ Some segment
     → (tally.start ≡ segment.start) × (tally.count ≡ length segment.samples)
 
 -- the tally counts these records and their segments
 pub record IsTallied (records : List Record) (tolerance : ℕ) (segments : List Segment) (current : Option Segment)
-    (tally : Tally) : Type 0 where
+    (tally : RowTally) : Type 0 where
   pub segments_are : tally.segments ≡ length segments
   pub samples_are : tally.samples ≡ samples_in segments
   pub few_segments : tally.segments ≤ length records

@@ -1,6 +1,6 @@
 //! One of two inputs while they are compared.
 use crate::ahead::{Ahead, Next};
-use crate::tally::Tally;
+use crate::tally::RowTally;
 use msr_devices::Source;
 use msr_input::{NextRecord, NextRow, ReadFault, RowReader, Settings};
 use msr_segments::Step;
@@ -11,7 +11,7 @@ use std::marker::Model;
 #[derive(Drop)]
 pub(crate) struct Side {
     reader: RowReader,
-    tally: Tally,
+    tally: RowTally,
     ahead: Ahead,
     ended: bool,
 }
@@ -40,7 +40,7 @@ impl Side {
     {
         Side {
             reader: RowReader::new(alloc, settings),
-            tally: Tally::new(),
+            tally: RowTally::new(),
             ahead: Ahead::new(),
             ended: false,
         }
@@ -142,7 +142,7 @@ impl Side {
     }
 
     /// What was counted of the rows.
-    pub(crate) fn tally(&self) -> Tally
+    pub(crate) fn tally(&self) -> RowTally
         ensures { result ≡ self.now.tally }
     {
         self.tally

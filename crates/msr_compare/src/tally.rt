@@ -7,7 +7,7 @@ use msr_time::Rate;
 
 /// What was counted of the rows so far.
 #[derive(Clone, Copy, Debug)]
-pub(crate) struct Tally {
+pub(crate) struct RowTally {
     /// Where the segment begins that was begun last.
     pub start: i64,
     /// How many samples it has.
@@ -32,14 +32,14 @@ fn distance(rate: Rate, t0: i64, n: u64, t: i64) -> u64
     micros.min(u64::MAX as u128) as u64
 }
 
-impl Tally {
+impl RowTally {
     ghost use Rattle.std.specs.Prelude.{◌≡◌, pos};
 
     /// Nothing was counted.
-    pub(crate) fn new() -> Tally
+    pub(crate) fn new() -> RowTally
         ensures { result ≡ record { start = pos 0; count = 0; segments = 0; samples = 0; moved = 0 } }
     {
-        Tally {
+        RowTally {
             start: 0,
             count: 0,
             segments: 0,
@@ -50,20 +50,20 @@ impl Tally {
 
     /// Counts the next row, which does that. What is counted is less than the bytes of an input let it be, so nothing
     /// saturates.
-    pub(crate) fn with(self, step: Step, row: &Row) -> Tally
+    pub(crate) fn with(self, step: Step, row: &Row) -> RowTally
         ensures { TalliesRow step self row.now result }
     {
         let more = row.samples.len() as u64;
         let samples = self.samples.saturating_add(more as u128);
         match step {
-            Step::Begins => Tally {
+            Step::Begins => RowTally {
                 start: row.start,
                 count: more,
                 segments: self.segments.saturating_add(1),
                 samples,
                 moved: self.moved,
             },
-            Step::Joins => Tally {
+            Step::Joins => RowTally {
                 start: self.start,
                 count: self.count.saturating_add(more),
                 segments: self.segments,

@@ -3,7 +3,7 @@ use Rattle.std.proofs.Common.{◌≡◌, ◌<◌, ◌≤◌, ◌+◌, ℕ, ℤ, 
 use Rattle.std.proofs.lemmas.List.{length-drop}
 use Rattle.msr_kinds.specs.declared.storage.Version.TheVariants.{One}
 use Rattle.msr_steim.specs.Word.{IsGroup, group_code, group_word}
-use Rattle.msr_filling.specs.declared.filling.NextWord.{NextWord}
+use Rattle.msr_filling.specs.declared.filling.SteimWord.{SteimWord}
 use Rattle.msr_words.specs.FirstGroup.{IsCanonicalFirst}
 use Rattle.msr_filling.specs.NextWord.{IsNextWord}
 use Rattle.msr_words.specs.Segment.{differences}
@@ -36,7 +36,7 @@ size_there before run at size less first =
     }
 
 -- the word of that group
-pub word_there : (before : Option ℤ) (run : List ℤ) (at size : ℕ) (next : NextWord) → at < length run
+pub word_there : (before : Option ℤ) (run : List ℤ) (at size : ℕ) (next : SteimWord) → at < length run
     → IsSizeThere before run at size → next.size ≡ size
     → next.code ≡ group_code One size → next.code < 4
     → next.word ≡ group_word One (take size (drop at (differences before run)))

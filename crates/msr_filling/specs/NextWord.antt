@@ -3,7 +3,7 @@ use Rattle.std.specs.Prelude.{◌≡◌, ◌<◌, ◌≤◌, ◌+◌, ℕ, ℤ, 
 use Rattle.msr_kinds.specs.declared.storage.Version.{Version}
 use Rattle.msr_steim.specs.Word.{group_code, group_word}
 use Rattle.msr_words.specs.Canonical.{IsCanonicalDivision}
-use Rattle.msr_filling.specs.declared.filling.NextWord.{NextWord}
+use Rattle.msr_filling.specs.declared.filling.SteimWord.{SteimWord}
 
 -- the first of these groups has this size, and the others divide what is left; if there is none, the size is 0
 pub record IsNext (version : Version) (gs : List (List ℤ)) (ds : List ℤ) (size : ℕ) : Type 0 where
@@ -13,7 +13,7 @@ pub record IsNext (version : Version) (gs : List (List ℤ)) (ds : List ℤ) (si
   pub some : 0 < size → length gs ≡ length (drop 1 gs) + 1
 
 -- the word of the first group of these differences, if they can be divided at all
-pub record IsNextWord (version : Version) (ds : List ℤ) (next : NextWord) : Type 0 where
+pub record IsNextWord (version : Version) (ds : List ℤ) (next : SteimWord) : Type 0 where
   pub within : next.size ≤ length ds
   pub follows : (gs : List (List ℤ)) → IsCanonicalDivision version gs ds → IsNext version gs ds next.size
   pub code_is : next.code ≡ group_code version next.size

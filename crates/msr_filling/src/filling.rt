@@ -16,7 +16,7 @@ use msr_words::{Window, difference_after, longest_group};
 
 /// A word, with its code, and how many differences it holds.
 #[derive(Clone, Copy, Debug)]
-pub(crate) struct NextWord {
+pub(crate) struct SteimWord {
     pub size: usize,
     pub code: u32,
     pub word: u32,
@@ -24,7 +24,7 @@ pub(crate) struct NextWord {
 
 /// How a group of a given number of differences is written.
 #[derive(Clone, Copy, Debug)]
-pub(crate) struct Form {
+pub(crate) struct Steim2Form {
     pub code: u32,
     pub top: u32,
     pub width: u32,
@@ -66,7 +66,7 @@ pub(crate) fn fields_from(
 }
 
 /// Gives the form of a group of `size` differences.
-pub(crate) fn form_of(size: usize) -> Form
+pub(crate) fn form_of(size: usize) -> Steim2Form
     requires some { 1 ≤ size }
     requires most { size ≤ 7 }
     ensures width { group_width Two size ≡ Some result.width }
@@ -86,7 +86,7 @@ pub(crate) fn form_of(size: usize) -> Form
         6 => (3, 1, 5),
         _ => (3, 2, 4),
     };
-    Form { code, top, width }
+    Steim2Form { code, top, width }
 }
 
 /// Gives the fields of `size` differences from a place of the window on, side by side. Each difference is shifted to
@@ -114,7 +114,7 @@ pub(crate) fn fields_seen(window: &Window, place: usize, size: usize, width: u32
 
 /// The word of this longest group, of this form, from a place of the window on.
 #[inline(always)]
-fn formed(window: &Window, place: usize, size: usize, form: Form) -> NextWord
+fn formed(window: &Window, place: usize, size: usize, form: Steim2Form) -> SteimWord
     requires room { place + 7 ≤ 64 }
     requires full { 1 ≤ size }
     requires most { size ≤ 7 }
@@ -132,7 +132,7 @@ fn formed(window: &Window, place: usize, size: usize, form: Form) -> NextWord
         → IsLongestGroup ds result.size → result.word ≡ group_word Two (take result.size ds) }
 {
     let fields = fields_seen(window, place, size, form.width);
-    NextWord {
+    SteimWord {
         size,
         code: form.code,
         word: (form.top << 30).wrapping_add(fields),
@@ -141,7 +141,7 @@ fn formed(window: &Window, place: usize, size: usize, form: Form) -> NextWord
 
 /// The word of the longest group from a place of the window on.
 #[inline(always)]
-fn word_seen(window: &Window, place: usize) -> NextWord
+fn word_seen(window: &Window, place: usize) -> SteimWord
     requires { place + 7 ≤ 64 }
     ensures longest { (ds : List ℤ) → Shows window.now ds place
         → IsLongestGroup ds result.size }
@@ -158,7 +158,7 @@ fn word_seen(window: &Window, place: usize) -> NextWord
         5 => formed(window, place, 5, form_of(5)),
         6 => formed(window, place, 6, form_of(6)),
         7 => formed(window, place, 7, form_of(7)),
-        _ => NextWord {
+        _ => SteimWord {
             size: 0,
             code: 0,
             word: 0,
@@ -169,7 +169,7 @@ fn word_seen(window: &Window, place: usize) -> NextWord
 /// The word of the longest group from that difference on, of differences taken one after another.
 /// It is kept out of the loop over words, which is faster without it.
 #[inline(never)]
-fn word_outside(before: Option<i32>, run: &[i32], at: usize) -> NextWord
+fn word_outside(before: Option<i32>, run: &[i32], at: usize) -> SteimWord
     requires { at ≤ length run.now }
     ensures longest { IsLongestGroup (drop at (differences before run.now)) result.size }
     ensures code { result.code ≡ group_code Two result.size }
@@ -178,7 +178,7 @@ fn word_outside(before: Option<i32>, run: &[i32], at: usize) -> NextWord
 {
     let size = longest_group(before, run, at);
     if size == 0 {
-        return NextWord {
+        return SteimWord {
             size: 0,
             code: 0,
             word: 0,
@@ -186,7 +186,7 @@ fn word_outside(before: Option<i32>, run: &[i32], at: usize) -> NextWord
     }
     let form = form_of(size);
     let fields = fields_from(before, run, at, size, form.width);
-    NextWord {
+    SteimWord {
         size,
         code: form.code,
         word: (form.top << 30) + fields,
@@ -200,7 +200,7 @@ pub(crate) fn steim2_word(
     run: &[i32],
     window: &mut Window,
     at: usize,
-) -> NextWord
+) -> SteimWord
     requires within { at ≤ length run.now }
     requires window { IsWindow run.now at window.old }
     ensures window { IsWindow run.now at window.new }

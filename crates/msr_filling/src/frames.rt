@@ -12,7 +12,7 @@ ghost use Rattle.msr_words.specs.Segment.{differences};
 ghost use Rattle.msr_filling.specs.Sizing.{IsUntold, version_of};
 ghost use Rattle.msr_words.specs.Window.{IsWindow};
 
-use crate::filling::{NextWord, steim2_word};
+use crate::filling::{SteimWord, steim2_word};
 use crate::steim1_filling::{steim1_word, steim1_word_ahead};
 use byteorder::{BigEndian, ByteOrder};
 use msr_words::Window;
@@ -63,7 +63,7 @@ fn next_word(
     sizes: &[u8],
     window: &mut Window,
     at: usize,
-) -> Option<NextWord>
+) -> Option<SteimWord>
     requires within { at < length run.now }
     requires window { IsWindow run.now at window.old }
     requires sizes { sizing ≡ Sizing.Given → AreSizes (differences before run.now) 0 sizes.now }

@@ -9,7 +9,7 @@ ghost use Rattle.msr_words.specs.Groups.{AreGroupSizes};
 ghost use Rattle.msr_words.specs.Segment.{differences};
 ghost use Rattle.msr_filling.specs.Filled.{IsFilledArea};
 
-use crate::filling::{Form, fields_from, form_of};
+use crate::filling::{Steim2Form, fields_from, form_of};
 use crate::frames::{put_constants, put_word};
 
 /// A word with its code.
@@ -44,7 +44,7 @@ pub(crate) fn fields_at(run: &[i32], at: usize, size: usize, width: u32) -> u32
 
 /// The word of this group, of this form, of the differences from `at` on.
 #[inline(always)]
-fn formed_at(run: &[i32], at: usize, size: usize, form: Form) -> Word
+fn formed_at(run: &[i32], at: usize, size: usize, form: Steim2Form) -> Word
     requires later { 0 < at }
     requires room { at + size ≤ length run.now }
     requires width { group_width Two size ≡ Some form.width }

@@ -12,7 +12,7 @@ ghost use Rattle.msr_filling.specs.NextWord.{IsNextWord};
 ghost use Rattle.msr_words.specs.Segment.{differences};
 ghost use Rattle.msr_words.specs.Window.{IsWindow, Shows};
 
-use crate::filling::{NextWord, fields_from, fields_seen};
+use crate::filling::{SteimWord, fields_from, fields_seen};
 use crate::frames::{Sizing, fill_frames};
 use crate::groups_filling::fields_at;
 use msr_words::{Window, difference_after, magnitude, size_after, sizes_of};
@@ -21,14 +21,14 @@ use std::alloc::{AllocError, Global};
 /// How a group of a given number of differences is written: the code of its word, of how many bits
 /// each is, and how many bits below them are left 0.
 #[derive(Clone, Copy, Debug)]
-struct Form {
+struct Steim1Form {
     code: u32,
     width: u32,
     left: u32,
 }
 
 /// Gives the form of a group of `size` differences.
-fn form_of(size: usize) -> Form
+fn form_of(size: usize) -> Steim1Form
     requires some { 1 ≤ size }
     requires most { size ≤ 4 }
     ensures width { group_width One size ≡ Some result.width }
@@ -44,12 +44,12 @@ fn form_of(size: usize) -> Form
         3 => (1, 8, 8),
         _ => (1, 8, 0),
     };
-    Form { code, width, left }
+    Steim1Form { code, width, left }
 }
 
 /// The word of this group, of this form, from a place of the window on.
 #[inline(always)]
-fn formed(window: &Window, place: usize, size: usize, form: Form) -> NextWord
+fn formed(window: &Window, place: usize, size: usize, form: Steim1Form) -> SteimWord
     requires room { place + 7 ≤ 64 }
     requires full { 1 ≤ size }
     requires most { size ≤ 4 }
@@ -66,7 +66,7 @@ fn formed(window: &Window, place: usize, size: usize, form: Form) -> NextWord
         → result.word ≡ group_word One (take size ds) }
 {
     let fields = fields_seen(window, place, size, form.width);
-    NextWord {
+    SteimWord {
         size,
         code: form.code,
         word: fields << form.left,
@@ -85,7 +85,7 @@ fn chosen(first: u32, second: u32, is_second: u32) -> u32
 
 /// The word of a group of this size, of that of one difference and that of two.
 #[inline(always)]
-fn of_two(one: NextWord, two: NextWord, size: usize) -> NextWord
+fn of_two(one: SteimWord, two: SteimWord, size: usize) -> SteimWord
     requires full { 1 ≤ size }
     requires most { size ≤ 2 }
     ensures size { result.size ≡ size }
@@ -95,7 +95,7 @@ fn of_two(one: NextWord, two: NextWord, size: usize) -> NextWord
     ensures two { size ≡ 2 → result.word ≡ two.word }
 {
     let is_second = (size - 1) as u32;
-    NextWord {
+    SteimWord {
         size,
         code: 3 - is_second,
         word: chosen(one.word, two.word, is_second),
@@ -105,7 +105,7 @@ fn of_two(one: NextWord, two: NextWord, size: usize) -> NextWord
 /// The word of a group of two or one from a place of the window on: both are formed, so that no jump is taken by which
 /// it is.
 #[inline(always)]
-fn pair_seen(window: &Window, place: usize, size: usize) -> NextWord
+fn pair_seen(window: &Window, place: usize, size: usize) -> SteimWord
     requires room { place + 7 ≤ 64 }
     requires full { 1 ≤ size }
     requires most { size ≤ 2 }
@@ -122,7 +122,7 @@ fn pair_seen(window: &Window, place: usize, size: usize) -> NextWord
 
 /// The word of this group from a place of the window on.
 #[inline(always)]
-fn word_seen(window: &Window, place: usize, size: usize) -> NextWord
+fn word_seen(window: &Window, place: usize, size: usize) -> SteimWord
     requires room { place + 7 ≤ 64 }
     requires full { 1 ≤ size }
     requires most { size ≤ 4 }
@@ -140,7 +140,7 @@ fn word_seen(window: &Window, place: usize, size: usize) -> NextWord
 }
 
 /// The word of this group, of differences taken one after another.
-fn word_outside(before: Option<i32>, run: &[i32], at: usize, size: usize) -> NextWord
+fn word_outside(before: Option<i32>, run: &[i32], at: usize, size: usize) -> SteimWord
     requires full { 1 ≤ size }
     requires most { size ≤ 4 }
     requires room { at + size ≤ length run.now }
@@ -152,7 +152,7 @@ fn word_outside(before: Option<i32>, run: &[i32], at: usize, size: usize) -> Nex
 {
     let form = form_of(size);
     let fields = fields_from(before, run, at, size, form.width);
-    NextWord {
+    SteimWord {
         size,
         code: form.code,
         word: fields << form.left,
@@ -167,7 +167,7 @@ pub(crate) fn steim1_word(
     sizes: &[u8],
     window: &mut Window,
     at: usize,
-) -> NextWord
+) -> SteimWord
     requires within { at < length run.now }
     requires window { IsWindow run.now at window.old }
     requires sizes { AreSizes (differences before run.now) 0 sizes.now }
@@ -231,7 +231,7 @@ fn first_group_outside(before: Option<i32>, run: &[i32], at: usize) -> Option<us
 /// The word of the group that begins with that difference, if the next ones tell its size, of
 /// differences taken one after another. It is kept out of the loop over words.
 #[inline(never)]
-fn word_outside_ahead(before: Option<i32>, run: &[i32], at: usize) -> Option<NextWord>
+fn word_outside_ahead(before: Option<i32>, run: &[i32], at: usize) -> Option<SteimWord>
     requires within { at < length run.now }
     requires fits { AllByRecursion (FitsBits 32) (differences before run.now) }
     ensures next { IfSome result (IsNextWord One (drop at (differences before run.now))) }
@@ -286,7 +286,7 @@ fn first_group_inside(run: &[i32], at: usize) -> Option<usize>
 
 /// The word of this group, of this form, of the differences from `at` on.
 #[inline(always)]
-fn formed_inside(run: &[i32], at: usize, size: usize, form: Form) -> NextWord
+fn formed_inside(run: &[i32], at: usize, size: usize, form: Steim1Form) -> SteimWord
     requires later { 0 < at }
     requires full { 1 ≤ size }
     requires room { at + size ≤ length run.now }
@@ -303,7 +303,7 @@ fn formed_inside(run: &[i32], at: usize, size: usize, form: Form) -> NextWord
         → result.word ≡ group_word One (take size (drop at (differences before run.now))) }
 {
     let fields = fields_at(run, at, size, form.width);
-    NextWord {
+    SteimWord {
         size,
         code: form.code,
         word: fields << form.left,
@@ -312,7 +312,7 @@ fn formed_inside(run: &[i32], at: usize, size: usize, form: Form) -> NextWord
 
 /// The word of a group of two or one of the differences from `at` on, as `pair_seen`.
 #[inline(always)]
-fn pair_inside(run: &[i32], at: usize, size: usize) -> NextWord
+fn pair_inside(run: &[i32], at: usize, size: usize) -> SteimWord
     requires later { 0 < at }
     requires full { 1 ≤ size }
     requires most { size ≤ 2 }
@@ -330,7 +330,7 @@ fn pair_inside(run: &[i32], at: usize, size: usize) -> NextWord
 
 /// The word of this group of the differences from `at` on, none of which is the run's first.
 #[inline(always)]
-fn word_inside(run: &[i32], at: usize, size: usize) -> NextWord
+fn word_inside(run: &[i32], at: usize, size: usize) -> SteimWord
     requires later { 0 < at }
     requires full { 1 ≤ size }
     requires most { size ≤ 4 }
@@ -351,7 +351,7 @@ fn word_inside(run: &[i32], at: usize, size: usize) -> NextWord
 /// As `word_outside_ahead`, straight from the samples of five differences, none of which is the run's first: so most
 /// words of a run that is too short for a window are found. It is kept out of the loop over words.
 #[inline(never)]
-fn word_inside_ahead(run: &[i32], at: usize) -> Option<NextWord>
+fn word_inside_ahead(run: &[i32], at: usize) -> Option<SteimWord>
     requires later { 0 < at }
     requires room { at + 5 ≤ length run.now }
     ensures next { (before : Option ℤ) → AllByRecursion (FitsBits 32) (differences before run.now)
@@ -370,7 +370,7 @@ pub(crate) fn steim1_word_ahead(
     run: &[i32],
     window: &mut Window,
     at: usize,
-) -> Option<NextWord>
+) -> Option<SteimWord>
     requires within { at < length run.now }
     requires window { IsWindow run.now at window.old }
     requires fits { AllByRecursion (FitsBits 32) (differences before run.now) }

@@ -15,7 +15,7 @@ use msr_words::{Fitting, Steim2Reach, Window, steim2_greedy_reach, steim2_reach}
 
 /// As many of the longest groups as there are words, of no more samples than a record has. The size and the word of
 /// each are told.
-fn walk(
+fn walk_with_words(
     samples: &[i32],
     record_length: Length,
     start: usize,
@@ -80,7 +80,7 @@ pub fn steim2_words(
 {
     let number = record_length.data_words() as usize;
     if sizes.len() >= number && words.len() >= number {
-        return walk(samples, record_length, start, sizes, words);
+        return walk_with_words(samples, record_length, start, sizes, words);
     }
     let reach = steim2_reach(samples, record_length, start, &mut []);
     Steim2Reach {

@@ -82,7 +82,7 @@ fn fill_words(
 }
 
 /// Fills the area with frames of the differences of the run, and gives their number.
-fn fill_frames(
+fn fill_steim_area(
     alloc: Global,
     version: Version,
     run: &WrittenRun<'_>,
@@ -134,6 +134,13 @@ pub(crate) fn fill_area(
             fill_plain(width, run.samples, area);
             Ok(0)
         }
-        Storage::Frames(version) => fill_frames(alloc, version, run, words, record_length, area),
+        Storage::Frames(version) => fill_steim_area(
+            alloc,
+            version,
+            run,
+            words,
+            record_length,
+            area,
+        ),
     }
 }

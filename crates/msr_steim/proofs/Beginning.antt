@@ -6,7 +6,7 @@ use Rattle.std.proofs.Math.Nat.{mul_assoc}
 use Rattle.std.proofs.lemmas.List.{length-take, take_all, take_more}
 use Rattle.std.proofs.lemmas.Nat.{mul-mod_first, pow-add}
 use Rattle.msr_base.specs.declared.order.Order.{Order}
-use Rattle.msr_steim.specs.declared.sums.Place.{Place}
+use Rattle.msr_steim.specs.declared.sums.Progress.{Progress}
 use Rattle.msr_steim.specs.declared.word.WordLayout.{WordLayout}
 use Rattle.msr_kinds.specs.declared.storage.Version.{Version}
 use Rattle.msr_steim.specs.Area.{FirstWordsHold, WordHolds, arranged_word, code_of, constant, differences, samples_of, sums_after, whole_word, word_count}
@@ -104,7 +104,7 @@ begins_here version order area count number samples group last read none begins 
     ∙ one_group version order area number group within here) begins.sums
 
 -- the first samples begin after it, the others after the one before
-pub starts_here : (version : Version) (order : Order) (area : List ℕ) (number code word : ℕ) (at : Place) (out : List ℤ)
+pub starts_here : (version : Version) (order : Order) (area : List ℕ) (number code word : ℕ) (at : Progress) (out : List ℤ)
     → IsReached version order area number at out
     → (at.place ≡ 0 → BeginsAfter version order area at.last)
     → number < word_count area → code ≡ code_of order area number
@@ -120,21 +120,21 @@ starts_here version order area number code word at out reached begins within cod
 }
 
 -- as long as no sample was written, the next word begins after the same number
-pub begins_on : (version : Version) (order : Order) (area : List ℕ) (at next : Place)
+pub begins_on : (version : Version) (order : Order) (area : List ℕ) (at next : Progress)
     → (next ≡ at) ⊎ (at.place < next.place)
     → (at.place ≡ 0 → BeginsAfter version order area at.last)
     → next.place ≡ 0 → BeginsAfter version order area next.last
 begins_on version order area at next on begins none =
     ⊎_elim
-    (λ (same : next ≡ at). subst (λ (p : Place). BeginsAfter version order area p.last) (sym same)
-    (begins (sym (ap (λ (p : Place). p.place) same) ∙ none)))
+    (λ (same : next ≡ at). subst (λ (p : Progress). BeginsAfter version order area p.last) (sym same)
+    (begins (sym (ap (λ (p : Progress). p.place) same) ∙ none)))
     (λ (more : at.place < next.place). absurd (omega (arith, more, none)))
     on
 
 -- ---- where the samples end
 
 -- a word that reaches the end was written up to the end
-pub end_reached : (version : Version) (code word : ℕ) (at next : Place) (old new : List ℤ)
+pub end_reached : (version : Version) (code word : ℕ) (at next : Progress) (old new : List ℤ)
     → ReachesEnd version code word at.place (length old)
     → IsWritten version code word at old new next
     → at.place < length old → length new ≡ length old → next.place ≡ length new

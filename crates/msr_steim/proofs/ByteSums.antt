@@ -12,7 +12,7 @@ use Rattle.msr_steim.specs.Area.{sums_after}
 use Rattle.msr_steim.specs.Lanes.{sums_from}
 use Rattle.msr_steim.specs.Sums.{AreSumsWritten}
 use Rattle.msr_steim.specs.Word.{FitsBits, signed_of}
-use Rattle.msr_steim.specs.declared.sums.Place.{Place}
+use Rattle.msr_steim.specs.declared.sums.Progress.{Progress}
 use Rattle.msr_steim.proofs.Decoding.{length-sums_after}
 use Rattle.msr_steim.proofs.InLanes.{cons, halves_are, lane_is}
 use Rattle.msr_steim.proofs.LaneSums.{same_bits, sample_fits, samples_are, samples_of_lanes, ten_bits}
@@ -71,7 +71,7 @@ eight_at from area within = length-map (take 8 (drop from area)) (signed_of 8) �
 
 -- ---- eight sums
 
-pub eight_written : (at : Place) (out ds sums : List ℤ) (next : Place) → length ds ≡ 8
+pub eight_written : (at : Progress) (out ds sums : List ℤ) (next : Progress) → length ds ≡ 8
     → AllByRecursion (FitsBits 10) ds → sums ≡ sums_from (pos 0) (map (to_z w16) (map (of_z w16) ds))
     → at.place + 8 ≤ length out → SFits w32 at.last → next.place ≡ at.place + 8
     → next.last ≡ to_z w32 (of_z w32 (get_or (samples_of_lanes at.last sums) 7 (pos 0)))
@@ -96,7 +96,7 @@ eight_written at out ds sums next eight small sums_is room fits place last =
 -- ---- the sums of two lists, one after the other
 
 -- the last of the first
-last_of_sums : (ds : List ℤ) (at : Place) (old new : List ℤ) (next : Place) → AreSumsWritten ds at old new next
+last_of_sums : (ds : List ℤ) (at : Progress) (old new : List ℤ) (next : Progress) → AreSumsWritten ds at old new next
     → 0 < length ds → at.place ≤ length old → next.last ≡ get_or (at.last ∷ sums_after at.last ds) (length ds) (pos 0)
 last_of_sums ds at old new next written some room =
     let front : length (take at.place old) ≡ at.place = length-take at.place old ∙ omega (arith, room) in
@@ -108,7 +108,7 @@ last_of_sums ds at old new next written some room =
     ∙ get_or-append-add (take at.place old) (sums_after at.last ds) (length ds - 1) (pos 0)
     ∙ ap (λ i. get_or (at.last ∷ sums_after at.last ds) i (pos 0)) one
 
-pub both_written : (ds es : List ℤ) (at : Place) (old new : List ℤ) (half : Place) (newer : List ℤ) (next : Place)
+pub both_written : (ds es : List ℤ) (at : Progress) (old new : List ℤ) (half : Progress) (newer : List ℤ) (next : Progress)
     → 0 < length ds → at.place ≤ length old
     → AreSumsWritten ds at old new half → AreSumsWritten es half new newer next
     → AreSumsWritten (ds ++ es) at old newer next

@@ -5,7 +5,7 @@ use Rattle.std.proofs.Math.Seq.{take-append-add}
 use Rattle.std.proofs.lemmas.List.{append-nil, get_or-append-add, get_or-take, length-take, take_all}
 use Rattle.std.proofs.lemmas.Option.{slice_get-get_or}
 use Rattle.msr_base.specs.declared.order.Order.{Order}
-use Rattle.msr_steim.specs.declared.sums.Place.{Place}
+use Rattle.msr_steim.specs.declared.sums.Progress.{Progress}
 use Rattle.msr_steim.specs.declared.word.WordLayout.{WordLayout}
 use Rattle.msr_kinds.specs.declared.storage.Version.{Version}
 use Rattle.msr_steim.specs.Area.{CarriesSteim, WordHolds, arranged_word, code_of, constant, differences, samples_of, sums_after, whole_word, word_count}
@@ -39,7 +39,7 @@ undefined_alone version code word n size ends =
 -- ---- one word alone
 
 -- its samples stand at the first places
-alone : (version : Version) (code word : ℕ) (at next : Place) (old new : List ℤ) → at.place ≡ 0
+alone : (version : Version) (code word : ℕ) (at next : Progress) (old new : List ℤ) → at.place ≡ 0
     → length new ≡ length old
     → (inner : IsInnerWritten version code word at old new next)
     → take next.place new ≡ sums_after at.last inner.written.group
@@ -79,7 +79,7 @@ none_passed version order area count last some begins = record {
 }
 
 -- a word that was looked at
-pub record IsLookedAt (version : Version) (order : Order) (area : List ℕ) (number code word : ℕ) (at next : Place)
+pub record IsLookedAt (version : Version) (order : Order) (area : List ℕ) (number code word : ℕ) (at next : Progress)
     (old new : List ℤ) : Type 0 where
   pub inner : IsInnerWritten version code word at old new next
   pub zeroth : at.place ≡ 0
@@ -88,7 +88,7 @@ pub record IsLookedAt (version : Version) (order : Order) (area : List ℕ) (num
   pub word_is : word ≡ arranged_word version order code area number
   pub within : number < word_count area
 
-pub looked_at : (version : Version) (order : Order) (area : List ℕ) (frame slot codes word : ℕ) (at next : Place)
+pub looked_at : (version : Version) (order : Order) (area : List ℕ) (frame slot codes word : ℕ) (at next : Progress)
     (old new : List ℤ)
     → IsInnerWritten version (codes / 1073741824) word at old new next → at.place ≡ 0 → length new ≡ length old
     → 1 ≤ slot → slot < 16 → 3 ≤ 16 * frame + slot → frame < length area / 64
@@ -121,7 +121,7 @@ take_first (suc m) zero xs few = absurd (omega (arith, few))
 take_first (suc m) (suc n) [] few = refl
 take_first (suc m) (suc n) (x ∷ xs) few = ap (λ ys. x ∷ ys) (take_first m n xs (omega (arith, few)))
 
-module _ (version : Version) (order : Order) (area : List ℕ) (number count left code word : ℕ) (at next : Place)
+module _ (version : Version) (order : Order) (area : List ℕ) (number count left code word : ℕ) (at next : Progress)
     (old new : List ℤ)
     (passed : ArePassed version order area number count left at.last)
     (looked : IsLookedAt version order area number code word at next old new) where
@@ -166,10 +166,10 @@ module _ (version : Version) (order : Order) (area : List ℕ) (number count lef
   -- and if it has none
   last_kept : next ≡ at → 0 < length all → next.last ≡ get_or all (length all - 1) (pos 0)
   last_kept same some =
-      let none : next.place ≡ 0 = ap (λ (p : Place). p.place) same ∙ looked.zeroth in
+      let none : next.place ≡ 0 = ap (λ (p : Progress). p.place) same ∙ looked.zeroth in
       let empty : sums ≡ [] = no_samples (pos 0) sums (length-sums ∙ none) in
       let whole : all ≡ passed.samples = ap (λ xs. passed.samples ++ xs) empty ∙ append-nil passed.samples in
-      ap (λ (p : Place). p.last) same ∙ passed.last_is (omega (arith, ap length whole, some))
+      ap (λ (p : Progress). p.last) same ∙ passed.last_is (omega (arith, ap length whole, some))
       ∙ ap (λ xs. get_or xs (length xs - 1) (pos 0)) (sym whole)
 
   last_of_all : 0 < length all → next.last ≡ get_or all (length all - 1) (pos 0)

@@ -13,7 +13,7 @@ use Rattle.msr_base.specs.declared.order.Order.{Order}
 use Rattle.msr_base.specs.declared.order.Order.TheVariants.{Big, Little}
 use Rattle.msr_kinds.specs.declared.storage.Version.{Version}
 use Rattle.msr_kinds.specs.declared.storage.Version.TheVariants.{One, Two}
-use Rattle.msr_steim.specs.declared.sums.Place.{Place}
+use Rattle.msr_steim.specs.declared.sums.Progress.{Progress}
 use Rattle.msr_steim.specs.Area.{FirstWordsHold, WordHolds, code_of, constant, differences, samples_of, sums_after, whole_word, word_count}
 use Rattle.msr_steim.specs.InOrder.{BeginsAfter, differences_from}
 use Rattle.msr_steim.specs.Sums.{AreSumsWritten}
@@ -98,7 +98,7 @@ begins_all version order area count number samples groups last read none begins 
 -- ---- their sums in the places of an area's samples
 
 pub reached_on : (version : Version) (order : Order) (area : List ℕ) (number : ℕ) (groups : List (List ℤ))
-    (at next : Place) (old new : List ℤ) → IsReached version order area number at old
+    (at next : Progress) (old new : List ℤ) → IsReached version order area number at old
     → (at.place ≡ 0 → BeginsAfter version order area at.last)
     → AreSumsWritten (differences groups) at old new next
     → HoldFrom version order area number groups → number + length groups ≤ word_count area
@@ -131,7 +131,7 @@ reached_on version order area number groups at next old new reached begins writt
 -- ---- and where the samples are not kept
 
 pub passed_all : (version : Version) (order : Order) (area : List ℕ) (number count left : ℕ) (groups : List (List ℤ))
-    (at next : Place) (old new : List ℤ) → ArePassed version order area number count left at.last
+    (at next : Progress) (old new : List ℤ) → ArePassed version order area number count left at.last
     → at.place ≡ 0 → AreSumsWritten (differences groups) at old new next
     → HoldFrom version order area number groups → number + length groups ≤ word_count area
     → next.place ≤ length new → 0 < next.place → next.place < left
@@ -317,13 +317,13 @@ ones_hold version Big area frame slot codes are =
     (codes_are_ones Big area frame slot codes are.some are.late are.same are.ones)
 ones_hold version Little area frame slot codes are = absurd (cc are.big)
 
-pub four_place : (area : List ℕ) (frame slot : ℕ) (at next : Place) (old new : List ℤ)
+pub four_place : (area : List ℕ) (frame slot : ℕ) (at next : Progress) (old new : List ℤ)
     → 4 * (16 * frame + slot) + 16 ≤ length area → AreSumsWritten (bytes_after area frame slot) at old new next
     → next.place ≡ at.place + 16
 four_place area frame slot at next old new within written = written.place
     ∙ ap (λ n. at.place + n) (length-sixteen area (16 * frame + slot) within)
 
-pub four_reached : (version : Version) (order : Order) (area : List ℕ) (frame slot codes : ℕ) (at next : Place)
+pub four_reached : (version : Version) (order : Order) (area : List ℕ) (frame slot codes : ℕ) (at next : Progress)
     (old new : List ℤ) → AreOnes order area frame slot codes
     → IsReached version order area (16 * frame + slot) at old
     → (at.place ≡ 0 → BeginsAfter version order area at.last)
@@ -343,7 +343,7 @@ four_reached version order area frame slot codes at next old new are reached beg
     (ones_hold version order area frame slot codes are) within.1 same (omega (arith, place, room, same)))
 
 pub four_passed : (version : Version) (order : Order) (area : List ℕ) (frame slot codes count left : ℕ)
-    (at next : Place) (old new : List ℤ) → AreOnes order area frame slot codes
+    (at next : Progress) (old new : List ℤ) → AreOnes order area frame slot codes
     → ArePassed version order area (16 * frame + slot) count left at.last → at.place ≡ 0
     → AreSumsWritten (bytes_after area frame slot) at old new next
     → 16 ≤ length new → 16 < left

@@ -14,7 +14,7 @@ use Rattle.msr_steim.specs.Area.{sums_after}
 use Rattle.msr_steim.specs.Lanes.{sums_from}
 use Rattle.msr_steim.specs.Sums.{IsGroupWritten}
 use Rattle.msr_steim.specs.Word.{FitsBits, layout_of, numbers_in}
-use Rattle.msr_steim.specs.declared.sums.Place.{Place}
+use Rattle.msr_steim.specs.declared.sums.Progress.{Progress}
 use Rattle.msr_kinds.specs.declared.storage.Version.TheVariants.{Two}
 use Rattle.msr_steim.proofs.Decoding.{length-sums_after}
 use Rattle.msr_steim.proofs.InLanes.{HasThree, by_key}
@@ -237,7 +237,7 @@ eight_lanes word key ds three =
           length-replicate (8 - count) (pos 0),
         )
 
-group_of : (word count width : ℕ) (at : Place) (out ds : List ℤ) (next : Place) → 0 < count → count < 8
+group_of : (word count width : ℕ) (at : Progress) (out ds : List ℤ) (next : Progress) → 0 < count → count < 8
     → ds ≡ numbers_in word width count ++ replicate (8 - count) (pos 0) → at.place + 8 ≤ length out → SFits w32 at.last
     → next.place ≡ at.place + count → next.last ≡ get_or (sums_after at.last ds) 7 (pos 0)
     → IsGroupWritten word count width at out (put_chunk at.place out (sums_after at.last ds)) next
@@ -307,12 +307,12 @@ group_of word count width at out ds next some few same room fits place last =
 abbrev counts : List ℕ
 counts = 0 ∷ 0 ∷ 0 ∷ 0 ∷ 4 ∷ 4 ∷ 4 ∷ 4 ∷ 0 ∷ 0 ∷ 0 ∷ 3 ∷ 5 ∷ 6 ∷ 7 ∷ 0 ∷ []
 
-abbrev pub IsLayoutWritten : ℕ → ℕ → Place → List ℤ → List ℤ → Place → Type 0
+abbrev pub IsLayoutWritten : ℕ → ℕ → Progress → List ℤ → List ℤ → Progress → Type 0
 IsLayoutWritten word key at old new next =
     IfSome (layout_of Two (key / 4) (key % 4)) (λ layout.
     IsGroupWritten word layout.count layout.width at old new next)
 
-lanes_written : (word key : ℕ) (at : Place) (out ds : List ℤ) (next : Place) → HasThree key → FillLanes word key ds
+lanes_written : (word key : ℕ) (at : Progress) (out ds : List ℤ) (next : Progress) → HasThree key → FillLanes word key ds
     → at.place + 8 ≤ length out → SFits w32 at.last → next.place ≡ at.place + get_or counts key 0
     → next.last ≡ get_or (sums_after at.last ds) 7 (pos 0)
     → IsLayoutWritten word key at out (put_chunk at.place out (sums_after at.last ds)) next
@@ -329,7 +329,7 @@ lanes_written word key at out ds next three fill room fits place last =
     of count width some few same at_count = group_of word count width at out ds next some few same room fits at_count last
 
 -- what the code writes
-pub all_lanes_written : (word key : ℕ) (at : Place) (out ds sums : List ℤ) (next : Place) → HasThree key
+pub all_lanes_written : (word key : ℕ) (at : Progress) (out ds sums : List ℤ) (next : Progress) → HasThree key
     → FillLanes word key ds → sums ≡ sums_from (pos 0) (map (to_z w16) (map (of_z w16) ds))
     → at.place + 8 ≤ length out → SFits w32 at.last → next.place ≡ at.place + get_or counts key 0
     → next.last ≡ to_z w32 (of_z w32 (get_or (samples_of_lanes at.last sums) 7 (pos 0)))

@@ -8,7 +8,7 @@ use Rattle.std.proofs.lemmas.List.{append-nil, length-append, length-take, get_o
 use Rattle.msr_base.specs.declared.order.Order.{Order}
 use Rattle.msr_steim.specs.declared.area.SteimFault.{SteimFault}
 use Rattle.msr_steim.specs.declared.area.SteimFault.TheVariants.{DataShort, BadCode, Memory}
-use Rattle.msr_steim.specs.declared.sums.Place.{Place}
+use Rattle.msr_steim.specs.declared.sums.Progress.{Progress}
 use Rattle.msr_kinds.specs.declared.storage.Version.{Version}
 use Rattle.msr_kinds.specs.declared.storage.Version.TheVariants.{One, Two}
 use Rattle.msr_steim.specs.Area.{CarriesSteim, IsUndefined, IsUndefinedBefore, WordHolds, arranged_word, code_of, constant, differences, samples_of, sums_after, whole_word, word_count}
@@ -84,7 +84,7 @@ grown first last samples group before last_is begins same =
     (cases_lt 0 (length samples))
 
 -- what was written for a word is what its group gives
-pub pushed : (first : ℤ) (at start : Place) (old new group : List ℤ) (n : ℕ)
+pub pushed : (first : ℤ) (at start : Progress) (old new group : List ℤ) (n : ℕ)
     → start.place ≡ at.place → (0 < at.place → start ≡ at)
     → (at.place ≡ 0 → samples_of first group ≡ sums_after start.last group)
     → (0 < at.place → at.last ≡ get_or old (at.place - 1) (pos 0)) → at.place < length old
@@ -96,7 +96,7 @@ pushed first at start old new group n place kept begins last room written before
     let size : length samples ≡ at.place = length-take at.place old ∙ omega (arith, room) in
     let last_is : 0 < length samples → start.last ≡ get_or samples (length samples - 1) (pos 0) = λ more.
     let some : 0 < at.place = omega (arith, size, more) in
-    ap (λ (p : Place). p.last) (kept some) ∙ last some
+    ap (λ (p : Progress). p.last) (kept some) ∙ last some
     ∙ sym (get_or-take at.place old (at.place - 1) (pos 0) (omega (arith, some)))
     ∙ ap (λ k. get_or samples (k - 1) (pos 0)) (sym size) in
     written ∙ ap (λ k. take (length old) (take k old ++ sums_after start.last group)) place
@@ -106,14 +106,14 @@ pushed first at start old new group n place kept begins last room written before
 -- ---- word by word
 
 -- the words below this number were read, and their samples stand before the place
-pub record IsReached (version : Version) (order : Order) (area : List ℕ) (number : ℕ) (at : Place)
+pub record IsReached (version : Version) (order : Order) (area : List ℕ) (number : ℕ) (at : Progress)
     (out : List ℤ) : Type 0 where
   pub read : AreReadBelow version order area (length out) number (constant order area 1) (take at.place out)
   pub room : at.place < length out
   pub last : 0 < at.place → at.last ≡ get_or out (at.place - 1) (pos 0)
 
 -- where the samples of a word begin
-pub record IsStart (version : Version) (code word : ℕ) (forward : ℤ) (at start : Place) : Type 0 where
+pub record IsStart (version : Version) (code word : ℕ) (forward : ℤ) (at start : Progress) : Type 0 where
   pub place : start.place ≡ at.place
   pub kept : 0 < at.place → start ≡ at
   pub first : at.place ≡ 0 → (group : List ℤ) → Holds version code word group
@@ -133,7 +133,7 @@ undefined_so version order area number code word e f undefined =
     let P : ℕ → Type 0 = λ k. IsUndefinedWord version k (arranged_word version order k area number) in
     subst P e (subst (λ w. IsUndefinedWord version code w) f undefined)
 
-pushed_here : (version : Version) (order : Order) (area : List ℕ) (number code word : ℕ) (at start next : Place)
+pushed_here : (version : Version) (order : Order) (area : List ℕ) (number code word : ℕ) (at start next : Progress)
     (old new : List ℤ) → IsReached version order area number at old
     → IsStart version code word (constant order area 1) at start
     → (written : IsWritten version code word start old new next)
@@ -143,17 +143,17 @@ pushed_here version order area number code word at start next old new reached be
     pushed (constant order area 1) at start old new written.group next.place begin.place begin.kept
     (λ none. begin.first none written.group written.holds) reached.last reached.room written.samples
 
-last_here : (version : Version) (order : Order) (area : List ℕ) (number code word : ℕ) (at start next : Place)
+last_here : (version : Version) (order : Order) (area : List ℕ) (number code word : ℕ) (at start next : Progress)
     (old new : List ℤ) → IsReached version order area number at old
     → IsStart version code word (constant order area 1) at start
     → IsWritten version code word start old new next → 0 < next.place → next.last ≡ get_or new (next.place - 1) (pos 0)
 last_here version order area number code word at start next old new reached begin written some =
     written.last (λ more.
     let least : 0 < at.place = omega (arith, begin.place, more) in
-    ap (λ (p : Place). p.last) (begin.kept least) ∙ reached.last least
+    ap (λ (p : Progress). p.last) (begin.kept least) ∙ reached.last least
     ∙ ap (λ k. get_or old (k - 1) (pos 0)) (sym begin.place)) some
 
-pub step_more : (version : Version) (order : Order) (area : List ℕ) (number code word : ℕ) (at start next : Place)
+pub step_more : (version : Version) (order : Order) (area : List ℕ) (number code word : ℕ) (at start next : Progress)
     (old new : List ℤ) → IsReached version order area number at old
     → IsStart version code word (constant order area 1) at start
     → IsWritten version code word start old new next → code ≡ code_of order area number
@@ -181,7 +181,7 @@ step_more version order area number code word at start next old new reached begi
         (cases_lt a b)
 
 pub step_enough : (version : Version) (order : Order) (area : List ℕ) (number code word : ℕ)
-    (at start next : Place) (old new : List ℤ) → IsReached version order area number at old
+    (at start next : Progress) (old new : List ℤ) → IsReached version order area number at old
     → IsStart version code word (constant order area 1) at start
     → IsWritten version code word start old new next → code ≡ code_of order area number
     → word ≡ arranged_word version order code area number → number < word_count area → length new ≡ length old

@@ -6,7 +6,7 @@ use Rattle.std.proofs.Math.Seq.{get_or-append_seam, take-append-add}
 use Rattle.std.proofs.Math.Nat.{pow-zero, mod-lt}
 use Rattle.std.proofs.lemmas.Bool.{cases_lt}
 use Rattle.std.proofs.lemmas.List.{take_more, take_all, length-take, append-nil}
-use Rattle.msr_steim.specs.declared.sums.Place.{Place}
+use Rattle.msr_steim.specs.declared.sums.Progress.{Progress}
 use Rattle.msr_kinds.specs.declared.storage.Version.{Version}
 use Rattle.msr_kinds.specs.declared.storage.Version.TheVariants.{Two}
 use Rattle.msr_steim.specs.Area.{sums_after}
@@ -102,7 +102,7 @@ divided version other code top c t e f g = ap (λ v. layout_of v code top) e ∙
     ∙ ap (layout_of other c) g
 
 -- a word that is laid out so was written
-pub group_written : (version : Version) (code word : ℕ) (at : Place) (old new : List ℤ) (next : Place) (count width : ℕ)
+pub group_written : (version : Version) (code word : ℕ) (at : Progress) (old new : List ℤ) (next : Progress) (count width : ℕ)
     → layout_of version code (word / 2 ^ 30) ≡ Some (record { count = count; width = width }) → 0 < width
     → next.place ≤ length old
     → take next.place new ≡ take (length old) (take at.place old ++ sums_after at.last (numbers_in word width count))
@@ -125,8 +125,8 @@ divided_by version code word key e small key_is =
     divided version Two code (word / 1073741824) (key / 4) (key % 4) e (omega arith) (omega arith)
 
 -- and a place is left after it, if it was written whole
-pub inner_group_written : (version : Version) (code word : ℕ) (at : Place) (old new : List ℤ) (count width : ℕ)
-    (result : Option Place)
+pub inner_group_written : (version : Version) (code word : ℕ) (at : Progress) (old new : List ℤ) (count width : ℕ)
+    (result : Option Progress)
     → layout_of version code (word / 2 ^ 30) ≡ Some (record { count = count; width = width }) → 0 < count → 0 < width
     → IfSome result (IsGroupWritten word count width at old new)
     → IfSome result (IsInnerWritten version code word at old new)
@@ -154,7 +154,7 @@ holds_none version code word layout = subst (λ d. IsSomeAnd d (AreFields word [
         none = refl
 
 -- and nothing is written for it
-pub none_written : (version : Version) (code word : ℕ) (at : Place) (out : List ℤ)
+pub none_written : (version : Version) (code word : ℕ) (at : Progress) (out : List ℤ)
     → layout_of version code (word / 2 ^ 30) ≡ Some (record { count = 0; width = 0 }) → at.place < length out
     → IsWritten version code word at out out at
 none_written version code word at out layout room = record {
@@ -166,14 +166,14 @@ none_written version code word at out layout room = record {
   last = λ before some. before some;
 }
 
-pub inner_none_written : (version : Version) (code word : ℕ) (at : Place) (out : List ℤ)
+pub inner_none_written : (version : Version) (code word : ℕ) (at : Progress) (out : List ℤ)
     → layout_of version code (word / 2 ^ 30) ≡ Some (record { count = 0; width = 0 }) → at.place < length out
     → IsInnerWritten version code word at out out at
 inner_none_written version code word at out layout room =
     record { written = none_written version code word at out layout room; room = room; on = inl refl }
 
 -- and so it is if its layout is known to have fields
-pub laid_out_written : (version : Version) (code word : ℕ) (at : Place) (old new : List ℤ) (next : Place)
+pub laid_out_written : (version : Version) (code word : ℕ) (at : Progress) (old new : List ℤ) (next : Progress)
     (layout : Option WordLayout) → layout_of version code (word / 2 ^ 30) ≡ layout
     → IsSomeAnd layout (λ l. 3 ≤ l.count) → IfSome layout (λ l. IsGroupWritten word l.count l.width at old new next)
     → IsInnerWritten version code word at old new next

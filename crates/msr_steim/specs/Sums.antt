@@ -1,13 +1,13 @@
 -- The samples that one word gives.
 use Rattle.std.specs.Prelude.{◌≡◌, ◌<◌, ◌≤◌, ◌⊎◌, ℕ, ◌+◌, ◌-◌, ℤ, pos, List, ◌++◌, length, take, slice_index_or}
-use Rattle.msr_steim.specs.declared.sums.Place.{Place}
+use Rattle.msr_steim.specs.declared.sums.Progress.{Progress}
 use Rattle.msr_kinds.specs.declared.storage.Version.{Version}
 use Rattle.msr_steim.specs.Area.{sums_after}
 use Rattle.msr_steim.specs.Word.{Holds, numbers_in}
 
 -- The word holds a group, whose sums were written into the places from `at` on, as far as there are places. The
 -- samples before `at` are those of the old list, and `next` is the place after the last one written.
-pub record IsWritten (version : Version) (code word : ℕ) (at : Place) (old new : List ℤ) (next : Place) : Type 0 where
+pub record IsWritten (version : Version) (code word : ℕ) (at : Progress) (old new : List ℤ) (next : Progress) : Type 0 where
   pub group : List ℤ
   pub holds : Holds version code word group
   pub within : next.place ≤ length old
@@ -16,7 +16,7 @@ pub record IsWritten (version : Version) (code word : ℕ) (at : Place) (old new
       → 0 < next.place → next.last ≡ slice_index_or new (next.place - 1) (pos 0)
 
 -- the sums of the fields of a word were written so, and a place is left after them
-pub record IsGroupWritten (word count width : ℕ) (at : Place) (old new : List ℤ) (next : Place) : Type 0 where
+pub record IsGroupWritten (word count width : ℕ) (at : Progress) (old new : List ℤ) (next : Progress) : Type 0 where
   pub place : next.place ≡ at.place + count
   pub room : next.place < length old
   pub samples : take next.place new ≡ take (length old)
@@ -24,14 +24,14 @@ pub record IsGroupWritten (word count width : ℕ) (at : Place) (old new : List 
   pub last : next.last ≡ slice_index_or new (next.place - 1) (pos 0)
 
 -- the sums of these differences were written from `at` on, and `next` is the place after the last
-pub record AreSumsWritten (differences : List ℤ) (at : Place) (old new : List ℤ) (next : Place) : Type 0 where
+pub record AreSumsWritten (differences : List ℤ) (at : Progress) (old new : List ℤ) (next : Progress) : Type 0 where
   pub place : next.place ≡ at.place + length differences
   pub samples : take next.place new ≡ take at.place old ++ sums_after at.last differences
   pub last : next.last ≡ slice_index_or new (next.place - 1) (pos 0)
 
 -- the samples of a word were written, and a place is left after them; if there are none, nothing has changed
-pub record IsInnerWritten (version : Version) (code word : ℕ) (at : Place) (old new : List ℤ)
-    (next : Place) : Type 0 where
+pub record IsInnerWritten (version : Version) (code word : ℕ) (at : Progress) (old new : List ℤ)
+    (next : Progress) : Type 0 where
   pub written : IsWritten version code word at old new next
   pub room : next.place < length old
   pub on : (next ≡ at) ⊎ (at.place < next.place)

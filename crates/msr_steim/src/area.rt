@@ -7,7 +7,7 @@ ghost use Rattle.msr_steim.specs.Area.{CarriesSteim, EndsBefore, IsUndefinedBefo
 
 use crate::borrowed::before_first;
 use crate::fours::write_sixteen;
-use crate::sums::{Place, write_last_word, write_next_word};
+use crate::sums::{Progress, write_last_word, write_next_word};
 use byteorder::{BigEndian, ByteOrder, LittleEndian};
 use msr_base::{Order, SampleVec};
 use msr_kinds::Version;
@@ -187,7 +187,7 @@ fn decode_words<const MIXED: bool, const FOURS: bool>(
         return Err(SteimFault::DataShort);
     }
     let last = before_first(version, order, area);
-    let mut at = Place { place: 0, last };
+    let mut at = Progress { place: 0, last };
     for frame in 0..frames {
         let mut slot = first_slot(frame);
         // The code of the next word stands in the highest bits, and zeros come after that of the last.

@@ -8,7 +8,7 @@ ghost use Rattle.msr_steim.specs.Left.{GivesFirst};
 ghost use Rattle.msr_steim.specs.Word.{numbers_in};
 
 use crate::area::{SteimFault, arranged_word_at, constant_at, whole_word_at};
-use crate::check::check_area;
+use crate::carried::check_area;
 use crate::word::{difference_at, layout_for};
 use msr_base::Order;
 use msr_kinds::Version;

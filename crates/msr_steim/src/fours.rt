@@ -6,7 +6,7 @@ ghost use Rattle.msr_steim.specs.Sums.{AreSumsWritten};
 ghost use Rattle.msr_steim.specs.Word.{signed_of};
 
 use crate::lanes::prefix_sums;
-use crate::sums::Place;
+use crate::sums::Progress;
 use std::simd::prelude::*;
 
 /// Each byte as a number with a sign.
@@ -23,7 +23,7 @@ fn signed_bytes(bytes: u8x8) -> i16x8
 
 /// Writes the sums of eight bytes.
 #[inline(always)]
-fn write_eight(area: &[u8], from: usize, at: Place, out: &mut [i32]) -> Place
+fn write_eight(area: &[u8], from: usize, at: Progress, out: &mut [i32]) -> Progress
     requires within { from + 8 ≤ length area.now }
     requires room { at.place + 8 ≤ length out.old }
     requires few { length out.old ≤ 65535 }
@@ -32,7 +32,7 @@ fn write_eight(area: &[u8], from: usize, at: Place, out: &mut [i32]) -> Place
     let sums = prefix_sums(signed_bytes(u8x8::from_slice(&area[from..])));
     let samples = i32x8::splat(at.last) + sums.cast::<i32>();
     samples.copy_to_slice(&mut out[at.place..]);
-    Place {
+    Progress {
         place: at.place + 8,
         last: samples.to_array()[7],
     }
@@ -40,7 +40,7 @@ fn write_eight(area: &[u8], from: usize, at: Place, out: &mut [i32]) -> Place
 
 /// Writes the sums of sixteen bytes.
 #[inline(always)]
-pub(crate) fn write_sixteen(area: &[u8], from: usize, at: Place, out: &mut [i32]) -> Place
+pub(crate) fn write_sixteen(area: &[u8], from: usize, at: Progress, out: &mut [i32]) -> Progress
     requires within { from + 16 ≤ length area.now }
     requires room { at.place + 16 ≤ length out.old }
     requires few { length out.old ≤ 65535 }

@@ -10,7 +10,7 @@ ghost use Rattle.msr_steim.specs.Sums.{IsGroupWritten};
 ghost use Rattle.msr_steim.specs.Word.{FitsBits, layout_of, numbers_in};
 ghost use Rattle.msr_kinds.specs.declared.storage.Version.TheVariants.{Two};
 
-use crate::sums::Place;
+use crate::sums::Progress;
 use std::simd::prelude::*;
 
 // The two bytes of the word, counted from the lowest, in which the field of a lane lies. 128 gives a byte of 0.
@@ -108,7 +108,7 @@ pub(crate) fn prefix_sums(d: i16x8) -> i16x8
 /// Writes the samples of a word of Steim-2 with three to seven fields, without a jump by how many it has. It writes eight
 /// places; those after the last field are written again by the words that follow.
 #[inline(always)]
-pub(crate) fn write_lanes(key: usize, word: u32, at: Place, out: &mut [i32]) -> Place
+pub(crate) fn write_lanes(key: usize, word: u32, at: Progress, out: &mut [i32]) -> Progress
     requires layout { IsSomeAnd (layout_of Two (key / 4) (key % 4)) (λ layout. 3 ≤ layout.count) }
     requires room { at.place + 8 ≤ length out.old }
     requires few { length out.old ≤ 65535 }
@@ -118,7 +118,7 @@ pub(crate) fn write_lanes(key: usize, word: u32, at: Place, out: &mut [i32]) -> 
     let sums = prefix_sums(lanes_of(key, word));
     let samples = i32x8::splat(at.last) + sums.cast::<i32>();
     samples.copy_to_slice(&mut out[at.place..]);
-    Place {
+    Progress {
         place: at.place + usize::from(COUNTS[key]),
         last: samples.to_array()[7],
     }

@@ -4,7 +4,7 @@
 
 mod area;
 mod borrowed;
-mod check;
+mod carried;
 mod fours;
 mod frames;
 mod group;

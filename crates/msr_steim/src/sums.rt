@@ -11,7 +11,7 @@ use msr_kinds::Version;
 
 /// How far the samples are written.
 #[derive(Clone, Copy, Debug, PartialEq, Eq)]
-pub(crate) struct Place {
+pub(crate) struct Progress {
     /// The next sample's place.
     pub place: usize,
     /// The sample that the next one's difference is added to.
@@ -39,7 +39,7 @@ fn write_sums(word: u32, count: u32, width: u32, before: i32, out: &mut [i32]) -
 
 /// Writes the samples of a word that is laid out so, if a place is left after them. Else nothing is written.
 #[inline(always)]
-fn write_group(word: u32, count: u32, width: u32, at: Place, out: &mut [i32]) -> Option<Place>
+fn write_group(word: u32, count: u32, width: u32, at: Progress, out: &mut [i32]) -> Option<Progress>
     requires some { 0 < count }
     requires positive { 0 < width }
     requires within { count * width ≤ 32 }
@@ -54,7 +54,7 @@ fn write_group(word: u32, count: u32, width: u32, at: Place, out: &mut [i32]) ->
         return None;
     }
     let last = write_sums(word, count, width, at.last, &mut out[at.place..end]);
-    Some(Place { place: end, last })
+    Some(Progress { place: end, last })
 }
 
 /// Writes the samples of a word, if a place is left after them. Else nothing is written: the word reaches the end,
@@ -64,9 +64,9 @@ pub(crate) fn write_inner_word(
     version: Version,
     code: u8,
     word: u32,
-    at: Place,
+    at: Progress,
     out: &mut [i32],
-) -> Option<Place>
+) -> Option<Progress>
     requires code { code < 4 }
     requires room { at.place < length out.old }
     requires few { length out.old ≤ 65535 }
@@ -118,7 +118,7 @@ fn first_of_pair(code: u8, word: u32) -> i32
 /// Writes the samples of a word of Steim-1 with two fields or one, without a jump by how many: the place after that of a
 /// single one is written too, and again by the word that follows.
 #[inline(always)]
-fn write_pair(code: u8, word: u32, at: Place, out: &mut [i32]) -> Place
+fn write_pair(code: u8, word: u32, at: Progress, out: &mut [i32]) -> Progress
     requires code { (2 ≤ code) × (code < 4) }
     requires room { at.place + 2 < length out.old }
     requires few { length out.old ≤ 65535 }
@@ -129,7 +129,7 @@ fn write_pair(code: u8, word: u32, at: Place, out: &mut [i32]) -> Place
     let second = first.wrapping_add(difference_at(word, 0, 16));
     out[at.place] = first;
     out[at.place + 1] = second;
-    Place {
+    Progress {
         place: at.place + 4 - usize::from(code),
         last: if code == 2 { second } else { first },
     }
@@ -142,9 +142,9 @@ fn write_without_jump(
     version: Version,
     code: u8,
     word: u32,
-    at: Place,
+    at: Progress,
     out: &mut [i32],
-) -> Option<Place>
+) -> Option<Progress>
     requires code { code < 4 }
     requires room { at.place < length out.old }
     requires few { length out.old ≤ 65535 }
@@ -175,9 +175,9 @@ pub(crate) fn write_next_word<const MIXED: bool>(
     version: Version,
     code: u8,
     word: u32,
-    at: Place,
+    at: Progress,
     out: &mut [i32],
-) -> Option<Place>
+) -> Option<Progress>
     requires code { code < 4 }
     requires room { at.place < length out.old }
     requires few { length out.old ≤ 65535 }
@@ -201,9 +201,9 @@ pub(crate) fn write_last_word(
     version: Version,
     code: u8,
     word: u32,
-    at: Place,
+    at: Progress,
     out: &mut [i32],
-) -> Option<Place>
+) -> Option<Progress>
     requires code { code < 4 }
     requires room { at.place < length out.old }
     requires few { length out.old ≤ 65535 }
@@ -222,5 +222,5 @@ pub(crate) fn write_last_word(
         at.last,
         &mut out[at.place..end],
     );
-    Some(Place { place: end, last })
+    Some(Progress { place: end, last })
 }

@@ -1,7 +1,7 @@
 //! Whether a report shows that packed records are the fewest.
 #![tactic(auto)]
 
-mod comparing;
+mod agreement;
 mod full_row;
 mod laws;
 mod verdict;

@@ -3,7 +3,7 @@ ghost use Rattle.std.specs.Prelude.{◌↔◌, ◌≤◌, ℕ, List, IsErrOf};
 ghost use Rattle.msr_devices.specs.Device.{CanCountCall, CountsFew, HasFailed, HasLeft};
 ghost use Rattle.msr_verdict.specs.Packed.{VerifyAnswers};
 
-use crate::comparing::Comparing;
+use crate::agreement::Agreement;
 use crate::full_row::full_row;
 use crate::verdict::Verdict;
 use msr_devices::Source;
@@ -36,10 +36,10 @@ pub fn verify_packed<R: Source>(
         strict: false,
     };
     let mut reader = RowReader::new(alloc, settings);
-    let mut comparing = Comparing::new(alloc);
+    let mut agreement = Agreement::new(alloc);
     'records: while let Some(next) = reader.next_record(source)? {
-        comparing.take(report, full_row(next, report.length))?;
+        agreement.take(report, full_row(next, report.length))?;
     }
-    comparing.end(report);
-    Ok(comparing.verdict(report))
+    agreement.end(report);
+    Ok(agreement.verdict(report))
 }

@@ -44,9 +44,9 @@ impl Steim2Reach {
     }
 }
 
-/// Tells the size of that group, if there is room for it.
+/// Notes the size of that group, if there is room for it.
 #[inline(always)]
-fn tell(sizes: &mut [u8], room: usize, group: usize, size: usize)
+fn note_size(sizes: &mut [u8], room: usize, group: usize, size: usize)
     requires room { room ≤ length sizes.old }
     requires small { size < 256 }
     ensures { group < room → sizes.new ≡ slice_set sizes.old group size }
@@ -60,7 +60,7 @@ fn tell(sizes: &mut [u8], room: usize, group: usize, size: usize)
 /// there is room for one of each word. The calls give a `room` of none or of as many, so that the compiler makes a walk
 /// for each, without a test for each group.
 #[inline(always)]
-fn walk(
+fn walk_with_sizes(
     samples: &[i32],
     record_length: Length,
     start: usize,
@@ -90,7 +90,7 @@ fn walk(
             }
             shared = false;
         }
-        tell(sizes, room, word, size);
+        note_size(sizes, room, word, size);
         at += size;
     }
     Steim2Reach::of_walk(samples, at, words, shared)
@@ -115,9 +115,9 @@ pub fn steim2_reach(
 {
     let words = record_length.data_words() as usize;
     if sizes.len() >= words {
-        return walk(samples, record_length, start, words, sizes);
+        return walk_with_sizes(samples, record_length, start, words, sizes);
     }
-    let reach = walk(samples, record_length, start, 0, sizes);
+    let reach = walk_with_sizes(samples, record_length, start, 0, sizes);
     Steim2Reach {
         end: reach.end,
         groups: 0,

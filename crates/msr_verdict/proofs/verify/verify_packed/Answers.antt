@@ -15,12 +15,12 @@ records-init g c = record {
   settings = settings_none c.args.report.now c.new-reader.result c.new-reader.ensures.following
       c.new-reader.ensures.strict;
   follows = follows_none (form_by c.args.report.now) c.args.report.now.segments.items
-      c.new-reader.result.following c.new-comparing.result
+      c.new-reader.result.following c.new-agreement.result
       (ap (λ (f : Following). f.current) c.new-reader.ensures.following) (record {
-        place = c.new-comparing.ensures.place;
-        is_open = c.new-comparing.ensures.is_open;
-        judged = c.new-comparing.ensures.judged;
-        agrees = c.new-comparing.ensures.agrees;
+        place = c.new-agreement.ensures.place;
+        is_open = c.new-agreement.ensures.is_open;
+        judged = c.new-agreement.ensures.judged;
+        agrees = c.new-agreement.ensures.agrees;
       });
 }
 
@@ -30,7 +30,7 @@ returns-in_err-next-clause-answer g c =
     let u = c.records.invariant in
     let start = g.R.Source.device c.args.source.now in
     rw (p.1, p.2) (as_answer _ _ _ (read_fails c.args.report.now start (g.R.Source.device c.records.source)
-    (g.R.Source.device c.next_record.new.source) c.records.reader c.records.comparing c.in_err-next.field-0.0 u
+    (g.R.Source.device c.next_record.new.source) c.records.reader c.records.agreement c.in_err-next.field-0.0 u
     (c.in_err-next.ensures.read start u.records u.answers u.read)))
 
 pub returns-in_err-next-clause-read : goal.returns-in_err-next-clause-read
@@ -39,7 +39,7 @@ returns-in_err-next-clause-read g c =
     let u = c.records.invariant in
     let start = g.R.Source.device c.args.source.now in
     let stops = stops_so c.args.report.now start (g.R.Source.device c.records.source)
-    (g.R.Source.device c.next_record.new.source) c.records.reader c.records.comparing c.in_err-next.field-0.0 u
+    (g.R.Source.device c.next_record.new.source) c.records.reader c.records.agreement c.in_err-next.field-0.0 u
     (c.in_err-next.ensures.read start u.records u.answers u.read) in
     rw (p.1, p.2) (read_tells _ start (g.R.Source.device c.next_record.new.source) [] c.in_err-next.field-0.0 stops)
 
@@ -55,7 +55,7 @@ records-preserved g c =
       settings = c.next_record.ensures.settings ∙ u.settings;
       follows = follows_step (form_by c.args.report.now) c.args.report.now.segments.items
           c.records.reader.following c.next_record.new.self.following u.records one.found c.in-Some.next
-          c.full_row.result c.records.comparing c.take.new.self u.follows one.length_is one.row_is
+          c.full_row.result c.records.agreement c.take.new.self u.follows one.length_is one.row_is
           (rw c.in-Some.is at c.in_ok-next.ensures.step) c.full_row.ensures c.in_ok-take.ensures.taken;
     }
 
@@ -75,5 +75,5 @@ returns-clause-answer g c =
     let start = g.R.Source.device c.args.source.now in
     let none = rw c.in_default.is at (c.in_ok-next.ensures.exact start u.records u.answers u.read) in
     as_answer _ _ _ (done c.args.report.now start (g.R.Source.device c.records.source)
-    (g.R.Source.device c.next_record.new.source) c.records.reader c.next_record.new.self c.records.comparing
+    (g.R.Source.device c.next_record.new.source) c.records.reader c.next_record.new.self c.records.agreement
     c.end.new.self c.verdict.result u none c.next_record.ensures.settings c.end.ensures c.verdict.ensures)

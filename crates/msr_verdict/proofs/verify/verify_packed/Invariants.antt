@@ -4,7 +4,7 @@ use Rattle.msr_verdict.proofs.verify.verify_packed.Given as goal
 
 abbrev pub invariant-records : goal.invariant-records
 invariant-records g l = UnderWay l.report (g.R.Source.device l.fn.source)
-    (g.R.Source.device l.source) l.reader l.comparing
+    (g.R.Source.device l.source) l.reader l.agreement
 
 abbrev pub decreases-records : goal.decreases-records
 decreases-records g l = left_with (g.R.Source.device l.source) l.reader.position.waiting

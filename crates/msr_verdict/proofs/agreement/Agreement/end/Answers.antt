@@ -1,8 +1,8 @@
 use Rattle.std.proofs.Common.{◌≡◌, ◌∙◌, arith, refl, sym, ap}
 use Rattle.std.proofs.lemmas.Bool.{both_ways}
 use Rattle.msr_verdict.specs.Compared.{Compared}
-use Rattle.msr_verdict.proofs.comparing.Comparing.end.Goals as goal
-use Rattle.msr_verdict.proofs.comparing.Comparing.end.Goals.{then-self, else-self}
+use Rattle.msr_verdict.proofs.agreement.Agreement.end.Goals as goal
+use Rattle.msr_verdict.proofs.agreement.Agreement.end.Goals.{then-self, else-self}
 
 pub returns : goal.returns
 returns c =

@@ -1,4 +1,4 @@
-//! Comparing segments with the lines of a report, one after another.
+//! Agreement segments with the lines of a report, one after another.
 ghost use Rattle.std.specs.Prelude.{◌≡◌, ◌↔◌, IsTrue};
 ghost use Rattle.msr_verdict.specs.Compared.{IsLineAt, separators_at};
 ghost use Rattle.msr_verdict.specs.Packed.{form_by};
@@ -46,14 +46,14 @@ fn form_by(report: &Report) -> Form
 /// How far the segments agree with the lines of one report. Of the open segment it keeps what a judge of its runs does,
 /// and nothing once a segment or a record disagreed.
 #[derive(Drop)]
-pub(crate) struct Comparing {
+pub(crate) struct Agreement {
     place: usize,
     is_open: bool,
     judge: Judge,
     agrees: bool,
 }
 
-impl Model for Comparing {
+impl Model for Agreement {
     ghost use Rattle.msr_verdict.specs.Compared.{Compared};
 
     ghost Value = { Compared };
@@ -61,7 +61,7 @@ impl Model for Comparing {
     ghost view = { λ c. record { place = c.place; is_open = c.is_open; judged = c.judge; agrees = c.agrees } };
 }
 
-impl Comparing {
+impl Agreement {
     ghost use Rattle.std.specs.Prelude.{◌≡◌, ◌↔◌, ℕ, List, [], length, true, false, OnOk, IfErr, IsTrue, ◌+◌, ◌<◌, ◌^◌};
     ghost use Rattle.msr_words.specs.Fit.{Records, records_of};
     ghost use Rattle.msr_words.specs.declared.kinds.Run.{Run as WordRun};
@@ -70,13 +70,13 @@ impl Comparing {
     ghost use Rattle.msr_verdict.specs.Compared.{AddsRow, ComparesEnded, EndsBy, IsLineAt, IsShownAt, OpensBy, TakesRow};
 
     /// The state before the first record.
-    pub(crate) fn new(alloc: Global) -> Comparing
+    pub(crate) fn new(alloc: Global) -> Agreement
         ensures place { result.place ≡ 0 }
         ensures is_open { result.is_open ≡ false }
         ensures judged { (records : Records) (separators : List ℕ) → Judges records [] [] separators result.judged }
         ensures agrees { result.agrees ≡ true }
     {
-        Comparing {
+        Agreement {
             place: 0,
             is_open: false,
             judge: Judge::new(alloc),

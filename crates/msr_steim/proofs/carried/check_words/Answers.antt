@@ -3,13 +3,13 @@ use Rattle.std.proofs.Common.{◌≡◌, ◌<◌, ◌+◌, ◌-◌, ◌*◌, ◌
 use Rattle.std.proofs.lemmas.Bool.{ne_eqb}
 use Rattle.std.proofs.lemmas.Int.{to_z-of_z}
 use mathlib.Core.Bool.{not}
-use Rattle.msr_steim.specs.declared.sums.Place.{Place}
+use Rattle.msr_steim.specs.declared.sums.Progress.{Progress}
 use Rattle.msr_steim.specs.Area.{IsUndefined, IsUndefinedBefore, code_of, constant}
 use Rattle.msr_steim.proofs.Beginning.{code_here, codes_by, codes_on}
 use Rattle.msr_steim.proofs.Checking.{ArePassed, looked_at, none_passed, passed_enough, passed_on, undefined_alone}
 use Rattle.msr_steim.proofs.FourWords.{AreOnes, four_passed, ones_within}
 use Rattle.msr_steim.proofs.Reading.{same_word, skip_first, slot_bounds, undefined_before, undefined_so}
-use Rattle.msr_steim.proofs.check.check_words.Goals as goal
+use Rattle.msr_steim.proofs.carried.check_words.Goals as goal
 
 pub loop-frame-init : goal.loop-frame-init
 loop-frame-init g c =
@@ -75,7 +75,7 @@ loop-slot-preserved-then-left-gt16 g c =
     let slot = c.loop-slot.slot in
     let codes = c.loop-slot.codes in
     let count = c.args.count in
-    let at : Place = record { place = 0; last = to_z w32 c.loop-slot.last-bits } in
+    let at : Progress = record { place = 0; last = to_z w32 c.loop-slot.last-bits } in
     let next = c.write_sixteen-last.result in
     let old = c.loop-slot.samples in
     let new = c.write_sixteen-last.new.out in
@@ -136,7 +136,7 @@ returns-then-next-left-clause-samples g c =
     let codes = c.loop-slot.codes in
     let word = c.arranged_word_at-word.result in
     let held = c.loop-slot.invariant in
-    let at : Place = record { place = 0; last = to_z w32 c.loop-slot.last-bits } in
+    let at : Progress = record { place = 0; last = to_z w32 c.loop-slot.last-bits } in
     let next = c.in-Some.next in
     let old = c.loop-slot.samples in
     let new = c.write_next_word.new.out in
@@ -161,7 +161,7 @@ loop-slot-preserved g c =
     let codes = c.loop-slot.codes in
     let word = c.arranged_word_at-word.result in
     let held = c.loop-slot.invariant in
-    let at : Place = record { place = 0; last = to_z w32 c.loop-slot.last-bits } in
+    let at : Progress = record { place = 0; last = to_z w32 c.loop-slot.last-bits } in
     let next = c.in-Some.next in
     let old = c.loop-slot.samples in
     let new = c.write_next_word.new.out in

@@ -6,7 +6,7 @@ use Rattle.msr_words.specs.Segment.{differences}
 use Rattle.msr_words.proofs.Steim2Runs.{IsWalked}
 use Rattle.msr_words.proofs.Steim2Sizes.{AreTold}
 use Rattle.msr_filling.proofs.GroupsAhead.{AreWritten}
-use Rattle.msr_filling.proofs.words_ahead.walk.Given as goal
+use Rattle.msr_filling.proofs.words_ahead.walk_with_words.Given as goal
 
 abbrev pub invariant-loop-group : goal.invariant-loop-group
 invariant-loop-group l = record {

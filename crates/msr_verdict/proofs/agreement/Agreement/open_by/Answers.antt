@@ -1,7 +1,7 @@
 use Rattle.std.proofs.Common.{◌∙◌, refl, sym}
 use Rattle.std.proofs.lemmas.Bool.{both_ways}
-use Rattle.msr_verdict.proofs.comparing.Comparing.open_by.Goals as goal
-use Rattle.msr_verdict.proofs.comparing.Comparing.open_by.Goals.{then-self-2, else-self-2}
+use Rattle.msr_verdict.proofs.agreement.Agreement.open_by.Goals as goal
+use Rattle.msr_verdict.proofs.agreement.Agreement.open_by.Goals.{then-self-2, else-self-2}
 
 pub returns : goal.returns
 returns c =

@@ -11,7 +11,7 @@ use crate::area::{
 };
 use crate::borrowed::before_first;
 use crate::fours::write_sixteen;
-use crate::sums::{Place, write_next_word};
+use crate::sums::{Progress, write_next_word};
 use msr_base::Order;
 use msr_kinds::Version;
 
@@ -47,7 +47,7 @@ fn check_words<const MIXED: bool, const FOURS: bool>(
         let mut codes = whole_word_at(order, area, 16 * frame) << (2 * slot);
         while slot < 16 {
             let number = 16 * frame + slot;
-            let at = Place { place: 0, last };
+            let at = Progress { place: 0, last };
             if FOURS && codes >> 24 == 0x55 && left > 16 {
                 last = write_sixteen(area, 4 * number, at, &mut samples).last;
                 codes <<= 8;

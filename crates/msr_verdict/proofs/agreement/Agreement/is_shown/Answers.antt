@@ -7,7 +7,7 @@ use Rattle.msr_report.specs.declared.report.SegmentLine.{SegmentLine}
 use Rattle.msr_verdict.specs.Compared.{separators_of}
 use Rattle.msr_verdict.specs.Packed.{form_by}
 use Rattle.msr_verdict.proofs.Lines.{shown_at}
-use Rattle.msr_verdict.proofs.comparing.Comparing.is_shown.Goals as goal
+use Rattle.msr_verdict.proofs.agreement.Agreement.is_shown.Goals as goal
 
 pub returns-clause-shown : goal.returns-clause-shown
 returns-clause-shown c segment runs =

@@ -6,8 +6,8 @@ use Rattle.std.proofs.lemmas.Option.{slice_get-get_or}
 use Rattle.msr_report.specs.declared.report.SegmentLine.{SegmentLine}
 use Rattle.msr_segments.proofs.KeyLemmas.{key_decides}
 use Rattle.msr_verdict.proofs.Lines.{tests_line}
-use Rattle.msr_verdict.proofs.comparing.is_line_of.Goals as goal
-use Rattle.msr_verdict.proofs.comparing.is_line_of.Goals.{then-eq, else-eq}
+use Rattle.msr_verdict.proofs.agreement.is_line_of.Goals as goal
+use Rattle.msr_verdict.proofs.agreement.is_line_of.Goals.{then-eq, else-eq}
 
 same_signed : (a b : ℤ) → FitsSigned w64 a → FitsSigned w64 b → of_z w64 a ≡ of_z w64 b → a ≡ b
 same_signed a b f g e = sym (to_z-of_z f) ∙ ap (λ n. to_z w64 n) e ∙ to_z-of_z g

@@ -3,7 +3,7 @@ use Rattle.std.proofs.Common.{◌-◌, length, sym, subst}
 use Rattle.msr_kinds.specs.Lengths.{bytes_of}
 use Rattle.msr_record.specs.Written.{AreFrames}
 use Rattle.msr_record.proofs.FilledFrames.{can_fill, few_groups, frames_agree, frames_carried, frames_written, whole_area}
-use Rattle.msr_record.proofs.written_area.fill_frames.Goals as goal
+use Rattle.msr_record.proofs.written_area.fill_steim_area.Goals as goal
 
 pub fill_words-requires-clause-frames : goal.fill_words-requires-clause-frames
 fill_words-requires-clause-frames c = whole_area c.args.record_length (length c.args.area.now) c.requires.size

@@ -12,8 +12,8 @@ use Rattle.msr_words.proofs.Windows.{window_on}
 use Rattle.msr_words.proofs.Stretches.{none_narrow}
 use Rattle.msr_words.proofs.Steim2Runs.{IsWalked, group_narrow, walk_begins, walk_more, walked_out}
 use Rattle.msr_words.proofs.Steim2Sizes.{AreTold, none_told, size_few, walk_told, walked_sizes}
-use Rattle.msr_words.proofs.steim2.walk.Goals as goal
-use Rattle.msr_words.proofs.steim2.walk.Goals.{then-size-lt2+else-size-eq0, else-size-lt2}
+use Rattle.msr_words.proofs.steim2.walk_with_sizes.Goals as goal
+use Rattle.msr_words.proofs.steim2.walk_with_sizes.Goals.{then-size-lt2+else-size-eq0, else-size-lt2}
 
 pub loop-word-init : goal.loop-word-init
 loop-word-init c =
@@ -52,7 +52,7 @@ loop-word-preserved c =
           + c.longest_steim2_group-size.result) c.longest_steim2_group-size.new.self (omega
           arith) c.longest_steim2_group-size.ensures.window;
       told = λ room.
-          let is = c.tell.ensures (omega arith) in
+          let is = c.note_size.ensures (omega arith) in
           rw is (walk_told seen c.args.start c.loop-word.at c.loop-word.word c.longest_steim2_group-size.result
           c.loop-word.sizes walked.from (omega arith) c.longest_steim2_group-size.ensures.longest
           some (c.loop-word.invariant.told room));
@@ -67,8 +67,8 @@ loop-word-preserved c =
 pub longest_steim2_group-size-requires-clause-within : goal.longest_steim2_group-size-requires-clause-within
 longest_steim2_group-size-requires-clause-within c = c.loop-word.invariant.walked.within
 
-pub tell-requires-clause-small : goal.tell-requires-clause-small
-tell-requires-clause-small c =
+pub note_size-requires-clause-small : goal.note_size-requires-clause-small
+note_size-requires-clause-small c =
     elim (cases_lt 0 c.longest_steim2_group-size.result) [
       | inl some ↦
           let few = size_few (drop c.loop-word.at

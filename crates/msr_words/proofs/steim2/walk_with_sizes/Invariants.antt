@@ -5,7 +5,7 @@ use Rattle.msr_words.specs.Bounds.{AreNarrow}
 use Rattle.msr_words.specs.Segment.{differences}
 use Rattle.msr_words.proofs.Steim2Runs.{IsWalked}
 use Rattle.msr_words.proofs.Steim2Sizes.{AreTold}
-use Rattle.msr_words.proofs.steim2.walk.Given as goal
+use Rattle.msr_words.proofs.steim2.walk_with_sizes.Given as goal
 
 abbrev pub invariant-loop-word : goal.invariant-loop-word
 invariant-loop-word l = record {

@@ -2,7 +2,7 @@
 use Rattle.std.proofs.Common.{◌≡◌, ◌≤◌, ◌+◌, ◌-◌, ◌*◌, ◌%◌, ◌^◌}
 use Rattle.msr_steim.specs.Area.{whole_word}
 use Rattle.msr_steim.proofs.Checking.{ArePassed}
-use Rattle.msr_steim.proofs.check.check_words.Given as goal
+use Rattle.msr_steim.proofs.carried.check_words.Given as goal
 
 abbrev pub invariant-loop-slot : goal.invariant-loop-slot
 invariant-loop-slot g l = record {
