@@ -197,7 +197,8 @@ Status 0 if all was walked and nothing refused, else 1; 2 if the command line is
 /// Examples of `archive`.
 pub(crate) const ARCHIVE_AFTER: &str = "Examples:
   msrepack archive --resume --no-int24 --length 4096 --check sds packed reports > log.txt
-  msrepack archive --resume --no-int24 --length 4096 --check --below 2020/XX sds packed reports > log.txt";
+  msrepack archive --resume --no-int24 --length 4096 --check --below 2020/XX \\
+    sds packed reports > log.txt";
 
 /// What `verify` does, in a line.
 pub(crate) const VERIFY_ABOUT: &str =
@@ -265,7 +266,8 @@ Status 0 if all was written, 1 after a fault, 2 if the command line is wrong.";
 
 /// An example of `feed`.
 pub(crate) const FEED_AFTER: &str = "Example:
-  slinktool -S XX_TEST:00BHZ.D -o - station:18000 | msrepack feed --no-int24 --length 4096 report.txt > packed.mseed";
+  slinktool -S XX_TEST:00BHZ.D -o - station:18000 |
+    msrepack feed --no-int24 --length 4096 report.txt > packed.mseed";
 
 /// The report of `feed`.
 pub(crate) const FEED_REPORT: &str = "The file to write the report to, at the end";
