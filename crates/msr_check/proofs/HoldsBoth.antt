@@ -1,7 +1,8 @@
 -- Two samples that one run holds, by the starts at and before the first of them.
-use Rattle.std.proofs.Common.{◌≡◌, ◌↔◌, ℕ, ◌+◌, ◌-◌, ◌*◌, ◌<◌, ◌≤◌, ◌⊎◌, Bool, true, false, ◌||◌, IsTrue, IsFalse, ℤ, pos, List, [], ◌∷◌, ◌++◌, length, map, arith, refl, sym, ap, ◌∙◌, subst, inl, inr}
+use Rattle.std.proofs.Common.{◌≡◌, ◌↔◌, ℕ, ◌+◌, ◌-◌, ◌*◌, ◌<◌, ◌≤◌, ◌⊎◌, Bool, true, false, ◌||◌, IsTrue, IsFalse, nat_le, ℤ, pos, List, [], ◌∷◌, ◌++◌, length, map, arith, refl, sym, ap, ◌∙◌, subst, inl, inr}
 use Rattle.std.specs.Prelude.{All, count_by, slice_index_or}
 use Rattle.std.proofs.lemmas.Bool.{cases_lt}
+use Rattle.std.proofs.lemmas.Bool.Decides.{nat_tests}
 use Rattle.msr_kinds.specs.declared.kinds.Kind.{Kind}
 use Rattle.msr_kinds.specs.declared.kinds.Kind.TheVariants.{Int16, Int24, Int32, Steim1, Steim2}
 use Rattle.msr_kinds.specs.Kinds.{IsChosen}
@@ -14,10 +15,20 @@ use Rattle.msr_words.specs.Lemmas.KindLaws.{back_step_in, prefix_in, size_kind}
 use Rattle.msr_words.proofs.Runs.{back_step_run, length-run_points, prefix_run, run_points_cut, run_points_more, run_points_none}
 use Rattle.msr_words.proofs.Stretches.{no_further, none_with_halves, none_with_wide}
 use Rattle.msr_words.proofs.Dominance.{steim2_dominates}
-use Rattle.msr_words.proofs.WordRoom.{rest_of_run, wide_of_steim1, wide_of_steim2}
+use Rattle.msr_words.proofs.WordRoom.{end_law, rest_of_run, wide_of_steim1, wide_of_steim2}
 use Rattle.msr_words.specs.Packing.{NoneHolds}
 use Rattle.msr_check.specs.HoldsBoth.{HaveNoRoom, HoldsBoth, SteimHolds}
 use Rattle.msr_check.specs.Known.{MeetsNarrow}
+
+-- samples fit exactly when they end where the greatest end is, or before
+pub fits_to : (records : Records) (samples : List ℤ) (kind : Kind) (start end most : ℕ)
+    → IsEnd kind records.bytes samples start most → IsChosen records.kinds kind → start ≤ end → end ≤ length samples
+    → IsTrue (nat_le end most) ↔ FitsIn kind records (run_points samples start end)
+fits_to records samples kind start end most is chosen order within =
+    let law = end_law kind records.bytes samples start most is end order in (
+      λ t. let less : end ≤ most = grind (arith, nat_tests, t) in (chosen, (law.1 less).2),
+      λ f. let less = law.0 (order, within, f.1) in grind (arith, nat_tests),
+    )
 
 module _ (samples : List ℤ) (first second : ℕ) (order : first < second) (within : second < length samples) where
   -- a run that is longer than any of its kind

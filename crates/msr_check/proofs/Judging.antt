@@ -1,5 +1,5 @@
 -- How a run more changes what is known of those before it.
-use Rattle.std.proofs.Common.{◌≡◌, ◌↔◌, ℕ, ◌+◌, ◌-◌, ◌<◌, ◌≤◌, ◌⊎◌, Bool, true, false, IsTrue, ℤ, List, [], ◌∷◌, ◌++◌, length, drop, Option, Some, None, arith, refl, sym, ap, ◌∙◌, subst, inl, inr, length-append, length-drop, append_assoc, append-nil}
+use Rattle.std.proofs.Common.{◌≡◌, ◌↔◌, ℕ, ◌+◌, ◌-◌, ◌<◌, ◌≤◌, ◌⊎◌, Bool, true, IsTrue, ℤ, List, [], ◌∷◌, ◌++◌, length, drop, Option, Some, None, arith, refl, sym, ap, ◌∙◌, subst, inl, inr, length-append, length-drop, append_assoc, append-nil}
 use Rattle.std.specs.Prelude.{All, slice_index}
 use Rattle.std.proofs.lemmas.Bool.{both_ways, cases_Bool, cases_lt}
 use Rattle.std.proofs.lemmas.List.{drop-drop, drop-append-le}
@@ -11,7 +11,7 @@ use Rattle.msr_words.specs.Packing.{IsPacking, IsSeparating, Joins, NoneHolds}
 use Rattle.msr_words.proofs.Certificate.{all_split, in_its_run, joins_more}
 use Rattle.msr_words.proofs.LastSamples.{apart_in_window, apart_of_window, apart_stays, apart_was, run_in_window, run_of_window, run_stays, run_was}
 use Rattle.msr_check.proofs.Rising.{separating_all, separating_more}
-use Rattle.msr_check.specs.Judged.{Follows, HasLast, AreShown, Ends, IsFollowed, IsSoundLast, Judged, Judges, StandsAt, TakesRun, becomes_last, last_run, next_run, number_after}
+use Rattle.msr_check.specs.Judged.{AreShown, Ends, Follows, HasLast, HoldsSoFar, IsFollowed, IsSoundLast, Judged, Judges, NoneShows, StandsAt, becomes_last, last_run, next_run, number_after, without}
 use Rattle.msr_check.specs.Next.{IsNext, SeparatingTo}
 use Rattle.msr_check.specs.declared.judge.LastRun.{LastRun}
 
@@ -52,17 +52,11 @@ module _ (records : Records) (samples new : List ℤ) (runs : List Run) (separat
 
   -- where they stand in the segment; two of them stand before the end, or all
   place_held : (last : Option LastRun) → StandsAt records samples runs separators held last
-      → (o : ℕ) × (o ≤ length samples) × (held ≡ drop o samples) × ((o ≡ 0) ⊎ (3 ≤ length held))
+      → (o : ℕ) × (o ≤ length samples) × (held ≡ drop o samples) × ((o ≡ 0) ⊎ (2 ≤ length held))
   place_held None at = (0, omega arith, at.2 ∙ sym at.0, inl refl)
-  place_held (Some last) at = (
-    at.offset,
-    at.within,
-    at.held_is,
-    elim at.two_before [
-      | inl zero_is ↦ inl zero_is
-      | inr two ↦ let some = at.some in inr (omega arith)
-    ],
-  )
+  place_held (Some last) at =
+      let some = at.some in
+      (at.offset, at.within, at.held_is, elim at.two_before [ inl zero_is ↦ inl zero_is | inr two ↦ inr (omega arith) ])
 
   sound_last : (last : Option LastRun) (next : ℕ) → IsFollowed records (held ++ new) last (length held) next
       → IsSoundLast records (held ++ new) last (length held)
@@ -118,13 +112,11 @@ module _ (records : Records) (samples new : List ℤ) (runs : List Run) (separat
 
     -- the run that comes is the last then
     last_more : (kind : Kind) → Follows records (held ++ new) last (length held) (slice_index separators (length runs))
-        → HasLast records (samples ++ new) (runs ++ next_run samples new kind ∷ []) separators
-        (drop (length held - 2) (held ++ new))
+        → HasLast records (samples ++ new) (runs ++ next_run samples new kind ∷ []) separators (held ++ new)
         (becomes_last last (length held) (slice_index separators (length runs)) kind)
     last_more kind follows =
         let place = place_held last at in
         let low = place.1 in
-        let k = length held - 2 in
         let number = number_is last at in
         let long = ap length place.2 ∙ length-drop place.0 samples in
         let both = length-append held new in
@@ -134,25 +126,16 @@ module _ (records : Records) (samples new : List ℤ) (runs : List Run) (separat
         let sound = sound_so_far (sound_last last _ follows.followed) in
         let one = length-append runs (next_run samples new kind ∷ []) in
         let index : length (runs ++ next_run samples new kind ∷ []) - 1 ≡ length runs = omega arith in
-        let s = slice_index separators (length runs) in
         record {
-          offset = place.0 + k;
+          offset = place.0;
           within = omega arith;
-          held_is = ap (λ (xs : List ℤ). drop k xs)
-              (ap (λ (xs : List ℤ). xs ++ new) place.2 ∙ sym (drop-append-le place.0 samples new low))
-              ∙ drop-drop k place.0 (samples ++ new);
-          two_before = elim place.3 [
-            | inl zero_is ↦ elim (cases_lt 2 (length held)) [
-              | inl long ↦ inr (omega arith)
-              | inr short ↦ inl (omega arith)
-            ]
-            | inr three ↦ inr (omega arith)
-          ];
+          held_is = ap (λ (xs : List ℤ). xs ++ new) place.2 ∙ sym (drop-append-le place.0 samples new low);
+          two_before = place.3;
           number = omega arith;
-          some = omega (arith, length-drop k (held ++ new));
+          some = omega arith;
           separator = ap (λ (n : ℕ). slice_index separators n) index ∙ omega arith;
           from = omega arith;
-          past = omega (arith, length-drop k (held ++ new));
+          past = omega arith;
           earlier = runs;
           runs_are = ap (λ (n : ℕ). runs ++ (record { start = n; end = length (samples ++ new); kind = kind }) ∷ [])
               (sym number);
@@ -262,68 +245,97 @@ module _ (records : Records) (samples new : List ℤ) (runs : List Run) (separat
               (below, subst (λ (xs : List ℤ). NoneHolds records xs last.separator place) (sym (more_held last at)) held_apart),
             )
 
--- one run more
-pub judges_more : (records : Records) (samples new : List ℤ) (runs : List Run) (separators : List ℕ) (kind : Kind)
-    (before after : Judged) → Judges records samples runs separators before
-    → TakesRun records before new kind separators after
-    → Judges records (samples ++ new) (runs ++ next_run samples new kind ∷ []) separators after
-judges_more records samples new runs separators kind before after judges takes = elim (cases_Bool before.holds) [
-  | inl was ↦
-      let so_far = judges.holds was in
-      let at = so_far.at in
+-- samples may be forgotten, but for two before the last run
+pub forgets : (records : Records) (samples : List ℤ) (runs : List Run) (separators : List ℕ) (held : List ℤ)
+    (last : LastRun) (count : ℕ) → count ≤ last.start - 2 → HasLast records samples runs separators held last
+    → HasLast records samples runs separators (drop count held) (without last count)
+forgets records samples runs separators held last count few at =
+    let long = ap length at.held_is ∙ length-drop at.offset samples in
+    let inside = at.within in
+    let number = at.number in
+    let some = at.some in
+    let from = at.from in
+    let past = at.past in
+    let rest = length-drop count held in
+    record {
+      offset = at.offset + count;
+      within = omega arith;
+      held_is = ap (λ (xs : List ℤ). drop count xs) at.held_is ∙ drop-drop count at.offset samples;
+      two_before = elim (cases_lt 0 count) [
+        | inl some ↦ inr (omega arith)
+        | inr none ↦ elim at.two_before [ inl zero_is ↦ inl (omega arith) | inr two ↦ inr (omega arith) ]
+      ];
+      number = omega arith;
+      some = omega arith;
+      separator = at.separator ∙ omega arith;
+      from = omega arith;
+      past = omega arith;
+      earlier = at.earlier;
+      runs_are = at.runs_are;
+      none_empty = at.none_empty;
+      each_fits = at.each_fits;
+      joined = at.joined;
+    }
+
+-- one run more, after runs that held
+module _ (records : Records) (samples new : List ℤ) (runs : List Run) (separators : List ℕ) (kind : Kind) (old : Judged)
+    (so_far : HoldsSoFar records samples runs separators old) (all : List ℤ) (end : ℕ) (all_is : all ≡ old.held ++ new)
+    (end_is : end ≡ length old.held) where
+  follows_on : Follows records all old.last end (slice_index separators old.count)
+      → Follows records (old.held ++ new) old.last (length old.held) (slice_index separators (length runs))
+  follows_on follows = rw (all_is, end_is, so_far.count_is) at follows
+
+  pub holds_more : Follows records all old.last end (slice_index separators old.count)
+      → HoldsSoFar records (samples ++ new) (runs ++ next_run samples new kind ∷ []) separators (record {
+        held = all;
+        last = Some (becomes_last old.last end (slice_index separators old.count) kind);
+        count = old.count + 1;
+        holds = true;
+      })
+  holds_more follows =
+      let follows' = follows_on follows in
       let one = length-append runs (next_run samples new kind ∷ []) in
+      let counted = so_far.count_is in
       let more : length (runs ++ next_run samples new kind ∷ []) ≡ length runs + 1 = omega arith in
       record {
-        holds = λ t.
-            let five = takes.followed was t in
-            let follows = subst (λ (n : ℕ). Follows records (before.held ++ new) before.last (length before.held)
-            (slice_index separators n)) so_far.count_is five.1 in
-            let last = five.3 ∙ ap (λ (n : ℕ). Some (becomes_last before.last (length before.held)
-            (slice_index separators n) kind)) so_far.count_is in
-            let count = five.4 in
-            let counted = so_far.count_is in
-            let has = last_more records samples new runs separators before.held before.last at kind follows in
-            let next = is_next records samples new runs separators before.held before.last at follows in
-            record {
-              count_is = omega arith;
-              separating = subst (λ (n : ℕ). SeparatingTo records (samples ++ new) separators n) (sym more)
-                  (separating_more records (samples ++ new) separators (length runs)
-                  (separating_stays records samples new separators (length runs) so_far.separating) next);
-              at = subst (λ (l : Option LastRun). StandsAt records (samples ++ new)
-                  (runs ++ next_run samples new kind ∷ []) separators after.held l) (sym last)
-                  (subst (λ (xs : List ℤ). HasLast records (samples ++ new) (runs ++ next_run samples new kind ∷ []) separators
-                  xs (becomes_last before.last (length before.held) (slice_index separators (length runs)) kind))
-                  (sym five.2) has);
-            };
-        fails = λ f. record {
-          none = λ rest others packing separating same.
-              let assoc = append_assoc runs (next_run samples new kind ∷ []) others in
-              let packing' = subst (λ (rs : List Run). IsPacking records ((samples ++ new) ++ rest) rs) assoc packing in
-              let same' = sym (ap length assoc) ∙ same in
-              let follows = follows_then records samples new runs separators before.held before.last at kind rest others packing'
-              separating same' in
-              let counted = so_far.count_is in
-              let total = length-append runs (next_run samples new kind ∷ others) in
-              takes.fails was f (omega arith) (subst (λ (n : ℕ). Follows records (before.held ++ new) before.last
-              (length before.held) (slice_index separators n)) (sym so_far.count_is) follows);
-        };
+        count_is = omega arith;
+        separating = rw more (separating_more records (samples ++ new) separators (length runs)
+            (separating_stays records samples new separators (length runs) so_far.separating)
+            (is_next records samples new runs separators old.held old.last so_far.at follows'));
+        at = rw (all_is, end_is, so_far.count_is)
+            (last_more records samples new runs separators old.held old.last so_far.at kind follows');
       }
-  | inr was ↦
-      let differs = takes.differs was in
-      record {
-        holds = λ t. absurd (both_ways after.holds differs t);
-        fails = λ _. record {
-          none = λ rest others packing separating same.
-              let assoc = append_assoc runs (next_run samples new kind ∷ []) others in
-              let assoc' = append_assoc samples new rest in
-              (judges.fails was).none (new ++ rest) (next_run samples new kind ∷ others)
-              (subst (λ (rs : List Run). IsPacking records (samples ++ (new ++ rest)) rs) assoc
-              (subst (λ (xs : List ℤ). IsPacking records xs ((runs ++ next_run samples new kind ∷ []) ++ others)) assoc' packing))
-              (subst (λ (xs : List ℤ). IsSeparating records xs separators) assoc' separating)
-              (sym (ap length assoc) ∙ same);
-        };
+
+  -- so it is when samples are forgotten, but for two before that run
+  pub judges_more : (next last : LastRun) (forgotten : ℕ) (left : List ℤ) → forgotten ≡ end - 2 → left ≡ drop forgotten all
+      → last ≡ without next forgotten → old.holds ≡ true
+      → Follows records all old.last end (slice_index separators old.count)
+      × (next ≡ becomes_last old.last end (slice_index separators old.count) kind)
+      → Judges records (samples ++ new) (runs ++ next_run samples new kind ∷ []) separators
+      (record { held = left; last = Some last; count = old.count + 1; holds = old.holds })
+  judges_more next last forgotten left two left_is last_is was follows =
+      let has = holds_more follows.0 in record {
+        holds = λ _. rw (left_is, last_is, follows.1) (record {
+          count_is = has.count_is;
+          separating = has.separating;
+          at = forgets records (samples ++ new) (runs ++ next_run samples new kind ∷ []) separators all
+              (becomes_last old.last end (slice_index separators old.count) kind) forgotten (omega arith) has.at;
+        });
+        fails = λ f. absurd (both_ways old.holds f was);
       }
-]
+
+  pub none_more : (old.count < length separators
+      → Follows records all old.last end (slice_index separators old.count) → ⊥)
+      → NoneShows records (samples ++ new) (runs ++ next_run samples new kind ∷ []) separators
+  none_more none = record {
+    none = λ rest others packing separating same.
+        let assoc = append_assoc runs (next_run samples new kind ∷ []) others in
+        let counted = so_far.count_is in
+        let total = length-append runs (next_run samples new kind ∷ others) in
+        let same' = sym (ap length assoc) ∙ same in
+        none (omega arith) (rw (all_is, end_is, so_far.count_is) (follows_then records samples new runs separators old.held
+        old.last so_far.at kind rest others (rw assoc at packing) separating same'));
+  }
 
 -- no run more
 module _ (records : Records) (samples : List ℤ) (runs : List Run) (separators : List ℕ) (number : ℕ) (judged : Judged)
@@ -394,39 +406,3 @@ judges_end records samples runs separators number judged answer says judges = (
   λ t. ends_shown records samples runs separators number judged judges (says.0 t),
   λ shown. says.1 (shown_ends records samples runs separators number judged judges shown),
 )
-
--- how the judge stands when a run was taken, and when it was not
-module _ (records : Records) (old : Judged) (samples : List ℤ) (kind : Kind) (separators : List ℕ) (held : List ℤ)
-    (end : ℕ) (held_is : held ≡ old.held ++ samples) (end_is : end ≡ length old.held) (was : old.holds ≡ true) where
-  pub takes_some : (next : LastRun) (forgotten : ℕ) (left : List ℤ) → forgotten ≡ end - 2 → left ≡ drop forgotten held
-      → (old.count < length separators)
-      × Follows records held old.last end (slice_index separators old.count)
-      × (next ≡ becomes_last old.last end (slice_index separators old.count) kind)
-      → TakesRun records old samples kind separators
-      (record { held = left; last = Some next; count = old.count + 1; holds = old.holds })
-  takes_some next forgotten left two left_is three = record {
-    differs = λ f. f;
-    followed = λ t u. (
-      three.0,
-      subst (λ (n : ℕ). Follows records (old.held ++ samples) old.last n (slice_index separators old.count)) end_is
-          (subst (λ (xs : List ℤ). Follows records xs old.last end (slice_index separators old.count)) held_is three.1),
-      left_is ∙ ap (λ (n : ℕ). drop n held) (two ∙ ap (λ (n : ℕ). n - 2) end_is)
-          ∙ ap (λ (xs : List ℤ). drop (length old.held - 2) xs) held_is,
-      ap (λ (l : LastRun). Some l) (three.2 ∙ ap (λ (n : ℕ). becomes_last old.last n (slice_index separators old.count) kind) end_is),
-      refl,
-    );
-    fails = λ t f. absurd (both_ways old.holds f t);
-  }
-
-  pub takes_none : (left : List ℤ) → (old.count < length separators
-      → Follows records held old.last end (slice_index separators old.count) → ⊥)
-      → TakesRun records old samples kind separators
-      (record { held = left; last = old.last; count = old.count; holds = false })
-  takes_none left none = record {
-    differs = λ f. refl;
-    followed = λ t u. absurd cc;
-    fails = λ t f some follows. none some (subst (λ (xs : List ℤ). Follows records xs old.last end
-        (slice_index separators old.count)) (sym held_is)
-        (subst (λ (n : ℕ). Follows records (old.held ++ samples) old.last n (slice_index separators old.count)) (sym end_is)
-        follows));
-  }

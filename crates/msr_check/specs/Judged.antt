@@ -105,23 +105,20 @@ pub record AreShown (records : Records) (samples : List ℤ) (runs : List Run) (
   pub as_many : length runs ≡ length separators
   pub number_is : length samples ≡ number
 
--- the run that starts at `end` as the last, when the samples before the second before it are forgotten
+-- the run that starts at `end` as the last
 abbrev pub becomes_last : Option LastRun → ℕ → ℕ → Kind → LastRun
 becomes_last last end separator kind = record {
   kind = kind;
-  start = end - (end - 2);
-  separator = end + (separator - number_after last end) - (end - 2);
+  start = end;
+  separator = end + (separator - number_after last end);
   number = number_after last end;
 }
 
--- What taking a run does, if its separator follows on the run before it, or if it does not.
-pub record TakesRun (records : Records) (old : Judged) (samples : List ℤ) (kind : Kind) (separators : List ℕ)
-    (new : Judged) : Type 0 where
-  pub differs : old.holds ≡ false → new.holds ≡ false
-  pub followed : old.holds ≡ true → new.holds ≡ true → (old.count < length separators)
-      × Follows records (old.held ++ samples) old.last (length old.held) (slice_index separators old.count)
-      × (new.held ≡ drop (length old.held - 2) (old.held ++ samples))
-      × (new.last ≡ Some (becomes_last old.last (length old.held) (slice_index separators old.count) kind))
-      × (new.count ≡ old.count + 1)
-  pub fails : old.holds ≡ true → new.holds ≡ false → old.count < length separators
-      → Follows records (old.held ++ samples) old.last (length old.held) (slice_index separators old.count) → ⊥
+-- the same if the first `count` samples are held no more
+abbrev pub without : LastRun → ℕ → LastRun
+without last count = record {
+  kind = last.kind;
+  start = last.start - count;
+  separator = last.separator - count;
+  number = last.number;
+}

@@ -4,7 +4,7 @@ ghost use Rattle.std.specs.Prelude.{◌≡◌, ◌↔◌, ◌-◌, ◌+◌, ◌<
 ghost use Rattle.msr_words.specs.Fit.{Records, records_of};
 ghost use Rattle.msr_words.specs.Packing.{IsLeast};
 ghost use Rattle.msr_words.specs.declared.kinds.Run.{Run as WordRun};
-ghost use Rattle.msr_check.specs.Judged.{AreShown, Ends, Follows, IsFollowed, IsSoundLast, Judges, becomes_last, next_run, number_after};
+ghost use Rattle.msr_check.specs.Judged.{AreShown, Ends, Follows, IsFollowed, IsSoundLast, Judges, becomes_last, next_run, number_after, without};
 
 use crate::reach::reach_of;
 use crate::{is_run, none_between};
@@ -14,13 +14,25 @@ use std::alloc::{AllocError, Global};
 use std::marker::Model;
 
 /// The run that came last, with its separator. Places are counted from the first sample that is held.
-#[derive(Clone, Copy, Debug)]
+#[derive(Clone, Copy)]
 pub(crate) struct LastRun {
     pub kind: Kind,
     pub start: usize,
     pub separator: usize,
     /// How many samples of the segment stand before the run.
     pub number: u64,
+}
+
+/// The same if the first `count` samples are held no more.
+fn without(last: LastRun, count: usize) -> LastRun
+    ensures { result ≡ without last count }
+{
+    LastRun {
+        kind: last.kind,
+        start: last.start.saturating_sub(count),
+        separator: last.separator.saturating_sub(count),
+        number: last.number,
+    }
 }
 
 /// How many samples there are, of which that many are held: `None` if no separator is as large.
@@ -52,9 +64,8 @@ fn is_followed(held: &[i32], form: Form, last: Option<LastRun>, end: usize, next
         && none_between(held, form, last.separator as u64, next as u64, known)
 }
 
-/// The run that starts at `end` as the last one, if its separator follows on the one before: as it is when the samples
-/// before the second before it are forgotten.
-fn followed_by(
+/// One step of judging: the run that starts at `end` as the last one, if its separator follows on the one before.
+pub(crate) fn followed_by(
     held: &[i32],
     form: Form,
     last: Option<LastRun>,
@@ -75,17 +86,16 @@ fn followed_by(
     if !is_followed(held, form, last, end, next) {
         return None;
     }
-    let forgotten = end.saturating_sub(2);
     Some(LastRun {
         kind,
-        start: end - forgotten,
-        separator: next - forgotten,
+        start: end,
+        separator: next,
         number,
     })
 }
 
 /// Whether the last run is sound, if no sample follows.
-fn ends_sound(held: &[i32], form: Form, last: Option<LastRun>) -> bool
+pub(crate) fn ends_sound(held: &[i32], form: Form, last: Option<LastRun>) -> bool
     ensures { IsTrue result ↔ IsSoundLast (records_of form) held.now last (length held.now) }
 {
     let Some(last) = last else {
@@ -207,8 +217,9 @@ impl Judge {
         self.held.extend_from_slice(samples)?;
         match self.next(end, kind, form, separators) {
             Some(next) => {
-                remove_front(&mut self.held, end.saturating_sub(2));
-                self.last = Some(next);
+                let forgotten = end.saturating_sub(2);
+                remove_front(&mut self.held, forgotten);
+                self.last = Some(without(next, forgotten));
                 self.count += 1;
             }
             None => {

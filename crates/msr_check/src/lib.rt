@@ -18,7 +18,8 @@ ghost use Rattle.msr_check.specs.Known.{IsKnown};
 ghost use Rattle.msr_check.specs.Next.{IsNext};
 ghost use Rattle.msr_words.specs.Packing.{NoneHolds, IsPacking, IsSeparating, IsLeast};
 
-use crate::reach::{Reach, is_of_steim2, known_end, meets_narrow, reach_of};
+use crate::judge::{ends_sound, followed_by};
+use crate::reach::{Reach, is_of_steim2, known_end, meets_narrow};
 pub use judge::Judge;
 use msr_kinds::{Form, Kind, Length};
 use msr_words::{
@@ -211,16 +212,15 @@ fn none_between(samples: &[i32], form: Form, first: u64, second: u64, known: Opt
 
 /// Whether the separator at that place is a sample of the segment, after the one before it, and no run that fits holds
 /// both.
-fn is_next(samples: &[i32], form: Form, separators: &[u64], i: usize, known: Option<Reach>) -> bool
-    requires within { i < length separators.now }
-    requires known { IsKnown (bytes_of form.length) samples.now known }
+fn is_next(samples: &[i32], form: Form, separators: &[u64], i: usize) -> bool
+    requires { i < length separators.now }
     ensures { IsTrue result ↔ IsNext (records_of form) samples.now separators.now i }
 {
     let separator = separators[i];
     if separator >= samples.len() as u64 {
         return false;
     }
-    i == 0 || none_between(samples, form, separators[i - 1], separator, known)
+    i == 0 || none_between(samples, form, separators[i - 1], separator, None)
 }
 
 /// Whether the list is of sample numbers of the segment, strictly rising, and no run that fits a record of that length,
@@ -236,25 +236,11 @@ pub fn separates_in(samples: &[i32], form: Form, separators: &[u64]) -> bool
     ensures { IsTrue result ↔ IsSeparating (records_of form) samples.now separators.now }
 {
     for i in 0..separators.len() {
-        if !is_next(samples, form, separators, i, None) {
+        if !is_next(samples, form, separators, i) {
             return false;
         }
     }
     true
-}
-
-/// Whether the samples `start` to `end - 1` fit one record of Steim-2, which the form has: by how far it reaches, if that
-/// is known.
-fn steim2_fits(samples: &[i32], start: usize, end: usize, form: Form, known: Option<Reach>) -> bool
-    requires order { start ≤ end }
-    requires within { end ≤ length samples.now }
-    requires known { IsKnown (bytes_of form.length) samples.now known }
-    ensures { IsTrue result ↔ FitsIn Steim2 (records_of form) (run_points samples.now start end) }
-{
-    match known_end(samples, form.length, Kind::Steim2, start, known) {
-        Some(farthest) => form.kinds.contains(Kind::Steim2) && end <= farthest,
-        None => run_fits(Kind::Steim2, samples, start, end, form),
-    }
 }
 
 /// Whether the samples `start` to `end - 1` fit one record of that kind, which the form has; Steim-1 word by word.
@@ -271,12 +257,14 @@ fn fits(
     requires known { IsKnown (bytes_of form.length) samples.now known }
     ensures { IsTrue result ↔ FitsIn kind (records_of form) (run_points samples.now start end) }
 {
+    if let Some(farthest) = known_end(samples, form.length, kind, start, known) {
+        return form.kinds.contains(kind) && end <= farthest;
+    }
     match kind {
         Kind::Steim1 => {
-            form.kinds.contains(kind) && end <= steim1_end(samples, form.length, start, known)
+            form.kinds.contains(kind) && end <= steim1_reach(samples, form.length, start)
         }
-        Kind::Steim2 => steim2_fits(samples, start, end, form, known),
-        Kind::Int16 | Kind::Int24 | Kind::Int32 => run_fits(kind, samples, start, end, form),
+        _ => run_fits(kind, samples, start, end, form),
     }
 }
 
@@ -298,26 +286,26 @@ fn is_run(samples: &[i32], form: Form, run: &Run, known: Option<Reach>) -> bool
         )
 }
 
-/// Whether the runs are a packing and the list is separating, one run and one separator after another: where a run of
-/// Steim-1 or Steim-2 starts at a separator, one walk tells of both how far it reaches.
+/// Whether the runs are a packing and the list is separating, by the steps of a judge over the samples where they stand.
 fn is_shown(samples: &[i32], form: Form, runs: &[Run], separators: &[u64]) -> bool
     requires { length runs.now ≡ length separators.now }
     ensures { IsTrue result ↔ IsPacking (records_of form) samples.now runs.now × IsSeparating (records_of form) samples.now separators.now }
 {
-    let mut at: u64 = 0;
-    let mut known = None;
+    let mut at: usize = 0;
+    let mut last = None;
     for i in 0..runs.len() {
-        if !is_next(samples, form, separators, i, known) {
-            return false;
-        }
         let run = &runs[i];
-        known = reach_of(samples, form.length, run);
-        if run.start != at || !is_run(samples, form, run, known) {
+        if run.start != at as u64 || run.end <= run.start || run.end > samples.len() as u64 {
             return false;
         }
-        at = run.end;
+        let held = &samples[..run.end as usize];
+        let Some(next) = followed_by(held, form, last, at, run.kind, separators[i]) else {
+            return false;
+        };
+        last = Some(next);
+        at = run.end as usize;
     }
-    at == samples.len() as u64
+    at == samples.len() && ends_sound(samples, form, last)
 }
 
 /// Whether the runs are a packing into records of that length, of any kinds, the list is separating, and both have the

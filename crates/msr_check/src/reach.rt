@@ -10,7 +10,7 @@ use msr_kinds::{Kind, Length};
 use msr_words::{Run, steim1_reach, steim2_reach};
 
 /// How far a kind reaches from a sample on.
-#[derive(Clone, Copy, Debug)]
+#[derive(Clone, Copy)]
 pub(crate) struct Reach {
     pub kind: Kind,
     pub start: usize,
@@ -18,7 +18,7 @@ pub(crate) struct Reach {
 }
 
 /// Where the longest run from a sample on ends.
-#[derive(Clone, Copy, Debug)]
+#[derive(Clone, Copy)]
 pub(crate) struct Farthest {
     pub end: usize,
     /// Whether it is of Steim-2, and known to meet narrow differences alone, up to the first that it does not reach.
