@@ -1,5 +1,5 @@
--- Two bytes, as the two hexadecimal digits of a byte are.
-use Rattle.std.proofs.Common.{◌≡◌, refl, arith, ℕ, ◌<◌, List, [], ◌∷◌, ◌++◌, append_assoc}
+-- Two, three and five bytes of a name.
+use Rattle.std.proofs.Common.{◌≡◌, ◌∙◌, ap, refl, arith, ℕ, ◌<◌, List, [], ◌∷◌, ◌++◌, append_assoc, get_or, length}
 use Rattle.msr_report.specs.Text.{byte_text, field_text}
 use Rattle.msr_report_reader.specs.Fields.{AreBytes}
 
@@ -86,3 +86,26 @@ pub five_text : (bytes more : List ℕ) (t : Five bytes)
     → field_text bytes ++ more ≡ byte_text t.a ++
     (byte_text t.b ++ (byte_text t.c ++ (byte_text t.d ++ (byte_text t.e ++ more))))
 five_text bytes more t = rw t.is (simp append_assoc)
+
+-- the texts of bytes that were read one part after the other
+pub three_found : (text more rest front : List ℕ) (c : ℕ) → length front ≡ 2 → text ≡ field_text front ++ more
+    → more ≡ byte_text c ++ rest → text ≡ field_text (get_or front 0 0 ∷ get_or front 1 0 ∷ c ∷ []) ++ rest
+three_found text more rest [] c long first last = absurd (omega (arith, long))
+three_found text more rest (a ∷ []) c long first last = absurd (omega (arith, long))
+three_found text more rest (a ∷ b ∷ []) c long first last =
+    first ∙ ap (λ (l : List ℕ). field_text (a ∷ b ∷ []) ++ l) last ∙ simp append_assoc
+three_found text more rest (a ∷ b ∷ d ∷ others) c long first last = absurd (omega (arith, long))
+
+pub five_found : (text more rest front back : List ℕ) → length front ≡ 3 → length back ≡ 2
+    → text ≡ field_text front ++ more → more ≡ field_text back ++ rest
+    → text ≡ field_text (get_or front 0 0 ∷ get_or front 1 0 ∷ get_or front 2 0
+    ∷ get_or back 0 0 ∷ get_or back 1 0 ∷ []) ++ rest
+five_found text more rest [] back long short first last = absurd (omega (arith, long))
+five_found text more rest (a ∷ []) back long short first last = absurd (omega (arith, long))
+five_found text more rest (a ∷ b ∷ []) back long short first last = absurd (omega (arith, long))
+five_found text more rest (a ∷ b ∷ c ∷ []) [] long short first last = absurd (omega (arith, short))
+five_found text more rest (a ∷ b ∷ c ∷ []) (d ∷ []) long short first last = absurd (omega (arith, short))
+five_found text more rest (a ∷ b ∷ c ∷ []) (d ∷ e ∷ []) long short first last =
+    first ∙ ap (λ (l : List ℕ). field_text (a ∷ b ∷ c ∷ []) ++ l) last ∙ simp append_assoc
+five_found text more rest (a ∷ b ∷ c ∷ []) (d ∷ e ∷ f ∷ others) long short first last = absurd (omega (arith, short))
+five_found text more rest (a ∷ b ∷ c ∷ d ∷ others) back long short first last = absurd (omega (arith, long))

@@ -1,4 +1,5 @@
 pub mod Digits
+mod HexDigits
 pub mod Padded
 pub mod Bytes
 pub mod Instants

@@ -6,7 +6,7 @@ use Rattle.std.proofs.lemmas.Str.Parse.{digits_value_short, digit_at}
 use Rattle.std.proofs.lemmas.Fmt.{decimal-digits_value, digits_value-decimal, length-decimal-le}
 use Rattle.std.proofs.lemmas.Bool.Decides.{nat_tests}
 use Rattle.std.proofs.lemmas.Grind.{common_steps}
-use Rattle.std.proofs.lemmas.List.{take_more, length-replicate}
+use Rattle.std.proofs.lemmas.List.{take_all, take_more, length-replicate}
 use Rattle.std.proofs.Math.Nat.{pow-le-pow_right}
 use Rattle.std.proofs.Math.Seq.{take-append_seam, drop-append_seam}
 use Rattle.msr_report.specs.Text.{padded_decimal}
@@ -46,6 +46,14 @@ pub all_are_digits : (digits : List ℕ) (i : ℕ) → all_ascii_digits digits �
     → is_ascii_digit (get_or digits i 0) ≡ true
 all_are_digits digits i all within =
     let range = digit_at digits i (own.to digits all) within in grind (arith, nat_tests)
+
+pub reads_all : (digits : List ℕ) (i value : ℕ) → ReadsDigits digits i value → length digits ≤ i
+    → (all_ascii_digits digits ≡ true) × (value ≡ number_after 0 digits)
+reads_all digits i value so_far all =
+    let whole = take_all i digits all in (rw whole at so_far.all, rw whole at so_far.is)
+
+pub digit_range : (d : ℕ) → is_ascii_digit d ≡ true → (48 ≤ d) × (d < 58)
+digit_range d digit = grind (arith, nat_tests)
 
 is_48 : (d : ℕ) → (d == 48) ≡ true → d ≡ 48
 is_48 d h = grind (arith, nat_tests)

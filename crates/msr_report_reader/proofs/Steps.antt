@@ -20,8 +20,8 @@ use Rattle.msr_report_reader.specs.declared.fault.ReportFault.{ReportFault}
 use Rattle.msr_report_reader.specs.declared.fault.ReportFault.TheVariants.{Line, Read, Memory}
 use Rattle.msr_report_reader.specs.declared.first.FirstLines.{FirstLines}
 use Rattle.msr_report_reader.specs.declared.lines.FirstLine.{FirstLine}
-use Rattle.msr_report_reader.specs.declared.draft.Place.{Place}
-use Rattle.msr_report_reader.specs.declared.draft.Place.TheVariants.{Start, Segment, Separators, Number, End}
+use Rattle.msr_report_reader.specs.declared.draft.Expected.{Expected}
+use Rattle.msr_report_reader.specs.declared.draft.Expected.TheVariants.{Start, Segment, Separators, Number, End}
 use Rattle.msr_report_reader.specs.declared.draft.Draft.{Draft}
 use Rattle.msr_report_reader.specs.declared.draft.Progress.{Progress}
 use Rattle.msr_report_reader.specs.declared.draft.Progress.TheVariants.{Consumed, Cut, Whole}
@@ -64,39 +64,39 @@ none_is_one (byte ∷ text) none =
     let both = none_by (byte == 10) (list_any (λ (b : ℕ). b == 10) text) none in
     (both.0, none_is_one text both.1)
 
--- what a draft follows at its place
-pub follows_at : (draft : Draft) (place : Place) (past : List ℕ) → draft.place ≡ place
-    → ReadTo place draft.segments.items draft.numbers.items past → Follows draft past
-follows_at draft place past is to = record {
-  to = subst (λ (p : Place). ReadTo p draft.segments.items draft.numbers.items past) (sym is) to;
+-- what a draft follows, by what it expects
+pub follows_at : (draft : Draft) (expected : Expected) (past : List ℕ) → draft.expected ≡ expected
+    → ReadTo expected draft.segments.items draft.numbers.items past → Follows draft past
+follows_at draft expected past is to = record {
+  to = subst (λ (p : Expected). ReadTo p draft.segments.items draft.numbers.items past) (sym is) to;
 }
 
-pub read_to : (draft : Draft) (place : Place) (past : List ℕ) → draft.place ≡ place → Follows draft past
-    → ReadTo place draft.segments.items draft.numbers.items past
-read_to draft place past is follows =
-    subst (λ (p : Place). ReadTo p draft.segments.items draft.numbers.items past) is follows.to
+pub read_to : (draft : Draft) (expected : Expected) (past : List ℕ) → draft.expected ≡ expected → Follows draft past
+    → ReadTo expected draft.segments.items draft.numbers.items past
+read_to draft expected past is follows =
+    subst (λ (p : Expected). ReadTo p draft.segments.items draft.numbers.items past) is follows.to
 
-pub first_fault : (draft : Draft) (past text : List ℕ) (line : ℕ) → draft.place ≡ Start → Follows draft past
+pub first_fault : (draft : Draft) (past text : List ℕ) (line : ℕ) → draft.expected ≡ Start → Follows draft past
     → IsFaultLine text line → IsFaultLine (past ++ text) line
-first_fault draft past text line place follows fault =
-    let to : ReadTo Start draft.segments.items draft.numbers.items past = read_to draft Start past place follows in
+first_fault draft past text line expected follows fault =
+    let to : ReadTo Start draft.segments.items draft.numbers.items past = read_to draft Start past expected follows in
     subst (λ (p : List ℕ). IsFaultLine (p ++ text) line) (sym to.0) fault
 
 -- the lists of a draft that did not change
-same_lists : (old new : Draft) (place : Place) (past : List ℕ) → new.segments.items ≡ old.segments.items
-    → new.numbers.items ≡ old.numbers.items → ReadTo place old.segments.items old.numbers.items past
-    → ReadTo place new.segments.items new.numbers.items past
-same_lists old new place past segments numbers to =
-    subst (λ (ns : List ℕ). ReadTo place new.segments.items ns past) (sym numbers)
-    (subst (λ (ss : List SegmentLine). ReadTo place ss old.numbers.items past) (sym segments) to)
+same_lists : (old new : Draft) (expected : Expected) (past : List ℕ) → new.segments.items ≡ old.segments.items
+    → new.numbers.items ≡ old.numbers.items → ReadTo expected old.segments.items old.numbers.items past
+    → ReadTo expected new.segments.items new.numbers.items past
+same_lists old new expected past segments numbers to =
+    subst (λ (ns : List ℕ). ReadTo expected new.segments.items ns past) (sym numbers)
+    (subst (λ (ss : List SegmentLine). ReadTo expected ss old.numbers.items past) (sym segments) to)
 
-pub first_step : (old new : Draft) (first : FirstLines) (text rest : List ℕ) (n : ℕ) → old.place ≡ Start
-    → new.place ≡ Segment first → new.segments.items ≡ old.segments.items
+pub first_step : (old new : Draft) (first : FirstLines) (text rest : List ℕ) (n : ℕ) → old.expected ≡ Start
+    → new.expected ≡ Segment first → new.segments.items ≡ old.segments.items
     → new.numbers.items ≡ old.numbers.items → IsFirst (bytes_of first.length) first.tolerance first.counts
     → text ≡ first_then (bytes_of first.length) first.tolerance first.kinds first.counts rest
     → n ≡ length text - length rest
     → IsConsumed old new text n
-first_step old new first text rest n place new_place segments numbers is_first is count =
+first_step old new first text rest n expected new_expected segments numbers is_first is count =
     let taken : List ℕ = first_then (bytes_of first.length) first.tolerance first.kinds first.counts [] in
     let split : text ≡ taken ++ rest = is
     ∙ sym (first_append (bytes_of first.length) first.tolerance first.kinds first.counts [] rest) in
@@ -109,7 +109,7 @@ first_step old new first text rest n place new_place segments numbers is_first i
       count = size;
       some = omega (arith, long, size);
       follows = λ past follows.
-          let to : ReadTo Start old.segments.items old.numbers.items past = read_to old Start past place follows in
+          let to : ReadTo Start old.segments.items old.numbers.items past = read_to old Start past expected follows in
           let read : ReadSegments first [] (past ++ taken) = record {
             is_first = is_first;
             each = λ k d within. absurd (omega arith);
@@ -119,16 +119,16 @@ first_step old new first text rest n place new_place segments numbers is_first i
           } in
           let read_old : ReadSegments first old.segments.items (past ++ taken) =
           subst (λ (ss : List SegmentLine). ReadSegments first ss (past ++ taken)) (sym to.1.0) read in
-          follows_at new (Segment first) (past ++ taken) new_place
+          follows_at new (Segment first) (past ++ taken) new_expected
           (same_lists old new (Segment first) (past ++ taken) segments numbers (read_old, to.1.1));
     }
 
 pub opening_step : (old new : Draft) (first : FirstLines) (line : FirstLine) (text rest : List ℕ) (n : ℕ)
-    → old.place ≡ Segment first → new.place ≡ Separators first line → new.segments.items ≡ old.segments.items
+    → old.expected ≡ Segment first → new.expected ≡ Separators first line → new.segments.items ≡ old.segments.items
     → new.numbers.items ≡ old.numbers.items → IsKey line.key → IsInstant line.start → line.samples < 2 ^ 64
     → line.records < 2 ^ 64 → IsOpening line.key line.start line.samples line.records rest text
     → n ≡ length text - length rest → IsConsumed old new text n
-opening_step old new first line text rest n place new_place segments numbers is_key start samples records opens
+opening_step old new first line text rest n expected new_expected segments numbers is_key start samples records opens
     count =
     let body : List ℕ = opening_body line.key opens.word line.samples line.records in
     let taken : List ℕ = body ++ (10 ∷ []) in
@@ -145,7 +145,7 @@ opening_step old new first line text rest n place new_place segments numbers is_
       some = omega (arith, size, length-append body (10 ∷ []));
       follows = λ past follows.
           let to : ReadTo (Segment first) old.segments.items old.numbers.items past =
-          read_to old (Segment first) past place follows in
+          read_to old (Segment first) past expected follows in
           let read : ReadOpening first old.segments.items line (past ++ taken) = record {
             before = past;
             read = to.0;
@@ -161,14 +161,14 @@ opening_step old new first line text rest n place new_place segments numbers is_
             };
             is = refl;
           } in
-          follows_at new (Separators first line) (past ++ taken) new_place
+          follows_at new (Separators first line) (past ++ taken) new_expected
           (same_lists old new (Separators first line) (past ++ taken) segments numbers (read, to.1));
     }
 
-pub end_step : (old new : Draft) (first : FirstLines) (text rest : List ℕ) (n : ℕ) → old.place ≡ Segment first
-    → new.place ≡ End first → new.segments.items ≡ old.segments.items → new.numbers.items ≡ old.numbers.items
+pub end_step : (old new : Draft) (first : FirstLines) (text rest : List ℕ) (n : ℕ) → old.expected ≡ Segment first
+    → new.expected ≡ End first → new.segments.items ≡ old.segments.items → new.numbers.items ≡ old.numbers.items
     → IsLast old.segments.items text rest → n ≡ length text - length rest → IsConsumed old new text n
-end_step old new first text rest n place new_place segments numbers last count =
+end_step old new first text rest n expected new_expected segments numbers last count =
     let taken : List ℕ = end_line (length old.segments.items) (records_of old.segments.items) in
     let long : 4 ≤ length taken = simp length-append (omega arith) in
     let size : n ≡ length taken =
@@ -181,24 +181,24 @@ end_step old new first text rest n place new_place segments numbers last count =
       some = omega (arith, size, long);
       follows = λ past follows.
           let to : ReadTo (Segment first) old.segments.items old.numbers.items past =
-          read_to old (Segment first) past place follows in
+          read_to old (Segment first) past expected follows in
           let read : ReadEnd first old.segments.items (past ++ taken) = record {
             before = past;
             read = to.0;
             fits = last.fits;
             is = refl;
           } in
-          follows_at new (End first) (past ++ taken) new_place
+          follows_at new (End first) (past ++ taken) new_expected
           (same_lists old new (End first) (past ++ taken) segments numbers read);
     }
 
 pub word_step : (old new : Draft) (first : FirstLines) (line : FirstLine) (last : Bool) (text rest : List ℕ) (n : ℕ)
-    → old.place ≡ Separators first line
+    → old.expected ≡ Separators first line
     → ((past : List ℕ) → ReadOpening first old.segments.items line past → All (λ n. n < 2 ^ 64) old.numbers.items
     → Follows new (past ++ numbers_then old.numbers.items last))
     → text ≡ codes "separators" ++ (stop_byte last ∷ rest) → n ≡ length text - length rest
     → IsConsumed old new text n
-word_step old new first line last text rest n place goes is count =
+word_step old new first line last text rest n expected goes is count =
     let taken : List ℕ = numbers_then [] last in
     let split : text ≡ taken ++ rest = is in
     let size : n ≡ length taken =
@@ -211,19 +211,19 @@ word_step old new first line last text rest n place goes is count =
       some = omega (arith, size);
       follows = λ past follows.
           let to : ReadTo (Separators first line) old.segments.items old.numbers.items past =
-          read_to old (Separators first line) past place follows in
+          read_to old (Separators first line) past expected follows in
           let none : All (λ n. n < 2 ^ 64) [] = λ k d within. absurd (omega arith) in
           subst (λ (ns : List ℕ). Follows new (past ++ numbers_then ns last)) to.1
           (goes past to.0 (subst (λ (ns : List ℕ). All (λ n. n < 2 ^ 64) ns) (sym to.1) none));
     }
 
 pub number_step : (old mid new : Draft) (first : FirstLines) (line : FirstLine) (number : ℕ) (last : Bool)
-    (text rest : List ℕ) (n : ℕ) → old.place ≡ Number first line → mid.segments.items ≡ old.segments.items
+    (text rest : List ℕ) (n : ℕ) → old.expected ≡ Number first line → mid.segments.items ≡ old.segments.items
     → mid.numbers.items ≡ old.numbers.items ++ number ∷ [] → number < 2 ^ 64
     → ((past : List ℕ) → ReadOpening first mid.segments.items line past → All (λ n. n < 2 ^ 64) mid.numbers.items
     → Follows new (past ++ numbers_then mid.numbers.items last))
     → text ≡ decimal number ++ (stop_byte last ∷ rest) → n ≡ length text - length rest → IsConsumed old new text n
-number_step old mid new first line number last text rest n place segments pushed small goes is count =
+number_step old mid new first line number last text rest n expected segments pushed small goes is count =
     let taken : List ℕ = decimal number ++ (stop_byte last ∷ []) in
     let split : text ≡ taken ++ rest = is ∙ sym (append_assoc (decimal number) (stop_byte last ∷ []) rest) in
     let size : n ≡ length taken =
@@ -236,7 +236,7 @@ number_step old mid new first line number last text rest n place segments pushed
       some = omega (arith, size, length-append (decimal number) (stop_byte last ∷ []));
       follows = λ past follows.
           let to : ReadTo (Number first line) old.segments.items old.numbers.items past =
-          read_to old (Number first line) past place follows in
+          read_to old (Number first line) past expected follows in
           let read : ReadOpening first mid.segments.items line to.before =
           subst (λ (ss : List SegmentLine). ReadOpening first ss line to.before) (sym segments) to.read in
           let fits : All (λ n. n < 2 ^ 64) mid.numbers.items =

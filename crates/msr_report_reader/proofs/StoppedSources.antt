@@ -1,12 +1,13 @@
 -- What was read of a source, and what is answered when it was not read to its end.
-use Rattle.std.proofs.Common.{◌≡◌, ◌∙◌, ◌⊎◌, inl, inr, ap, sym, refl, subst, List, ℕ, true, false, [], ◌++◌, ◌↔◌, append_assoc, drop, Ok, Err, IsErrOf}
-use Rattle.msr_devices.specs.Device.{Device, Gives, HasFailed, HasLeft, IsCalm, IsSteady}
+use Rattle.std.proofs.Common.{◌≡◌, ◌∙◌, ◌⊎◌, inl, inr, ap, sym, refl, subst, arith, List, ℕ, ◌<◌, ◌≤◌, ◌+◌, ◌-◌, ◌*◌, ◌^◌, true, false, [], ◌++◌, ◌↔◌, append_assoc, append-nil, drop, length, length-append, length-drop, if◌then◌else◌, Result, Ok, Err, IfOk, IfErr, IsErrOf}
+use Rattle.msr_devices.specs.Device.{CountsFew, Device, Gives, HasFailed, HasLeft, IsCalm, IsSteady}
 use Rattle.msr_devices.specs.ReadBuffer.{Window, IsFilled, StopsFilling}
 use Rattle.msr_devices.specs.declared.fault.DeviceFault.{DeviceFault}
 use Rattle.msr_devices.specs.declared.fault.DeviceFault.TheVariants as fill
-use Rattle.msr_devices.proofs.Chaining.{calm_calm, calm_failed, gives_append, left_of, steady_sound, steady_steady}
+use Rattle.msr_devices.proofs.Chaining.{calm_calm, calm_failed, calm_same, gives_append, left_of, steady_sound, steady_steady, steady_then_few}
+use Rattle.msr_report.specs.declared.report.Report.{Report}
 use Rattle.msr_report_reader.specs.Draft.{Follows, IsStep, IsConsumed}
-use Rattle.msr_report_reader.specs.Reading.{ReadsReport, fault_of_fill}
+use Rattle.msr_report_reader.specs.Reading.{IsReadFrom, ReadsReport, fault_of_fill}
 use Rattle.msr_report_reader.specs.TextFault.{IsTextFault}
 use Rattle.msr_report_reader.specs.declared.draft.Draft.{Draft}
 use Rattle.msr_report_reader.specs.declared.draft.Progress.{Progress}
@@ -105,3 +106,84 @@ reading_fault start now draft buffer bytes why reading is fault =
     (λ more. subst (λ (t : List ℕ). IsTextFault t why)
     (ap (λ (l : List ℕ). reading.read ++ (l ++ more)) is ∙ sym (append_assoc reading.read buffer.bytes more))
     (fault reading.read more reading.follows))
+
+-- before the first byte
+pub reading_none : (start : Device) (draft : Draft) (buffer : Window) → Follows draft []
+    → buffer ≡ record { bytes = []; ended = false; room = 0 } → IsReading start start draft buffer
+reading_none start draft buffer follows is = record {
+  read = [];
+  follows = follows;
+  came = rw is (record { front = λ rest left. left });
+  end = λ ended. absurd cc;
+  calm = λ shut. calm_same start;
+  steady = (calm_same start).steady;
+}
+
+-- How much is left to read: each turn ends the source, takes some of the bytes that stand there, or brings bytes, of
+-- which few enough come to be counted.
+abbrev pub left_with : Device → Window → ℕ
+left_with source buffer = if buffer.ended then 0 else 2 * (2 ^ 64 - source.moved) + length buffer.bytes + 1
+
+pub taken_within : (old new : Draft) (text : List ℕ) (n : ℕ) → IsConsumed old new text n → n ≤ length text
+taken_within old new text n taken =
+    omega (arith, ap length taken.is, length-append taken.taken taken.rest, taken.count)
+
+pub taken_less : (now : Device) (old new : Draft) (before after : Window) (n : ℕ) → before.ended ≡ false
+    → IsConsumed old new before.bytes n → after.bytes ≡ drop n before.bytes → after.ended ≡ before.ended
+    → left_with now after < left_with now before
+taken_less now old new before after n open_before taken bytes ended =
+    let open_after : after.ended ≡ false = ended ∙ open_before in
+    let within = taken_within old new before.bytes n taken in
+    rw (open_after, open_before) (omega (arith, taken.some, ap length bytes, length-drop n before.bytes))
+
+pub steady_few : (start now : Device) → IsSteady start now → CountsFew start now
+steady_few start now steady =
+    steady_then_few start now now steady (record { failures = omega arith; interruptions = omega arith })
+
+-- the fault of a text is no failure of its source
+never_read : (result : Result Report ReportFault) (text : List ℕ) → IfErr result (IsTextFault text)
+    → IsErrOf result Read → ⊥
+never_read (Ok report) text fault is = absurd cc
+never_read (Err (Line n)) text fault is = absurd cc
+never_read (Err Read) text fault is = fault
+never_read (Err Memory) text fault is = absurd cc
+
+pub judged_tells : (start now : Device) (draft : Draft) (buffer : Window) (bytes : List ℕ) (why : ReportFault)
+    → IsReading start now draft buffer
+    → ((past more : List ℕ) → Follows draft past → IsTextFault (past ++ (bytes ++ more)) why)
+    → IsErrOf {T = Report} (Err why) Read ↔ HasFailed start now
+judged_tells start now draft buffer bytes why reading fault = (
+  λ is. absurd (never_read (Err why) (reading.read ++ (bytes ++ [])) (fault reading.read [] reading.follows) is),
+  λ failed. absurd (steady_sound start now reading.steady failed),
+)
+
+-- the source has ended, so the text is what came
+reads_of : (result : Result Report ReportFault) (text : List ℕ) → IfOk result (λ report. IsReadFrom report text)
+    → IfErr result (IsTextFault text) → ReadsReport text result
+reads_of (Ok report) text found fault = found
+reads_of (Err (Line n)) text found fault = fault
+reads_of (Err Read) text found fault = tt
+reads_of (Err Memory) text found fault = tt
+
+pub finished : (start now : Device) (draft : Draft) (buffer : Window) (bytes : List ℕ)
+    (result : Result Report ReportFault) → IsReading start now draft buffer → buffer.ended ≡ true
+    → bytes ≡ buffer.bytes
+    → ((past : List ℕ) → Follows draft past → IfOk result (λ report. IsReadFrom report (past ++ bytes)))
+    → ((past : List ℕ) → Follows draft past → IfErr result (IsTextFault (past ++ bytes)))
+    → (text : List ℕ) × HasLeft start text × ReadsReport text result
+finished start now draft buffer bytes result reading ended is found fault =
+    let left = rw append-nil at (reading.came.front [] (reading.end ended)) in (
+      reading.read ++ bytes,
+      rw is left,
+      reads_of result (reading.read ++ bytes) (found reading.read reading.follows)
+          (fault reading.read reading.follows),
+    )
+
+pub finished_tells : (start now : Device) (draft : Draft) (buffer : Window) (bytes : List ℕ)
+    (result : Result Report ReportFault) → IsReading start now draft buffer
+    → ((past : List ℕ) → Follows draft past → IfErr result (IsTextFault (past ++ bytes)))
+    → IsErrOf result Read ↔ HasFailed start now
+finished_tells start now draft buffer bytes result reading fault = (
+  λ is. absurd (never_read result (reading.read ++ bytes) (fault reading.read reading.follows) is),
+  λ failed. absurd (steady_sound start now reading.steady failed),
+)

@@ -13,8 +13,8 @@ use Rattle.msr_report_reader.specs.declared.fault.ReportFault.{ReportFault}
 use Rattle.msr_report_reader.specs.declared.fault.ReportFault.TheVariants.{Line, Read, Memory}
 use Rattle.msr_report_reader.specs.declared.first.FirstLines.{FirstLines}
 use Rattle.msr_report_reader.specs.declared.lines.FirstLine.{FirstLine}
-use Rattle.msr_report_reader.specs.declared.draft.Place.{Place}
-use Rattle.msr_report_reader.specs.declared.draft.Place.TheVariants.{Start, Segment, Separators, Number, End}
+use Rattle.msr_report_reader.specs.declared.draft.Expected.{Expected}
+use Rattle.msr_report_reader.specs.declared.draft.Expected.TheVariants.{Start, Segment, Separators, Number, End}
 use Rattle.msr_report_reader.specs.declared.draft.Draft.{Draft}
 use Rattle.msr_report_reader.specs.declared.draft.Progress.{Progress}
 use Rattle.msr_report_reader.specs.declared.draft.Progress.TheVariants.{Consumed, Cut, Whole}
@@ -76,8 +76,8 @@ pub record ReadEnd (first : FirstLines) (segments : List SegmentLine) (past : Li
   pub fits : records_of segments < 2 ^ 64
   pub is : past ≡ before ++ end_line (length segments) (records_of segments)
 
--- the text of what was read up to a place
-abbrev pub ReadTo : Place → List SegmentLine → List ℕ → List ℕ → Type 0
+-- the text that was read before what is expected
+abbrev pub ReadTo : Expected → List SegmentLine → List ℕ → List ℕ → Type 0
 ReadTo Start segments numbers past = (past ≡ []) × ((segments ≡ []) × (numbers ≡ []))
 ReadTo (Segment first) segments numbers past = ReadSegments first segments past × (numbers ≡ [])
 ReadTo (Separators first line) segments numbers past = ReadOpening first segments line past × (numbers ≡ [])
@@ -85,7 +85,7 @@ ReadTo (Number first line) segments numbers past = ReadNumbers first segments li
 ReadTo (End first) segments numbers past = ReadEnd first segments past
 
 pub record Follows (draft : Draft) (past : List ℕ) : Type 0 where
-  pub to : ReadTo draft.place draft.segments.items draft.numbers.items past
+  pub to : ReadTo draft.expected draft.segments.items draft.numbers.items past
 
 -- the first n bytes of the text were read
 pub record IsConsumed (old new : Draft) (text : List ℕ) (n : ℕ) : Type 0 where

@@ -7,7 +7,7 @@ ghost use Rattle.msr_report_reader.specs.Draft.{Follows, IsRefused, IsStep, Read
 ghost use Rattle.msr_report_reader.specs.LastLine.{IsLast};
 ghost use Rattle.msr_report_reader.specs.Reading.{IsReadFrom};
 ghost use Rattle.msr_report_reader.specs.TextFault.{IsTextFault};
-ghost use Rattle.msr_report_reader.specs.declared.draft.Place.TheVariants.{Start, Segment, Separators, Number, End};
+ghost use Rattle.msr_report_reader.specs.declared.draft.Expected.TheVariants.{Start, Segment, Separators, Number, End};
 
 use crate::fault::ReportFault;
 use crate::fields::{after, may_be_number, may_begin, number};
@@ -22,7 +22,7 @@ const LINE_LIMIT: usize = 4096;
 
 /// What may come next.
 #[derive(Clone, Copy)]
-pub(crate) enum Place {
+pub(crate) enum Expected {
     /// The lines before the segments.
     Start,
     /// The first line of a segment, or the last line.
@@ -39,7 +39,7 @@ pub(crate) enum Place {
 #[derive(Drop)]
 pub(crate) struct Draft {
     alloc: Global,
-    place: Place,
+    expected: Expected,
     segments: Vec<SegmentLine>,
     /// The separators of a segment of which not all were read.
     numbers: Vec<u64>,
@@ -142,7 +142,7 @@ impl Draft {
     {
         Draft {
             alloc,
-            place: Place::Start,
+            expected: Expected::Start,
             segments: Vec::new(alloc),
             numbers: Vec::new(alloc),
         }
@@ -152,22 +152,22 @@ impl Draft {
     pub(crate) fn step(&mut self, text: &[u8]) -> Result<Progress, ReportFault>
         ensures { IsStep self.old self.new text.now result }
     {
-        match self.place {
-            Place::Start => self.read_first(text),
-            Place::Segment(first) => self.read_segment(first, text),
-            Place::Separators(first, line) => self.read_word(first, line, text),
-            Place::Number(first, line) => self.read_number(first, line, text),
-            Place::End(first) => self.read_nothing(first, text),
+        match self.expected {
+            Expected::Start => self.read_first(text),
+            Expected::Segment(first) => self.read_segment(first, text),
+            Expected::Separators(first, line) => self.read_word(first, line, text),
+            Expected::Number(first, line) => self.read_number(first, line, text),
+            Expected::End(first) => self.read_nothing(first, text),
         }
     }
 
     /// Reads the lines before the segments.
     fn read_first(&mut self, text: &[u8]) -> Result<Progress, ReportFault>
-        ensures { self.old.place ≡ Start → IsStep self.old self.new text.now result }
+        ensures { self.old.expected ≡ Start → IsStep self.old self.new text.now result }
     {
         match first_lines(text) {
             Ok((first, rest)) => {
-                self.place = Place::Segment(first);
+                self.expected = Expected::Segment(first);
                 Ok(Progress::Consumed(text.len() - rest.len()))
             }
             Err(FaultAt { line, text, begins }) => refuse(text, begins, line),
@@ -176,14 +176,14 @@ impl Draft {
 
     /// Reads the first line of a segment, or the last line.
     fn read_segment(&mut self, first: FirstLines, text: &[u8]) -> Result<Progress, ReportFault>
-        ensures { self.old.place ≡ Segment first → IsStep self.old self.new text.now result }
+        ensures { self.old.expected ≡ Segment first → IsStep self.old self.new text.now result }
     {
         if let Some((line, rest)) = opening(text) {
-            self.place = Place::Separators(first, line);
+            self.expected = Expected::Separators(first, line);
             return Ok(Progress::Consumed(text.len() - rest.len()));
         }
         if let Some(rest) = last_line(text, self.segments.as_slice()) {
-            self.place = Place::End(first);
+            self.expected = Expected::End(first);
             return Ok(Progress::Consumed(text.len() - rest.len()));
         }
         let begins = may_begin(text, b"segment ") | may_begin(text, b"end ");
@@ -197,7 +197,7 @@ impl Draft {
         line: FirstLine,
         text: &[u8],
     ) -> Result<Progress, ReportFault>
-        ensures { self.old.place ≡ Separators first line → IsStep self.old self.new text.now result }
+        ensures { self.old.expected ≡ Separators first line → IsStep self.old self.new text.now result }
     {
         let Some((last, rest)) = separators_word(text) else {
             let begins = may_begin(text, b"separators");
@@ -218,7 +218,7 @@ impl Draft {
         line: FirstLine,
         text: &[u8],
     ) -> Result<Progress, ReportFault>
-        ensures { self.old.place ≡ Number first line → IsStep self.old self.new text.now result }
+        ensures { self.old.expected ≡ Number first line → IsStep self.old self.new text.now result }
     {
         let Some((n, last, rest)) = separator(text) else {
             return refuse(
@@ -239,7 +239,7 @@ impl Draft {
             → Follows self.new (past ++ numbers_then self.old.numbers.items last)) }
     {
         if !last {
-            self.place = Place::Number(first, line);
+            self.expected = Expected::Number(first, line);
             return Ok(());
         }
         let separators = mem::replace(&mut self.numbers, Vec::new(self.alloc));
@@ -250,13 +250,13 @@ impl Draft {
             records: line.records,
             separators,
         })?;
-        self.place = Place::Segment(first);
+        self.expected = Expected::Segment(first);
         Ok(())
     }
 
     /// Reads nothing after the last line: more text is a line at fault.
     fn read_nothing(&mut self, first: FirstLines, text: &[u8]) -> Result<Progress, ReportFault>
-        ensures { self.old.place ≡ End first → IsStep self.old self.new text.now result }
+        ensures { self.old.expected ≡ End first → IsStep self.old self.new text.now result }
     {
         if text.is_empty() {
             Ok(Progress::Whole(first))

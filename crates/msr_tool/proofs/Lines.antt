@@ -1,8 +1,9 @@
 -- Segments written one after another, and their lines.
-use Rattle.std.proofs.Common.{◌≡◌, ◌≤◌, ℕ, false, List, [], ◌∷◌, ◌++◌, ◌∙◌, map, length, refl, sym, ap, subst, arith, append_assoc, All, Option, Some, None, IfSome, Result, Ok, Err, MatchResult, ◌+◌}
+use Rattle.std.proofs.Common.{◌≡◌, ◌≤◌, ℕ, zero, suc, false, List, [], ◌∷◌, ◌++◌, ◌∙◌, map, length, refl, sym, ap, subst, arith, append_assoc, All, Option, Some, None, IfSome, Result, Ok, Err, MatchResult, ◌+◌}
 use Rattle.std.specs.Prelude.{option_map}
 use Rattle.std.specs.Option.{option_to_list}
 use Rattle.std.proofs.lemmas.List.{map-append, append-nil}
+use Rattle.std.proofs.lemmas.List.Elements.{All-append}
 use Rattle.msr_kinds.specs.declared.forms.Form.{Form}
 use Rattle.msr_rows.specs.declared.row.Row.{Row}
 use Rattle.msr_segments.specs.declared.joiner.Segment.{Segment}
@@ -18,8 +19,7 @@ use Rattle.msr_input.specs.Reading.{IsWritable}
 use Rattle.msr_input.specs.Rows.{StepsTo}
 use Rattle.msr_input.specs.Steps.{CanJoin}
 use Rattle.msr_input.specs.declared.row_reader.NextRow.{NextRow}
-use Rattle.msr_report_reader.specs.Content.{IsContentLine, content_line}
-use Rattle.msr_report_reader.proofs.SegmentsRead.{all_more}
+use Rattle.msr_report_reader.specs.Content.{ContentLine, IsContentLine, content_line}
 use Rattle.msr_output.specs.Opened.{Opened, CanGoOn, HasBegun, count_of}
 use Rattle.msr_output.specs.Output.{Packed, segment_of_packed, count_of_runs}
 use Rattle.msr_output.specs.Writing.{Writing, IsLineOf, HasWritten, HasWrittenPrefix, WritesSegment, StopsWriting}
@@ -111,10 +111,15 @@ line_proper start now writing packed segment line opened h can same_key same_sta
     ∙ sym same_start ∙ can.is_open.start in
     record { quality = rw key can.writable.quality; start = rw at can.in_time.first_in }
 
+one_content : (line : ContentLine) → IsContentLine line → All IsContentLine (line ∷ [])
+one_content line is zero d within = is
+one_content line is (suc k) d within = absurd (omega arith)
+
 contents_snoc : (lines : List SegmentLine) (line : SegmentLine) → All IsContentLine (map content_line lines)
     → IsContentLine (content_line line) → All IsContentLine (map content_line (lines ++ line ∷ []))
 contents_snoc lines line contents is = rw (map-append content_line lines (line ∷ []))
-    (all_more (map content_line lines) (content_line line) contents is)
+    (All-append IsContentLine (map content_line lines) (content_line line ∷ []) contents
+    (one_content (content_line line) is))
 
 -- ---- a segment ends
 

@@ -1,4 +1,4 @@
-use Rattle.std.proofs.Common.{rules, ◌≡◌, arith, length, refl, subst}
+use Rattle.std.proofs.Common.{◌≡◌, ◌∙◌, arith, length, refl, subst}
 use Rattle.msr_packer.specs.HeldSamples.{frontier_of, start_of}
 use Rattle.msr_packer.specs.Steps.{HaveSizes}
 use Rattle.msr_packer.proofs.ToldSizes.{frontier_within, none_sized}
@@ -8,7 +8,7 @@ use Rattle.msr_packer.proofs.held.HeldSamples.last_piece.Goals as goal
 
 pub piece_of-requires : goal.piece_of-requires
 piece_of-requires c =
-    let end : c.len-end.result ≡ length c.args.self.now.samples.items = search rules in
+    let end : c.len-end.result ≡ length c.args.self.now.samples.items = c.len-end.ensures ∙ c.args.self.now.samples.ok.0 in
     record {
       records = records_of c.args.self.now.form;
       number = length c.args.self.now.samples.items;
@@ -19,7 +19,7 @@ piece_of-requires c =
 
 pub returns-clause-canonical : goal.returns-clause-canonical
 returns-clause-canonical c = λ samples runs separators w.
-    let end : c.len-end.result ≡ length c.args.self.now.samples.items = search rules in
+    let end : c.len-end.result ≡ length c.args.self.now.samples.items = c.len-end.ensures ∙ c.args.self.now.samples.ok.0 in
     rw (c.piece_of.ensures, end)
     (ends_with (records_of c.args.self.now.form) samples runs separators c.args.self.now.samples.items
     c.args.self.now.offset c.args.self.now.current w c.requires.end)
@@ -34,7 +34,7 @@ pub returns-clause-sizes : goal.returns-clause-sizes
 returns-clause-sizes c = λ knows.
     let held = c.args.self.now in
     let g = c.go_on.ensures in
-    let end : c.len-end.result ≡ length c.args.self.now.samples.items = search rules in
+    let end : c.len-end.result ≡ length c.args.self.now.samples.items = c.len-end.ensures ∙ c.args.self.now.samples.ok.0 in
     let last : frontier_of c.args.self.now.current ≡ c.len-end.result =
     (let most = frontier_within (records_of held.form) held.current (length held.samples.items) c.requires.sound.inside in
     let least = c.requires.end in omega arith) in

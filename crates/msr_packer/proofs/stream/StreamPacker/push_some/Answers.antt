@@ -1,4 +1,4 @@
-use Rattle.std.proofs.Common.{rules, ◌≡◌, ◌+◌, ◌-◌, ◌++◌, ◌∙◌, length, take, arith, refl, ap, append-nil, inl, inr, length-append, length-take, false}
+use Rattle.std.proofs.Common.{◌≡◌, ◌+◌, ◌-◌, ◌++◌, ◌∙◌, length, take, arith, refl, ap, append-nil, inl, inr, length-append, length-take, false}
 use Rattle.std.proofs.lemmas.Result.{err_from_is_err_and}
 use Rattle.msr_packer.specs.HeldSamples.{Stays, frontier_of}
 use Rattle.msr_packer.specs.declared.held.HeldSamples.{HeldSamples}
@@ -26,7 +26,7 @@ returns-in_err-extend_from_slice-clause-given c = λ records before runs separat
 pub decide-requires-clause-growing : goal.decide-requires-clause-growing
 decide-requires-clause-growing c =
     let held = c.forget.new.held in
-    let from : c.len-from.result ≡ length held.samples.items = search rules in
+    let from : c.len-from.result ≡ length held.samples.items = c.len-from.ensures ∙ held.samples.ok.0 in
     let more = growing_more (records_of held.form) held.samples.items (take c.min-count.result c.args.samples.now)
     (frontier_of held.current) (length held.samples.items) c.forget.new.growing
     (omega arith) c.forget.ensures.streaming.is_growing in
@@ -64,7 +64,7 @@ returns-in_default-clause-given c = λ records before runs separators s.
 pub returns-in_default-clause-all : goal.returns-in_default-clause-all
 returns-in_default-clause-all c = λ _.
     let held = c.forget.new.held in
-    let from : c.len-from.result ≡ length held.samples.items = search rules in
+    let from : c.len-from.result ≡ length held.samples.items = c.len-from.ensures ∙ held.samples.ok.0 in
     let frontier = c.frontier_of-frontier.ensures in
     let most = c.longest_run.ensures in
     let count = c.min-count.ensures in
@@ -113,7 +113,7 @@ invariant_of-self-in_default c =
 pub of-next-requires-clause-step : goal.of-next-requires-clause-step
 of-next-requires-clause-step c =
     let held = c.forget.new.held in
-    let from : c.len-from.result ≡ length held.samples.items = search rules in
+    let from : c.len-from.result ≡ length held.samples.items = c.len-from.ensures ∙ held.samples.ok.0 in
     let d = decided_there (records_of held.form) held.form.length.least c.extend_from_slice.new.self.items
     (frontier_of held.current) c.len-from.result c.in-Some.found
     (rw (c.as_slice-seen.ensures.value, c.frontier_of-frontier.ensures) at c.in-Some.ensures.decided) in
@@ -122,7 +122,7 @@ of-next-requires-clause-step c =
 pub of-next-requires-clause-kind : goal.of-next-requires-clause-kind
 of-next-requires-clause-kind c =
     let held = c.forget.new.held in
-    let from : c.len-from.result ≡ length held.samples.items = search rules in
+    let from : c.len-from.result ≡ length held.samples.items = c.len-from.ensures ∙ held.samples.ok.0 in
     let d = decided_there (records_of held.form) held.form.length.least c.extend_from_slice.new.self.items
     (frontier_of held.current) c.len-from.result c.in-Some.found
     (rw (c.as_slice-seen.ensures.value, c.frontier_of-frontier.ensures) at c.in-Some.ensures.decided) in
@@ -131,7 +131,7 @@ of-next-requires-clause-kind c =
 pub of-next-requires-clause-ends : goal.of-next-requires-clause-ends
 of-next-requires-clause-ends c =
     let held = c.forget.new.held in
-    let from : c.len-from.result ≡ length held.samples.items = search rules in
+    let from : c.len-from.result ≡ length held.samples.items = c.len-from.ensures ∙ held.samples.ok.0 in
     let d = decided_there (records_of held.form) held.form.length.least c.extend_from_slice.new.self.items
     (frontier_of held.current) c.len-from.result c.in-Some.found
     (rw (c.as_slice-seen.ensures.value, c.frontier_of-frontier.ensures) at c.in-Some.ensures.decided) in
@@ -141,7 +141,7 @@ pub go_on-piece-requires-clause-sound : goal.go_on-piece-requires-clause-sound
 go_on-piece-requires-clause-sound c =
     let held = c.forget.new.held in
     let found = c.in-Some.found in
-    let from : c.len-from.result ≡ length held.samples.items = search rules in
+    let from : c.len-from.result ≡ length held.samples.items = c.len-from.ensures ∙ held.samples.ok.0 in
     let d = rw (c.as_slice-seen.ensures.value, c.frontier_of-frontier.ensures) at c.in-Some.ensures.decided in
     let last = d.before_last in
     let past = d.past in
@@ -164,7 +164,7 @@ returns-clause-given c = λ records before runs separators s.
     let held = c.forget.new.held in
     let t = c.forget.ensures.streaming in
     let found = c.in-Some.found in
-    let from : c.len-from.result ≡ length held.samples.items = search rules in
+    let from : c.len-from.result ≡ length held.samples.items = c.len-from.ensures ∙ held.samples.ok.0 in
     let d = rw (c.as_slice-seen.ensures.value, c.frontier_of-frontier.ensures) at c.in-Some.ensures.decided in
     let last = d.before_last in
     let past = d.past in
@@ -217,7 +217,7 @@ returns-clause-shown c = λ records before runs separators s.
     let held = c.forget.new.held in
     let t = c.forget.ensures.streaming in
     let found = c.in-Some.found in
-    let from : c.len-from.result ≡ length held.samples.items = search rules in
+    let from : c.len-from.result ≡ length held.samples.items = c.len-from.ensures ∙ held.samples.ok.0 in
     let d = rw (c.as_slice-seen.ensures.value, c.frontier_of-frontier.ensures) at c.in-Some.ensures.decided in
     let last = d.before_last in
     let past = d.past in

@@ -1,7 +1,7 @@
 use Rattle.std.proofs.Common.{◌≡◌, ap, sym, refl, subst, rules, List, ℕ, Bool, true, ◌<◌, ◌^◌, ◌++◌, [], All, w64, FitsSigned, to_z-of_z}
 use Rattle.msr_report.specs.declared.report.SegmentLine.{SegmentLine}
 use Rattle.msr_report_reader.specs.Draft.{ReadSegments, numbers_then}
-use Rattle.msr_report_reader.specs.declared.draft.Place.TheVariants.{Segment, Number}
+use Rattle.msr_report_reader.specs.declared.draft.Expected.TheVariants.{Segment, Number}
 use Rattle.msr_report_reader.proofs.Steps.{closes, follows_at}
 use Rattle.msr_report_reader.proofs.draft.Draft.go_on.Goals as goal
 

@@ -1,13 +1,13 @@
 use Rattle.std.proofs.Common.{◌∙◌, ap, rules, arith, List, ◌+◌, ◌*◌, ◌<◌, ◌++◌, length}
 use Rattle.msr_report.specs.declared.report.SegmentLine.{SegmentLine}
 use Rattle.msr_report_reader.specs.Content.{lines_before}
-use Rattle.msr_report_reader.specs.declared.draft.Place.TheVariants.{End}
+use Rattle.msr_report_reader.specs.declared.draft.Expected.TheVariants.{End}
 use Rattle.msr_report_reader.proofs.Faults.{at_number, end_fault}
 use Rattle.msr_report_reader.proofs.Steps.{read_to}
 use Rattle.msr_report_reader.proofs.draft.Draft.read_nothing.Goals as goal
 
 pub returns-else-is_empty : goal.returns-else-is_empty
-returns-else-is_empty c = λ place past more follows.
+returns-else-is_empty c = λ expected past more follows.
     let segments : List SegmentLine = c.args.self.now.segments.items in
     let line = c.line_after.ensures.line
     ∙ ap (λ (ss : List SegmentLine). 1 + lines_before c.args.first.kinds + 2 * length ss) c.as_slice.ensures.value in
@@ -15,4 +15,4 @@ returns-else-is_empty c = λ place past more follows.
     at_number (past ++ (c.args.text.now ++ more)) (2 + lines_before c.args.first.kinds + 2 * length segments)
     (1 + c.line_after.result)
     (omega (arith, line)) (end_fault c.args.first segments past c.args.text.now more
-    (read_to c.args.self.now (End c.args.first) past place follows) some)
+    (read_to c.args.self.now (End c.args.first) past expected follows) some)

@@ -2,13 +2,13 @@ use Rattle.std.proofs.Common.{◌∙◌, ap, refl, rules, arith, List, ◌+◌, 
 use Rattle.msr_report.specs.declared.report.SegmentLine.{SegmentLine}
 use Rattle.msr_report_reader.specs.declared.draft.Draft.{Draft}
 use Rattle.msr_report_reader.specs.Content.{lines_before}
-use Rattle.msr_report_reader.specs.declared.draft.Place.TheVariants.{Number}
+use Rattle.msr_report_reader.specs.declared.draft.Expected.TheVariants.{Number}
 use Rattle.msr_report_reader.proofs.Faults.{at_number, number_fault}
 use Rattle.msr_report_reader.proofs.Steps.{number_step, read_to, refused}
 use Rattle.msr_report_reader.proofs.draft.Draft.read_number.Goals as goal
 
 pub returns-in_default : goal.returns-in_default
-returns-in_default c = λ place.
+returns-in_default c = λ expected.
     let segments : List SegmentLine = c.args.self.now.segments.items in
     let line = c.line_after.ensures.line
     ∙ ap (λ (ss : List SegmentLine). 1 + lines_before c.args.first.kinds + 2 * length ss) c.as_slice.ensures.value in
@@ -17,18 +17,18 @@ returns-in_default c = λ place.
     (2 + lines_before c.args.first.kinds + 2 * length segments)
     (1 + c.line_after.result) (omega (arith, line)) (number_fault c.args.first segments c.args.line
     c.args.self.now.numbers.items c.may_be_number.result past c.args.text.now more
-    (read_to c.args.self.now (Number c.args.first c.args.line) past place follows)
+    (read_to c.args.self.now (Number c.args.first c.args.line) past expected follows)
     (λ n x small is. c.may_be_number.ensures n more x small is) enough c.in_default.ensures.only))
     c.refuse.ensures
 
 pub returns : goal.returns
-returns c = λ place.
+returns c = λ expected.
     let mid : Draft = record {
       alloc = c.args.self.now.alloc;
-      place = c.args.self.now.place;
+      expected = c.args.self.now.expected;
       segments = c.args.self.now.segments;
       numbers = c.push.new.self;
     } in
     number_step c.args.self.now mid c.go_on.new.self c.args.first c.args.line c.in-Some.n c.in-Some.last
-    c.args.text.now c.in-Some.rest.now _ place refl c.in_ok-push.ensures.items (search rules) c.in_ok-go_on.ensures
+    c.args.text.now c.in-Some.rest.now _ expected refl c.in_ok-push.ensures.items (search rules) c.in_ok-go_on.ensures
     c.in-Some.ensures.found refl

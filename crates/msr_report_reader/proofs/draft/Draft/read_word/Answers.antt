@@ -1,13 +1,13 @@
 use Rattle.std.proofs.Common.{◌∙◌, ap, refl, arith, List, ◌+◌, ◌*◌, ◌++◌, length}
 use Rattle.msr_report.specs.declared.report.SegmentLine.{SegmentLine}
 use Rattle.msr_report_reader.specs.Content.{lines_before}
-use Rattle.msr_report_reader.specs.declared.draft.Place.TheVariants.{Separators}
+use Rattle.msr_report_reader.specs.declared.draft.Expected.TheVariants.{Separators}
 use Rattle.msr_report_reader.proofs.Faults.{at_number, word_fault}
 use Rattle.msr_report_reader.proofs.Steps.{word_step, read_to, refused}
 use Rattle.msr_report_reader.proofs.draft.Draft.read_word.Goals as goal
 
 pub returns-in_default : goal.returns-in_default
-returns-in_default c = λ place.
+returns-in_default c = λ expected.
     let segments : List SegmentLine = c.args.self.now.segments.items in
     let line = c.line_after.ensures.line
     ∙ ap (λ (ss : List SegmentLine). 1 + lines_before c.args.first.kinds + 2 * length ss) c.as_slice.ensures.value in
@@ -15,10 +15,10 @@ returns-in_default c = λ place.
     (λ past more follows enough. at_number (past ++ (c.args.text.now ++ more))
     (2 + lines_before c.args.first.kinds + 2 * length segments)
     (1 + c.line_after.result) (omega (arith, line)) (word_fault c.args.first segments c.args.line c.may_begin-begins.result past
-    c.args.text.now more (read_to c.args.self.now (Separators c.args.first c.args.line) past place follows).0 (c.may_begin-begins.ensures more) enough
+    c.args.text.now more (read_to c.args.self.now (Separators c.args.first c.args.line) past expected follows).0 (c.may_begin-begins.ensures more) enough
     c.in_default.ensures.only)) c.refuse.ensures
 
 pub returns : goal.returns
-returns c = λ place.
+returns c = λ expected.
     word_step c.args.self.now c.go_on.new.self c.args.first c.args.line c.in-Some.last c.args.text.now
-    c.in-Some.rest.now _ place c.in_ok-go_on.ensures c.in-Some.ensures.found refl
+    c.in-Some.rest.now _ expected c.in_ok-go_on.ensures c.in-Some.ensures.found refl
