@@ -3,7 +3,7 @@ ghost use Rattle.std.specs.Prelude.{◌≡◌, ◌+◌, ◌*◌, IfSome};
 ghost use Rattle.msr_devices.specs.Device.{CanCountCall};
 ghost use Rattle.msr_options.specs.Choice.{size_of};
 ghost use Rattle.msr_report.specs.Proper.{IsProper, records_of};
-ghost use Rattle.msr_totals.specs.Totals.{saturated};
+ghost use Rattle.msr_folders.specs.Totals.{saturated};
 ghost use Rattle.msr_walk.specs.Day.{ComparesDay, IsReportKept, IsShown, RepacksDay, fault_of_comparing};
 
 use crate::outcome::{DayFault, Repacked};

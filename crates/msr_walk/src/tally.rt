@@ -3,7 +3,7 @@ ghost use Rattle.std.specs.Prelude.{◌≡◌, ◌++◌, ◌∷◌, [], List, On
 ghost use Rattle.msr_walk.specs.Entries.{AddsDone, Entry, IsTally};
 
 use crate::outcome::{Outcome, Repacked};
-use msr_totals::Totals;
+use msr_folders::Totals;
 use std::alloc::{AllocError, Global};
 
 /// How many entries had each outcome, and the totals of the channels with a file that was done, in this walk or an
