@@ -25,6 +25,8 @@ impl Tally {
     pub(crate) fn new(alloc: Global) -> Tally
         ensures { IsTally [] result }
     {
+        let channels = Totals::new(alloc);
+        let bytes = Totals::new(alloc);
         Tally {
             done: 0,
             skipped: 0,
@@ -32,8 +34,8 @@ impl Tally {
             larger: 0,
             bytes_read: 0,
             bytes_written: 0,
-            channels: Totals::new(alloc),
-            bytes: Totals::new(alloc),
+            channels,
+            bytes,
         }
     }
 
