@@ -1,5 +1,5 @@
-//! msr_totals: adds of a few names, with the totals worked out by hand.
-use msr_totals::{Total, Totals};
+//! Totals: adds of a few names, with the totals worked out by hand.
+use msr_folders::{Total, Totals};
 use std::test::Fail;
 
 /// Whether the total at that place has this name and these numbers.

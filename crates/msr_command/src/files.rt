@@ -1,37 +1,18 @@
-//! Files that are opened, created and made to last.
+//! Files that are opened and created; standard output made to last.
 ghost use Rattle.std.specs.Prelude.{◌≡◌, IfErr};
 ghost use Rattle.msr_command.specs.Ends.{IsUncreated, IsUnread};
 
 use crate::task_fault::TaskFault;
+use msr_folders::{FileId, settle};
 use msr_tool::ToolFault;
-use msr_walk::settle;
 use std::fs;
-use std::fs::{File, Metadata, OpenFile, OpenOptions};
-use std::os::unix::fs::MetadataExt;
+use std::fs::{File, OpenFile, OpenOptions};
 use std::rt::Files;
-
-/// Which regular file it is, whatever its names: its device, and its number there.
-#[derive(Clone, Copy, Debug, PartialEq, Eq)]
-pub(crate) struct FileId {
-    device: u64,
-    number: u64,
-}
-
-/// `None` if it is no regular file, as a pipe, a terminal or /dev/null.
-fn id_of(metadata: &Metadata) -> Option<FileId> {
-    if !metadata.is_file() {
-        return None;
-    }
-    Some(FileId {
-        device: metadata.dev(),
-        number: metadata.ino(),
-    })
-}
 
 /// Which file standard output is redirected to, if the system tells it.
 fn id_of_standard_output<R: Files>(rt: &R) -> Option<FileId> {
     match fs::metadata(rt, "/dev/stdout") {
-        Ok(metadata) => id_of(&metadata),
+        Ok(metadata) => FileId::of_regular(&metadata),
         Err(_) => None,
     }
 }
@@ -61,7 +42,7 @@ pub(crate) fn open_file<'a, R: Files>(
         Err(error) => return Err(TaskFault::CannotOpen(name, error)),
     };
     let id = match file.metadata() {
-        Ok(metadata) => id_of(&metadata),
+        Ok(metadata) => FileId::of_regular(&metadata),
         Err(error) => return Err(TaskFault::CannotOpen(name, error)),
     };
     if is_printed_to(rt, id) {
@@ -77,7 +58,7 @@ pub(crate) fn standard_input<'a, R: Files>(rt: &R) -> Result<Option<FileId>, Tas
     let Ok(metadata) = fs::metadata(rt, "/dev/stdin") else {
         return Ok(None);
     };
-    let id = id_of(&metadata);
+    let id = FileId::of_regular(&metadata);
     if is_printed_to(rt, id) {
         return Err(TaskFault::SameFile);
     }
@@ -103,7 +84,7 @@ pub(crate) fn create_output<'a, R: Files>(
         Ok(metadata) => metadata,
         Err(error) => return Err(TaskFault::CannotOpen(name, error)),
     };
-    let Some(id) = id_of(&metadata) else {
+    let Some(id) = FileId::of_regular(&metadata) else {
         return Ok(file);
     };
     if input == Some(id) {
@@ -138,7 +119,7 @@ pub(crate) fn settle_standard_output<R: Files>(rt: &R) -> Result<(), ToolFault>
         return Ok(());
     }
     match OpenOptions::new().write(true).open(rt, "/dev/stdout") {
-        Ok(file) => settle(&file),
+        Ok(file) => Ok(settle(&file)?),
         Err(_) => Ok(()),
     }
 }

@@ -1,4 +1,5 @@
 //! Why a task ends before it is done.
+use msr_devices::DeviceFault;
 use msr_input::ReadFault;
 use msr_tool::ToolFault;
 use std::io;
@@ -54,5 +55,17 @@ impl<'a> From<ToolFault> for TaskFault<'a> {
 
     fn from(fault: ToolFault) -> TaskFault<'a> {
         TaskFault::Tool(fault)
+    }
+}
+
+impl<'a> From<DeviceFault> for TaskFault<'a> {
+    ghost use Rattle.std.specs.Prelude.{◌≡◌};
+    ghost use Rattle.msr_tool.specs.Fault.{fault_of_writing};
+    ghost use Rattle.msr_command.specs.declared.task_fault.TaskFault.TheVariants.{Tool};
+
+    ghost from_gives = { λ fault stop. stop ≡ Tool (fault_of_writing fault) };
+
+    fn from(fault: DeviceFault) -> TaskFault<'a> {
+        TaskFault::Tool(fault.into())
     }
 }

@@ -7,18 +7,18 @@ ghost use Rattle.msr_command.specs.Ends.{Checks, Does, EndsClosed, Feeds, FeedsT
 use crate::comparing::compare_files;
 use crate::done::Done;
 use crate::files::{
-    FileId, create_output, create_report, open_file, settle_standard_output, standard_input,
+    create_output, create_report, open_file, settle_standard_output, standard_input,
 };
 use crate::task_fault::TaskFault;
 use crate::turns::is_in_turns;
 use msr_arguments::{Archiving, Checking, Feeding, Folders, Listing, Repacking, Task, Verifying};
-use msr_folders::folders_overlap;
+use msr_folders::{FileId, folders_overlap, settle};
 use msr_tool::{
     FromRead, FromWrite, Options, Sink, Source, ToolFault, check_and_tell, feed_and_report,
     list_segments, repack_and_report,
 };
 use msr_verify::{RepackedArchive, verify};
-use msr_walk::{Archive, LockFile, settle, walk};
+use msr_walk::{Archive, LockFile, walk};
 use std::alloc::Global;
 use std::fs::OpenFile;
 use std::io;

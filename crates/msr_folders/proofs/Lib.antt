@@ -1,1 +1,5 @@
+pub mod AddLemmas
+pub mod FirstNameLemmas
 pub mod FolderLemmas
+pub mod RowLemmas
+pub mod VisitLemmas

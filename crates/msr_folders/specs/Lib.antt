@@ -1,2 +1,5 @@
 pub mod Paths
 pub mod Days
+pub mod Named
+pub mod Totals
+pub mod Visits

@@ -1,6 +1,9 @@
-//! Files by their names: which file it is, and opening it.
+//! Files by their names: which file it is, opening it, and making it last.
+ghost use Rattle.std.specs.Prelude.{◌≡◌, IfErr};
+
+use msr_devices::DeviceFault;
 use std::fs;
-use std::fs::{File, Metadata};
+use std::fs::{File, Metadata, OpenFile};
 use std::io::ErrorKind;
 use std::os::unix::fs::MetadataExt;
 use std::rt::Files;
@@ -18,6 +21,11 @@ impl FileId {
             device: metadata.dev(),
             number: metadata.ino(),
         }
+    }
+
+    /// `None` if it is no regular file, as a pipe, a terminal or /dev/null.
+    pub fn of_regular(metadata: &Metadata) -> Option<FileId> {
+        metadata.is_file().then(|| FileId::of(metadata))
     }
 }
 
@@ -94,4 +102,34 @@ pub fn may_be_one<R: Files>(rt: &R, a: &str, b: &str) -> bool {
 /// Opens a regular file to be read; `None` if that cannot be done.
 pub fn open_regular<R: Files>(rt: &R, path: &str) -> Option<R::File> {
     Look::at(rt, path).open(rt, path)
+}
+
+/// Waits until the system has stored what was written to a regular file: a disk that is full, or a file server that
+/// lost it, may tell it only now. A file system that cannot wait for that tells nothing.
+pub fn settle<F: OpenFile>(file: &F) -> Result<(), DeviceFault>
+    ensures { IfErr result (λ fault. fault ≡ DeviceFault.Failed) }
+{
+    match file.metadata() {
+        Ok(metadata) => {
+            if metadata.is_file() {
+                settle_regular(file)
+            } else {
+                Ok(())
+            }
+        }
+        Err(_) => Err(DeviceFault::Failed),
+    }
+}
+
+/// The same of what is known to be a regular file.
+pub fn settle_regular<F: OpenFile>(file: &F) -> Result<(), DeviceFault>
+    ensures { IfErr result (λ fault. fault ≡ DeviceFault.Failed) }
+{
+    match file.sync_data() {
+        Ok(()) => Ok(()),
+        Err(error) => match error.kind() {
+            ErrorKind::InvalidInput | ErrorKind::Unsupported => Ok(()),
+            _ => Err(DeviceFault::Failed),
+        },
+    }
 }

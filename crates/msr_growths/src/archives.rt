@@ -1,7 +1,7 @@
 //! Calls on names and totals of an archive.
 
 use msr_sds::SdsName;
-use msr_totals::Totals;
+use msr_folders::Totals;
 use std::io;
 
 /// `SdsName::path_text`.

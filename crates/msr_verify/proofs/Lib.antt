@@ -1,2 +1,3 @@
 pub mod EntriesFound
 pub mod Judged
+pub mod Repacks

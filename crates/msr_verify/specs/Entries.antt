@@ -3,9 +3,10 @@ use Rattle.std.specs.Prelude.{◌≡◌, ℕ, ⊤, Bool, true, false, List, [], 
 use Rattle.std.specs.List.{count_by}
 use Rattle.msr_sds.specs.SdsPath.{SdsPath, ReadsAsDay}
 use Rattle.msr_sds.specs.declared.SdsFault.{SdsFault}
-use Rattle.msr_totals.specs.Totals.{saturated}
+use Rattle.msr_folders.specs.Totals.{saturated}
 use Rattle.msr_folders.specs.Days.{IsNoDay}
 use Rattle.msr_folders.specs.Paths.{shown_path}
+use Rattle.msr_folders.specs.Visits as visits
 use Rattle.msr_verify.specs.Day.{DayAnswers}
 use Rattle.msr_verify.specs.declared.judging.Finding.{Finding}
 use Rattle.msr_verify.specs.declared.judging.Finding.TheVariants as finding
@@ -95,11 +96,12 @@ IsLineOf path Orphan line = line ≡ codes "orphan " ++ (shown_path path ++ code
 IsLineOf path (Skipped fault) line = IsLineWithReason (codes "skipped ") path line
 IsLineOf path (Refused refusal) line = IsLineWithReason (codes "refused ") path line
 
+abbrev pub IsEntryLine : Entry → List ℕ → Type 0
+IsEntryLine entry line = IsLineOf entry.path entry.judgement line
+
 -- the lines of entries, one after another
 abbrev pub AreLines : List Entry → List ℕ → Type 0
-AreLines [] lines = lines ≡ []
-AreLines (entry ∷ entries) lines = (line : List ℕ) × (rest : List ℕ)
-    × IsLineOf entry.path entry.judgement line × AreLines entries rest × (lines ≡ line ++ rest)
+AreLines entries lines = visits.AreLines IsEntryLine entries lines
 
 abbrev pub is_verified : Judgement → Bool
 is_verified Verified = true

@@ -1,3 +1,4 @@
 pub mod Day
 pub mod Entries
+pub mod Laws
 pub mod Walk

@@ -2,12 +2,14 @@
 use Rattle.std.specs.Prelude.{◌≡◌, ℕ, ◌<◌, Bool, true, false, List, [], ◌++◌, codes, Result, Ok, Err}
 use Rattle.std.specs.Fmt.{decimal}
 use Rattle.std.specs.List.{AllByRecursion}
-use Rattle.msr_devices.specs.Device.{Device, IsCalm, Takes}
+use Rattle.msr_devices.specs.Device.{Device, Takes}
+use Rattle.msr_devices.specs.declared.fault.DeviceFault.{DeviceFault}
+use Rattle.msr_folders.specs.Visits as visits
+use Rattle.msr_folders.specs.Visits.{StopsAt}
 use Rattle.msr_report.specs.Writing.{TakesPrefix}
-use Rattle.msr_tool.specs.Writing.{StopsSink}
 use Rattle.msr_tool.specs.declared.fault.ToolFault.{ToolFault}
 use Rattle.msr_tool.specs.declared.fault.ToolFault.TheVariants.{Input, Report, Read, Write, Memory}
-use Rattle.msr_verify.specs.Entries.{Entry, IsEntry, AreLines, IsVerifyTally, counted, is_unverified, tally_of}
+use Rattle.msr_verify.specs.Entries.{Entry, IsEntry, IsEntryLine, AreLines, IsVerifyTally, counted, is_unverified, tally_of}
 use Rattle.msr_verify.specs.declared.tally.VerifyTally.{VerifyTally}
 
 -- the counts at the end of the last line
@@ -29,31 +31,20 @@ abbrev pub summary : List Entry → List ℕ
 summary entries = counts_line (tally_of entries)
 
 -- a prefix of a text was printed when the walk stops: the sink failed, or else memory was refused
-abbrev pub StopsPrefix : Device → Device → List ℕ → ToolFault → Type 0
-StopsPrefix out0 out text fault = StopsSink (TakesPrefix out0 out text) (TakesPrefix out0 out text) out0 out fault
+abbrev pub StopsPrefix : Device → Device → List ℕ → DeviceFault → Type 0
+StopsPrefix out0 out text fault = StopsAt (TakesPrefix out0 out text) out0 out fault
 
--- Some more entries were told: their lines were printed, and they are counted.
-pub record Tells (out0 out : Device) (tally0 tally : VerifyTally) : Type 0 where
-  pub entries : List Entry
-  pub lines : List ℕ
-  pub are_entries : AllByRecursion IsEntry entries
-  pub are_lines : AreLines entries lines
-  pub prints : Takes out0 out lines
-  pub calm : IsCalm out0 out
-  pub counts : (before : List Entry) → IsVerifyTally before tally0 → IsVerifyTally (before ++ entries) tally
+-- some more entries were told: their lines were printed, and they are counted
+abbrev pub Tells : Device → Device → VerifyTally → VerifyTally → Type 0
+Tells out0 out tally0 tally = visits.Tells IsEntry IsEntryLine IsVerifyTally out0 out tally0 tally
 
--- A prefix of the lines of some more entries was printed.
-pub record TellsInPart (out0 out : Device) : Type 0 where
-  pub entries : List Entry
-  pub printed : List ℕ
-  pub rest : List ℕ
-  pub are_entries : AllByRecursion IsEntry entries
-  pub are_lines : AreLines entries (printed ++ rest)
-  pub prints : Takes out0 out printed
+-- a prefix of the lines of some more entries was printed
+abbrev pub TellsInPart : Device → Device → Type 0
+TellsInPart out0 out = visits.TellsInPart IsEntry IsEntryLine out0 out
 
--- a prefix of the lines of some more entries was printed when the walk stopped
-abbrev pub StopsTelling : Device → Device → ToolFault → Type 0
-StopsTelling out0 out fault = StopsSink (TellsInPart out0 out) (TellsInPart out0 out) out0 out fault
+-- that was printed when the walk stopped
+abbrev pub StopsTelling : Device → Device → DeviceFault → Type 0
+StopsTelling out0 out fault = StopsAt (TellsInPart out0 out) out0 out fault
 
 -- The text of a whole walk: a line for each of some entries, and then what these very entries sum up to.
 pub record IsWalk (text : List ℕ) (entries : List Entry) : Type 0 where

@@ -6,7 +6,9 @@ mod day;
 mod folders;
 mod judgement;
 mod judging;
+mod laws;
 mod tally;
 
 pub use folders::{RepackedArchive, verify};
 pub use judging::{Finding, VerifyFault, verify_day};
+pub use laws::{repacked_is_same, same_inputs_have_one_output};

@@ -6,8 +6,7 @@ ghost use Rattle.msr_verify.specs.Entries.{Entry, IsVerifyTally};
 ghost use Rattle.msr_verify.specs.Walk.{StopsPrefix, counts_line, others_told};
 
 use crate::judgement::Judgement;
-use msr_devices::write_all;
-use msr_tool::{Sink, ToolFault};
+use msr_devices::{DeviceFault, Sink, write_all};
 use std::alloc::{AllocError, Global};
 
 /// How many entries had each judgement, and how many were neither verified nor skipped.
@@ -82,7 +81,7 @@ impl VerifyTally {
     }
 
     /// Writes the last line.
-    pub(crate) fn write<O: Sink>(self, alloc: Global, out: &mut O) -> Result<(), ToolFault>
+    pub(crate) fn write<O: Sink>(self, alloc: Global, out: &mut O) -> Result<(), DeviceFault>
         requires { CanCountCall (O.device out.old) }
         ensures all { OnOk result (Takes (O.device out.old) (O.device out.new) (counts_line self)) }
         ensures calm { OnOk result (IsCalm (O.device out.old) (O.device out.new)) }

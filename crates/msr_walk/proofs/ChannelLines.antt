@@ -11,7 +11,7 @@ use Rattle.msr_devices.proofs.Chaining.{takes_append}
 use Rattle.msr_days.specs.declared.DayOptions.{DayOptions}
 use Rattle.msr_report.specs.Writing.{TakesPrefix}
 use Rattle.msr_walk.specs.Entries.{Entry, IsTally}
-use Rattle.msr_totals.specs.declared.Total.{Total}
+use Rattle.msr_folders.specs.declared.totals.Total.{Total}
 use Rattle.msr_walk.specs.Walk.{summary, tally_lines, with_bytes}
 use Rattle.msr_walk.specs.declared.tally.Tally.{Tally}
 

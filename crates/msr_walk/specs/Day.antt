@@ -19,7 +19,7 @@ use Rattle.msr_verdict.specs.declared.verdict.Verdict.{Verdict}
 use Rattle.msr_verdict.specs.declared.verdict.Verdict.TheVariants.{Least}
 use Rattle.msr_kinds.specs.Lengths.{bytes_of}
 use Rattle.msr_kinds.specs.declared.lengths.Length.{Length}
-use Rattle.msr_totals.specs.Totals.{saturated}
+use Rattle.msr_folders.specs.Totals.{saturated}
 use Rattle.msr_walk.specs.declared.outcome.Outcome.{Outcome}
 use Rattle.msr_walk.specs.declared.outcome.Outcome.TheVariants.{Done, Same, Skipped, Refused, NotShown as Unshown, Differs as Different, Larger as Grown}
 use Rattle.msr_walk.specs.declared.outcome.DayFault.{DayFault}

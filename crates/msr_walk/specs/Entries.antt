@@ -3,12 +3,13 @@ use Rattle.std.specs.Prelude.{◌≡◌, ◌+◌, ℕ, ⊤, Bool, true, false, L
 use Rattle.std.specs.Fmt.{decimal}
 use Rattle.std.specs.List.{count_by, flat_map, sum_by}
 use Rattle.msr_sds.specs.SdsPath.{SdsPath, ReadsAsDay}
-use Rattle.msr_totals.specs.Totals.{Add, saturated, totals_of}
-use Rattle.msr_totals.specs.declared.Total.{Total}
+use Rattle.msr_folders.specs.Totals.{Add, saturated, totals_of}
+use Rattle.msr_folders.specs.declared.totals.Total.{Total}
 use Rattle.msr_days.specs.declared.DayOptions.{DayOptions}
 use Rattle.msr_walk.specs.Day.{IsOutcomeOfDay}
 use Rattle.msr_folders.specs.Days.{IsNoDay}
 use Rattle.msr_folders.specs.Paths.{shown_path}
+use Rattle.msr_folders.specs.Visits as visits
 use Rattle.msr_walk.specs.Paths.{channel_of}
 use Rattle.msr_walk.specs.declared.outcome.Outcome.{Outcome}
 use Rattle.msr_walk.specs.declared.outcome.Outcome.TheVariants.{Done, Same, Skipped, Refused, NotShown as Unshown, Differs as Different, Larger as Grown}
@@ -76,11 +77,12 @@ IsLineOf bytes path Unshown line = line ≡ codes "notshown " ++ (shown_path pat
 IsLineOf bytes path Different line = line ≡ codes "differs " ++ (shown_path path ++ codes "\n")
 IsLineOf bytes path (Grown repacked) line = line ≡ codes "larger " ++ (shown_path path ++ counts_told bytes repacked)
 
+abbrev pub IsEntryLine : (bytes : Bool) → Entry → List ℕ → Type 0
+IsEntryLine bytes entry line = IsLineOf bytes entry.path entry.outcome line
+
 -- a line for each entry, in order
 abbrev pub AreLines : (bytes : Bool) → List Entry → List ℕ → Type 0
-AreLines bytes [] lines = lines ≡ []
-AreLines bytes (entry ∷ entries) lines = (line rest : List ℕ)
-    × IsLineOf bytes entry.path entry.outcome line × AreLines bytes entries rest × (lines ≡ line ++ rest)
+AreLines bytes entries lines = visits.AreLines (IsEntryLine bytes) entries lines
 
 -- done in this walk or an earlier one
 abbrev pub is_done : Outcome → Bool

@@ -2,14 +2,16 @@
 use Rattle.std.specs.Prelude.{◌≡◌, ℕ, ◌<◌, Bool, true, false, List, [], ◌++◌, map, codes, Result, Ok, Err}
 use Rattle.std.specs.Fmt.{decimal}
 use Rattle.std.specs.List.{AllByRecursion, flat_map, zip}
-use Rattle.msr_devices.specs.Device.{Device, IsCalm, Takes}
+use Rattle.msr_devices.specs.Device.{Device, Takes}
+use Rattle.msr_devices.specs.declared.fault.DeviceFault.{DeviceFault}
+use Rattle.msr_folders.specs.Visits as visits
+use Rattle.msr_folders.specs.Visits.{StopsAt}
 use Rattle.msr_report.specs.Writing.{TakesPrefix}
-use Rattle.msr_totals.specs.declared.Total.{Total}
-use Rattle.msr_tool.specs.Writing.{StopsSink}
+use Rattle.msr_folders.specs.declared.totals.Total.{Total}
 use Rattle.msr_tool.specs.declared.fault.ToolFault.{ToolFault}
 use Rattle.msr_tool.specs.declared.fault.ToolFault.TheVariants.{Input, Report, Read, Write, Memory}
 use Rattle.msr_days.specs.declared.DayOptions.{DayOptions}
-use Rattle.msr_walk.specs.Entries.{Entry, IsEntry, AreLines, IsTally, bytes_of_channels, bytes_told, channels_of, counted, is_done, is_larger, is_refused, is_skipped, summed}
+use Rattle.msr_walk.specs.Entries.{Entry, IsEntry, IsEntryLine, AreLines, IsTally, bytes_of_channels, bytes_told, channels_of, counted, is_done, is_larger, is_refused, is_skipped, summed}
 use Rattle.msr_walk.specs.declared.tally.Tally.{Tally}
 
 -- each channel's name with the totals of its records, and those of its bytes
@@ -60,31 +62,21 @@ abbrev pub summary : DayOptions → List Entry → List ℕ
 summary asked entries = tally_lines asked (tally_of entries)
 
 -- a prefix of a text was printed when the walk stops: the sink failed, or else memory was refused
-abbrev pub StopsPrefix : Device → Device → List ℕ → ToolFault → Type 0
-StopsPrefix out0 out text fault = StopsSink (TakesPrefix out0 out text) (TakesPrefix out0 out text) out0 out fault
+abbrev pub StopsPrefix : Device → Device → List ℕ → DeviceFault → Type 0
+StopsPrefix out0 out text fault = StopsAt (TakesPrefix out0 out text) out0 out fault
 
--- Some more entries were told: their lines were printed, and they are counted.
-pub record Tells (asked : DayOptions) (out0 out : Device) (tally0 tally : Tally) : Type 0 where
-  pub entries : List Entry
-  pub lines : List ℕ
-  pub are_entries : AllByRecursion (IsEntry asked) entries
-  pub are_lines : AreLines asked.bytes entries lines
-  pub prints : Takes out0 out lines
-  pub calm : IsCalm out0 out
-  pub counts : (before : List Entry) → IsTally before tally0 → IsTally (before ++ entries) tally
+-- some more entries were told: their lines were printed, and they are counted
+abbrev pub Tells : DayOptions → Device → Device → Tally → Tally → Type 0
+Tells asked out0 out tally0 tally =
+    visits.Tells (IsEntry asked) (IsEntryLine asked.bytes) IsTally out0 out tally0 tally
 
--- A prefix of the lines of some more entries was printed.
-pub record TellsInPart (asked : DayOptions) (out0 out : Device) : Type 0 where
-  pub entries : List Entry
-  pub printed : List ℕ
-  pub rest : List ℕ
-  pub are_entries : AllByRecursion (IsEntry asked) entries
-  pub are_lines : AreLines asked.bytes entries (printed ++ rest)
-  pub prints : Takes out0 out printed
+-- a prefix of the lines of some more entries was printed
+abbrev pub TellsInPart : DayOptions → Device → Device → Type 0
+TellsInPart asked out0 out = visits.TellsInPart (IsEntry asked) (IsEntryLine asked.bytes) out0 out
 
--- a prefix of the lines of some more entries was printed when the walk stopped
-abbrev pub StopsTelling : DayOptions → Device → Device → ToolFault → Type 0
-StopsTelling asked out0 out fault = StopsSink (TellsInPart asked out0 out) (TellsInPart asked out0 out) out0 out fault
+-- that was printed when the walk stopped
+abbrev pub StopsTelling : DayOptions → Device → Device → DeviceFault → Type 0
+StopsTelling asked out0 out fault = StopsAt (TellsInPart asked out0 out) out0 out fault
 
 -- The text of a whole walk: a line for each of some entries, and then what these very entries sum up to.
 pub record IsWalk (asked : DayOptions) (text : List ℕ) (entries : List Entry) : Type 0 where

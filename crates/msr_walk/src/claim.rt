@@ -146,6 +146,14 @@ where
     }
 }
 
+/// No file, if that is why none was opened.
+fn none_if_gone<F>(kind: ErrorKind) -> Result<Option<F>, ClaimFault> {
+    match kind {
+        ErrorKind::NotFound => Ok(None),
+        _ => Err(ClaimFault::CannotOpen),
+    }
+}
+
 /// The file of a claim that was left, or that another walk has; `None` if it is gone. What is no regular file is no
 /// claim, and is not opened.
 fn open_claim<R: Files>(rt: &R, path: &str) -> Result<Option<R::File>, ClaimFault> {
@@ -155,17 +163,11 @@ fn open_claim<R: Files>(rt: &R, path: &str) -> Result<Option<R::File>, ClaimFaul
                 return Err(ClaimFault::CannotOpen);
             }
         }
-        Err(error) => match error.kind() {
-            ErrorKind::NotFound => return Ok(None),
-            _ => return Err(ClaimFault::CannotOpen),
-        },
+        Err(error) => return none_if_gone(error.kind()),
     }
     match OpenOptions::new().write(true).open(rt, path) {
         Ok(file) => Ok(Some(file)),
-        Err(error) => match error.kind() {
-            ErrorKind::NotFound => Ok(None),
-            _ => Err(ClaimFault::CannotOpen),
-        },
+        Err(error) => none_if_gone(error.kind()),
     }
 }
 

@@ -4,7 +4,7 @@ ghost use Rattle.msr_walk.specs.Day.{IsComparedIfAsked, IsDayOutcome, IsKept, Is
 ghost use Rattle.msr_walk.specs.Files.{day_files, day_names};
 
 use crate::claim::{Claim, ClaimFault, LockFile, claim_day};
-use crate::files::{NewFile, open_found, open_regular, settle_regular};
+use crate::files::NewFile;
 use crate::folders::Archive;
 use crate::outcome::{DayFault, Outcome, Repacked};
 use crate::repacking::{
@@ -12,7 +12,7 @@ use crate::repacking::{
 };
 use crate::stamp::Stamp;
 use msr_days::DayOptions;
-use msr_folders::{Look, ended, join};
+use msr_folders::{Look, ended, join, open_regular, settle_regular};
 use msr_tool::{FromRead, FromWrite, Length};
 use std::alloc::{AllocError, Global};
 use std::fs;
@@ -93,10 +93,10 @@ impl DayFiles {
         if !check {
             return Ok(());
         }
-        let Ok(records) = open_regular(rt, self.records.part()) else {
+        let Some(records) = open_regular(rt, self.records.part()) else {
             return Err(DayFault::CannotOpen);
         };
-        let Ok(report) = open_regular(rt, self.report.part()) else {
+        let Some(report) = open_regular(rt, self.report.part()) else {
             return Err(DayFault::CannotOpen);
         };
         require_shown(
@@ -208,10 +208,10 @@ impl Day {
         if !asked.check {
             return Ok(());
         }
-        let Ok(input) = open_regular(rt, self.input.as_str()) else {
+        let Some(input) = open_regular(rt, self.input.as_str()) else {
             return Err(DayFault::CannotOpen);
         };
-        let Ok(records) = open_regular(rt, files.records.part()) else {
+        let Some(records) = open_regular(rt, files.records.part()) else {
             return Err(DayFault::CannotOpen);
         };
         require_same(
@@ -234,7 +234,9 @@ impl Day {
         ensures { IsRepackedDay asked.now result }
     {
         let files = &claimed.files;
-        let input = open_found(rt, self.input.as_str(), claimed.input)?;
+        let Some(input) = claimed.input.open(rt, self.input.as_str()) else {
+            return Err(DayFault::CannotOpen);
+        };
         let mut records = files.records.create(rt)?;
         let mut report = files.report.create(rt)?;
         let repacked = repack_day_of(
@@ -446,7 +448,7 @@ impl Day {
         if !days.same_length {
             return Ok(length);
         }
-        let Ok(input) = open_regular(rt, self.input.as_str()) else {
+        let Some(input) = open_regular(rt, self.input.as_str()) else {
             return Ok(length);
         };
         let own = first_length(alloc, &mut FromRead::new(input))?;

@@ -3,61 +3,13 @@ ghost use Rattle.std.specs.Prelude.{◌≡◌, IfErr, IfOk};
 ghost use Rattle.msr_walk.specs.Files.{new_file};
 
 use crate::outcome::DayFault;
-use msr_folders::{Look, ended, folder_of, is_gone};
-use msr_tool::ToolFault;
+use msr_folders::{ended, folder_of, is_gone};
 use std::alloc::{AllocError, Global};
-use std::fs::{OpenFile, OpenOptions};
+use std::fs::OpenOptions;
 use std::io::ErrorKind;
 use std::marker::Model;
 use std::rt::Files;
 use std::{fs, io};
-
-/// Waits until the system has stored what was written to a regular file: a disk that is full, or a file server that
-/// lost it, may tell it only now. A file system that cannot wait for that tells nothing.
-pub fn settle<F: OpenFile>(file: &F) -> Result<(), ToolFault>
-    ensures { IfErr result (λ fault. fault ≡ ToolFault.Write) }
-{
-    match file.metadata() {
-        Ok(metadata) => {
-            if metadata.is_file() {
-                settle_regular(file)
-            } else {
-                Ok(())
-            }
-        }
-        Err(_) => Err(ToolFault::Write),
-    }
-}
-
-/// The same of what is a regular file, since this walk made it.
-pub(crate) fn settle_regular<F: OpenFile>(file: &F) -> Result<(), ToolFault>
-    ensures { IfErr result (λ fault. fault ≡ ToolFault.Write) }
-{
-    match file.sync_data() {
-        Ok(()) => Ok(()),
-        Err(error) => match error.kind() {
-            ErrorKind::InvalidInput | ErrorKind::Unsupported => Ok(()),
-            _ => Err(ToolFault::Write),
-        },
-    }
-}
-
-/// Opens a regular file to be read.
-pub(crate) fn open_regular<R: Files>(rt: &R, path: &str) -> Result<R::File, DayFault>
-    ensures { IfErr result (λ why. why ≡ DayFault.CannotOpen) }
-{
-    open_found(rt, path, &Look::at(rt, path))
-}
-
-/// Opens what was found under that name to be read, if it is a regular file.
-pub(crate) fn open_found<R: Files>(rt: &R, path: &str, look: &Look) -> Result<R::File, DayFault>
-    ensures { IfErr result (λ why. why ≡ DayFault.CannotOpen) }
-{
-    match look.open(rt, path) {
-        Some(file) => Ok(file),
-        None => Err(DayFault::CannotOpen),
-    }
-}
 
 /// Makes a file in a folder that is there, if nothing has its name, not even a link.
 fn create_in_folder<R: Files>(rt: &R, path: &str) -> io::Result<R::File> {

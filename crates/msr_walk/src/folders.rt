@@ -3,7 +3,8 @@ ghost use Rattle.std.specs.Prelude.{◌↔◌, IfErr, IfOk, IsErrOf, OnOk};
 ghost use Rattle.msr_devices.specs.Device.{CanCountCall, HasFailed};
 ghost use Rattle.msr_sds.specs.SdsPath.{ReadsAsDay};
 ghost use Rattle.msr_walk.specs.Day.{IsOutcomeOfDay};
-ghost use Rattle.msr_walk.specs.Entries.{IsOutcomeOf};
+ghost use Rattle.msr_folders.proofs.VisitLemmas.{visitor_laws};
+ghost use Rattle.msr_walk.specs.Entries.{IsEntry, IsEntryLine, IsOutcomeOf, IsTally};
 ghost use Rattle.msr_walk.specs.Walk.{StopsTelling, Tells, Walks};
 
 use crate::claim::LockFile;
@@ -14,10 +15,10 @@ use crate::places::stands_apart;
 use crate::summary::write_summary;
 use crate::tally::Tally;
 use msr_days::DayOptions;
-use msr_devices::write_all;
-use msr_folders::{FileKind, ListFault, entry_path, join, kind_of, names_in};
-use msr_sds::{FOLDERS, SdsName, levels_below};
-use msr_tool::{Sink, ToolFault};
+use msr_devices::{DeviceFault, Sink, write_all};
+use msr_folders::{FileKind, FolderWalk, Visitor, visit_folders};
+use msr_sds::SdsName;
+use msr_tool::ToolFault;
 use std::alloc::{AllocError, Global};
 use std::rt::Files;
 
@@ -36,7 +37,7 @@ pub struct Archive<'a> {
     pub days: DayOptions,
 }
 
-/// What the walk needs: the system's files, memory and what is asked for.
+/// What a day needs: the system's files, memory and what is asked for.
 #[derive(Drop)]
 struct Walker<'a, R: Files> {
     rt: &'a R,
@@ -52,7 +53,7 @@ fn tell<R: Files, O: Sink>(
     outcome: Outcome,
     out: &mut O,
     tally: &mut Tally,
-) -> Result<(), ToolFault>
+) -> Result<(), DeviceFault>
     requires { CanCountCall (O.device out.old) }
     ensures told { IsOutcomeOf walker.now.archive.now.days path.now channel.now outcome →
         OnOk result (Tells walker.now.archive.now.days (O.device out.old) (O.device out.new) tally.old tally.new) }
@@ -90,7 +91,7 @@ fn tell_day<R: Files, O: Sink>(
     apart: bool,
     out: &mut O,
     tally: &mut Tally,
-) -> Result<(), ToolFault>
+) -> Result<(), DeviceFault>
 where
     R::File: LockFile,
     requires day { ReadsAsDay path.now name.now }
@@ -105,134 +106,56 @@ where
     tell(walker, path, channel.as_str(), outcome, out, tally)
 }
 
-/// Handles an entry that is no folder of the walk.
-fn tell_file<R: Files, O: Sink>(
-    walker: &Walker<'_, R>,
-    path: &str,
-    apart: bool,
-    out: &mut O,
-    tally: &mut Tally,
-) -> Result<(), ToolFault>
+impl<R: Files> Visitor for Walker<'_, R>
 where
     R::File: LockFile,
-    requires { CanCountCall (O.device out.old) }
-    ensures told { OnOk result (Tells walker.now.archive.now.days (O.device out.old)
-        (O.device out.new) tally.old tally.new) }
-    ensures stops { IfErr result (StopsTelling walker.now.archive.now.days (O.device out.old)
-        (O.device out.new)) }
 {
-    match SdsName::parse(path) {
-        Ok(name) => tell_day(walker, path, &name, apart, out, tally),
-        Err(fault) => tell(walker, path, "", Outcome::Skipped(fault), out, tally),
+    type Tally = Tally;
+
+    /// Whether what is made of the days of the folder stands outside the archive.
+    type Folder = bool;
+
+    ghost tells = { λ walker. Tells walker.archive.now.days };
+
+    ghost stops = { λ walker. StopsTelling walker.archive.now.days };
+
+    ghost laws = { visitor_laws (λ walker. IsEntry walker.archive.now.days)
+        (λ walker. IsEntryLine walker.archive.now.days.bytes) IsTally };
+
+    fn enter_folder(&self, folder: &str, levels: u8) -> Result<bool, AllocError> {
+        // No folder above has days.
+        Ok(0 < levels || stands_apart(self.rt, self.alloc, self.archive, folder)?)
     }
-}
 
-/// Handles an entry that is not walked.
-fn tell_entry<R: Files, O: Sink>(
-    walker: &Walker<'_, R>,
-    path: &str,
-    kind: FileKind,
-    apart: bool,
-    out: &mut O,
-    tally: &mut Tally,
-) -> Result<(), ToolFault>
-where
-    R::File: LockFile,
-    requires { CanCountCall (O.device out.old) }
-    ensures told { OnOk result (Tells walker.now.archive.now.days (O.device out.old)
-        (O.device out.new) tally.old tally.new) }
-    ensures stops { IfErr result (StopsTelling walker.now.archive.now.days (O.device out.old)
-        (O.device out.new)) }
-{
-    if kind == FileKind::Gone {
-        let refused = Outcome::Refused(DayFault::Gone);
-        return tell(walker, path, "", refused, out, tally);
-    }
-    tell_file(walker, path, apart, out, tally)
-}
-
-/// Tells that a folder has no list.
-fn tell_unlisted<R: Files, O: Sink>(
-    walker: &Walker<'_, R>,
-    folder: &str,
-    out: &mut O,
-    tally: &mut Tally,
-) -> Result<(), ToolFault>
-    requires { CanCountCall (O.device out.old) }
-    ensures told { OnOk result (Tells walker.now.archive.now.days (O.device out.old)
-        (O.device out.new) tally.old tally.new) }
-    ensures stops { IfErr result (StopsTelling walker.now.archive.now.days (O.device out.old)
-        (O.device out.new)) }
-{
-    let path = if folder.is_empty() { "." } else { folder };
-    let refused = Outcome::Refused(DayFault::Listing);
-    tell(walker, path, "", refused, out, tally)
-}
-
-/// Tells of the entries of the folder with that path from the archive's own, and of folders up to `levels` below it.
-fn walk_folder<R: Files, O: Sink>(
-    walker: &Walker<'_, R>,
-    folder: &str,
-    levels: u8,
-    out: &mut O,
-    tally: &mut Tally,
-) -> Result<(), ToolFault>
-where
-    R::File: LockFile,
-    requires { CanCountCall (O.device out.old) }
-    ensures told { OnOk result (Tells walker.now.archive.now.days (O.device out.old)
-        (O.device out.new) tally.old tally.new) }
-    ensures stops { IfErr result (StopsTelling walker.now.archive.now.days (O.device out.old)
-        (O.device out.new)) }
-{
-    let alloc = walker.alloc;
-    let place = join(alloc, walker.archive.root, folder)?;
-    let names = match names_in(walker.rt, alloc, place.as_str()) {
-        Ok(names) => names,
-        Err(ListFault::Memory) => return Err(ToolFault::Memory),
-        Err(ListFault::Listing) => return tell_unlisted(walker, folder, out, tally),
-    };
-    // No folder above has days.
-    let apart = 0 < levels || stands_apart(walker.rt, alloc, walker.archive, folder)?;
-    for name in &names {
-        let path = entry_path(alloc, folder, name.as_str())?;
-        let place = join(alloc, walker.archive.root, path.as_str())?;
-        let kind = if levels == 0 {
-            FileKind::Other
-        } else {
-            kind_of(walker.rt, place.as_str())
-        };
-        if 0 < levels && kind == FileKind::Folder {
-            walk_folder(walker, path.as_str(), levels - 1, out, tally)?;
-        } else {
-            tell_entry(walker, path.as_str(), kind, apart, out, tally)?;
+    fn visit_entry<O: Sink>(
+        &self,
+        apart: &bool,
+        path: &str,
+        kind: FileKind,
+        out: &mut O,
+        tally: &mut Tally,
+    ) -> Result<(), DeviceFault> {
+        if kind == FileKind::Gone {
+            let refused = Outcome::Refused(DayFault::Gone);
+            return tell(self, path, "", refused, out, tally);
+        }
+        match SdsName::parse(path) {
+            Ok(name) => tell_day(self, path, &name, *apart, out, tally),
+            Err(fault) => tell(self, path, "", Outcome::Skipped(fault), out, tally),
         }
     }
-    Ok(())
-}
 
-/// The whole archive, or the folders of it that are asked for, one after another.
-fn walk_folders<R: Files, O: Sink>(
-    walker: &Walker<'_, R>,
-    out: &mut O,
-    tally: &mut Tally,
-) -> Result<(), ToolFault>
-where
-    R::File: LockFile,
-    requires { CanCountCall (O.device out.old) }
-    ensures told { OnOk result (Tells walker.now.archive.now.days (O.device out.old)
-        (O.device out.new) tally.old tally.new) }
-    ensures stops { IfErr result (StopsTelling walker.now.archive.now.days (O.device out.old)
-        (O.device out.new)) }
-{
-    if walker.archive.below.is_empty() {
-        return walk_folder(walker, "", FOLDERS, out, tally);
+    fn visit_unlisted<O: Sink>(
+        &self,
+        folder: &str,
+        _place: &str,
+        out: &mut O,
+        tally: &mut Tally,
+    ) -> Result<(), DeviceFault> {
+        let path = if folder.is_empty() { "." } else { folder };
+        let refused = Outcome::Refused(DayFault::Listing);
+        tell(self, path, "", refused, out, tally)
     }
-    for folder in walker.archive.below {
-        let levels = levels_below(folder).unwrap_or(0);
-        walk_folder(walker, folder, levels, out, tally)?;
-    }
-    Ok(())
 }
 
 /// Walks the archive, or the folders of it that are asked for, and tells whether an entry was refused.
@@ -251,7 +174,15 @@ where
     ensures write { IsErrOf result ToolFault.Write ↔ HasFailed (O.device out.old) (O.device out.new) }
 {
     let mut tally = Tally::new(alloc);
-    walk_folders(&Walker { rt, alloc, archive }, out, &mut tally)?;
+    let walker = Walker { rt, alloc, archive };
+    let walk = FolderWalk {
+        rt,
+        alloc,
+        root: archive.root,
+        below: archive.below,
+        visitor: &walker,
+    };
+    visit_folders(&walk, out, &mut tally)?;
     write_summary(alloc, out, &archive.days, &tally)?;
     Ok(0 < tally.refused)
 }

@@ -15,5 +15,4 @@ mod summary;
 mod tally;
 
 pub use claim::{Lock, LockFile};
-pub use files::settle;
 pub use folders::{Archive, walk};

@@ -3,6 +3,7 @@ ghost use Rattle.std.specs.Prelude.{◌≡◌, IfOk};
 ghost use Rattle.std.specs.String.{string_bytes};
 ghost use Rattle.msr_walk.specs.Entries.{IsLineOf, bytes_told, counts_told};
 
+use msr_devices::DeviceFault;
 use msr_folders::shown_path;
 use msr_sds::SdsFault;
 use msr_tool::ToolFault;
@@ -46,6 +47,18 @@ impl From<ToolFault> for DayFault {
 
     fn from(fault: ToolFault) -> DayFault {
         DayFault::Tool(fault)
+    }
+}
+
+impl From<DeviceFault> for DayFault {
+    ghost use Rattle.std.specs.Prelude.{◌≡◌};
+    ghost use Rattle.msr_tool.specs.Fault.{fault_of_writing};
+    ghost use Rattle.msr_walk.specs.declared.outcome.DayFault.TheVariants.{Tool};
+
+    ghost from_gives = { λ fault why. why ≡ Tool (fault_of_writing fault) };
+
+    fn from(fault: DeviceFault) -> DayFault {
+        DayFault::Tool(fault.into())
     }
 }
 

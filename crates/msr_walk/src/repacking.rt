@@ -3,7 +3,7 @@ ghost use Rattle.std.specs.Prelude.{◌≡◌, ◌+◌, ◌*◌, IfSome};
 ghost use Rattle.msr_devices.specs.Device.{CanCountCall};
 ghost use Rattle.msr_options.specs.Choice.{size_of};
 ghost use Rattle.msr_report.specs.Proper.{IsProper, records_of};
-ghost use Rattle.msr_totals.specs.Totals.{saturated};
+ghost use Rattle.msr_folders.specs.Totals.{saturated};
 ghost use Rattle.msr_walk.specs.Day.{ComparesDay, IsReportKept, IsShown, RepacksDay, fault_of_comparing};
 
 use crate::outcome::{DayFault, Repacked};
@@ -39,6 +39,14 @@ pub(crate) fn bytes_of_records(records: u64, options: Options) -> u64
     records.saturating_mul(u64::from(options.length().bytes()))
 }
 
+/// How many bytes a source gave.
+fn bytes_given(answer: &io::Result<usize>) -> u64 {
+    match answer {
+        Ok(count) => *count as u64,
+        Err(_) => 0,
+    }
+}
+
 /// A source that counts the bytes that it gives.
 #[derive(Drop)]
 pub(crate) struct Counting<S> {
@@ -60,9 +68,7 @@ impl<S: Source> Source for Counting<S> {
 
     fn read(&mut self, buf: &mut [u8]) -> io::Result<usize> {
         let result = self.inner.read(buf);
-        if let Ok(count) = &result {
-            self.given = self.given.saturating_add(*count as u64);
-        }
+        self.given = self.given.saturating_add(bytes_given(&result));
         result
     }
 }

@@ -5,11 +5,11 @@ ghost use Rattle.msr_devices.specs.Device.{CanCountCall, Takes};
 ghost use Rattle.msr_walk.specs.Stamp.{IsNotPut, stamp_text};
 ghost use Rattle.msr_walk.specs.Walk.{StopsPrefix};
 
-use crate::files::{NewFile, settle_regular};
+use crate::files::NewFile;
 use crate::outcome::DayFault;
-use msr_devices::write_all;
-use msr_folders::Look;
-use msr_tool::{FromWrite, Sink, ToolFault};
+use msr_devices::{DeviceFault, Sink, write_all};
+use msr_folders::{Look, settle_regular};
+use msr_tool::FromWrite;
 use std::alloc::{AllocError, Global};
 use std::fs;
 use std::os::unix::fs::MetadataExt;
@@ -49,7 +49,7 @@ impl Stamp {
     }
 
     /// Writes its text.
-    fn write<O: Sink>(self, alloc: Global, out: &mut O) -> Result<(), ToolFault>
+    fn write<O: Sink>(self, alloc: Global, out: &mut O) -> Result<(), DeviceFault>
         requires { CanCountCall (O.device out.old) }
         ensures all { OnOk result (Takes (O.device out.old) (O.device out.new) (stamp_text self)) }
         ensures stops { IfErr result (StopsPrefix (O.device out.old) (O.device out.new) (stamp_text self)) }

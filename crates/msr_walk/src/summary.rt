@@ -10,9 +10,8 @@ ghost use Rattle.msr_walk.specs.Walk.{StopsPrefix, channel_line, counts_line, la
 use crate::outcome::bytes_told;
 use crate::tally::Tally;
 use msr_days::DayOptions;
-use msr_devices::write_all;
-use msr_tool::{Sink, ToolFault};
-use msr_totals::{Total, Totals};
+use msr_devices::{DeviceFault, Sink, write_all};
+use msr_folders::{Total, Totals};
 use std::alloc::{AllocError, Global};
 
 /// The line of a channel, with the totals of its records and of its bytes.
@@ -40,7 +39,7 @@ fn write_channels<O: Sink>(
     told: bool,
     totals: &Totals,
     bytes: &Totals,
-) -> Result<(), ToolFault>
+) -> Result<(), DeviceFault>
     requires { CanCountCall (O.device out.old) }
     ensures all { OnOk result (Takes (O.device out.old) (O.device out.new)
         (flat_map (channel_line told) (with_bytes totals.now bytes.now))) }
@@ -59,7 +58,7 @@ fn write_channels<O: Sink>(
         write_all(out, line.as_bytes())?;
     }
     // No memory holds `usize::MAX` channels.
-    Err(ToolFault::Memory)
+    Err(DeviceFault::Memory)
 }
 
 /// What the last line says of the days that did not get smaller: nothing, unless only those that do are kept.
@@ -87,7 +86,7 @@ pub(crate) fn write_summary<O: Sink>(
     out: &mut O,
     asked: &DayOptions,
     tally: &Tally,
-) -> Result<(), ToolFault>
+) -> Result<(), DeviceFault>
     requires { CanCountCall (O.device out.old) }
     ensures all { (entries : List Entry) → IsTally entries tally.now →
         OnOk result (Takes (O.device out.old) (O.device out.new) (summary asked.now entries)) }

@@ -3,7 +3,7 @@ ghost use Rattle.std.specs.Prelude.{◌≡◌, ◌++◌, ◌∷◌, [], List, On
 ghost use Rattle.msr_walk.specs.Entries.{AddsDone, Entry, IsTally};
 
 use crate::outcome::{Outcome, Repacked};
-use msr_totals::Totals;
+use msr_folders::Totals;
 use std::alloc::{AllocError, Global};
 
 /// How many entries had each outcome, and the totals of the channels with a file that was done, in this walk or an
@@ -25,6 +25,8 @@ impl Tally {
     pub(crate) fn new(alloc: Global) -> Tally
         ensures { IsTally [] result }
     {
+        let channels = Totals::new(alloc);
+        let bytes = Totals::new(alloc);
         Tally {
             done: 0,
             skipped: 0,
@@ -32,8 +34,8 @@ impl Tally {
             larger: 0,
             bytes_read: 0,
             bytes_written: 0,
-            channels: Totals::new(alloc),
-            bytes: Totals::new(alloc),
+            channels,
+            bytes,
         }
     }
 

@@ -1,31 +1,32 @@
 use Rattle.std.proofs.lemmas.Result.{err_from_is_err_and}
 use Rattle.std.proofs.Common.{refl}
-use Rattle.msr_devices.proofs.Chaining.{calm_same}
-use Rattle.msr_verify.proofs.EntriesFound.{part_none, part_line, tells_one}
+use Rattle.msr_folders.proofs.VisitLemmas.{part_line, tells_one}
+use Rattle.msr_verify.specs.Entries.{Entry, IsEntry, IsEntryLine, IsVerifyTally}
+use Rattle.msr_verify.proofs.EntriesFound.{none_told}
 use Rattle.msr_verify.proofs.folders.tell.Goals as goal
 
 pub returns-in_err-line-clause-stops : goal.returns-in_err-line-clause-stops
 returns-in_err-line-clause-stops g c =
     let p = err_from_is_err_and c.from_residual.result c.from_residual.ensures.1 in
-    let out = g.O.Sink.device c.args.out.now in
-    λ is. rw (p.1, p.2) (part_none out, (calm_same out).steady)
+    λ is. rw (p.1, p.2) (none_told (g.O.Sink.device c.args.out.now))
 
 pub returns-in_err-write_all-clause-stops : goal.returns-in_err-write_all-clause-stops
 returns-in_err-write_all-clause-stops g c =
     let p = err_from_is_err_and c.from_residual-in_err-write_all.result c.from_residual-in_err-write_all.ensures.1 in
     let part = c.in_err-write_all.ensures.part in
+    let entry : Entry = record { path = c.args.path.now; judgement = c.args.judgement } in
     λ is. rw (p.1, p.2) (
-      part_line (g.O.Sink.device c.args.out.now)
-          (g.O.Sink.device c.write_all.new.sink) part.0 c.args.path.now c.as_bytes.result.now
-          c.args.judgement is (rw c.as_bytes.ensures.value c.in_ok-line.ensures) part.1,
+      part_line IsEntry IsEntryLine (g.O.Sink.device c.args.out.now)
+          (g.O.Sink.device c.write_all.new.sink) part.0 entry c.as_bytes.result.now
+          is (rw c.as_bytes.ensures.value c.in_ok-line.ensures) part.1,
       c.in_err-write_all.ensures.failed,
     )
 
 pub returns-clause-told : goal.returns-clause-told
 returns-clause-told g c =
-    λ is. tells_one (g.O.Sink.device c.args.out.now)
-    (g.O.Sink.device c.write_all.new.sink) c.args.tally.now c.add.new.self c.args.path.now
-    c.as_bytes.result.now c.args.judgement is
+    let entry : Entry = record { path = c.args.path.now; judgement = c.args.judgement } in
+    λ is. tells_one IsEntry IsEntryLine IsVerifyTally (g.O.Sink.device c.args.out.now)
+    (g.O.Sink.device c.write_all.new.sink) c.args.tally.now c.add.new.self entry
+    c.as_bytes.result.now is
     (rw c.as_bytes.ensures.value c.in_ok-line.ensures) c.in_ok-write_all.ensures.all c.in_ok-write_all.ensures.calm
-    (λ before h. c.add.ensures before (record
-    { path = c.args.path.now; judgement = c.args.judgement }) h refl)
+    (λ before h. c.add.ensures before entry h refl)

@@ -1,19 +1,16 @@
 use Rattle.std.proofs.lemmas.Result.{err_from_is_err_and}
-use Rattle.msr_devices.proofs.Chaining.{calm_same}
-use Rattle.msr_verify.proofs.EntriesFound.{part_none, tells_none}
+use Rattle.msr_verify.proofs.EntriesFound.{none_told, tells_none}
 use Rattle.msr_verify.proofs.folders.tell_day.Goals as goal
 
 pub returns-in_err-judgement-clause-stops : goal.returns-in_err-judgement-clause-stops
 returns-in_err-judgement-clause-stops g c =
     let p = err_from_is_err_and c.from_residual.result c.from_residual.ensures.1 in
-    let out = g.O.Sink.device c.args.out.now in
-    λ name day. rw (p.1, p.2) (part_none out, (calm_same out).steady)
+    λ name day. rw (p.1, p.2) (none_told (g.O.Sink.device c.args.out.now))
 
 pub returns-in_err-file-clause-stops : goal.returns-in_err-file-clause-stops
 returns-in_err-file-clause-stops g c =
     let p = err_from_is_err_and c.from_residual-in_err-file.result c.from_residual-in_err-file.ensures.1 in
-    let out = g.O.Sink.device c.args.out.now in
-    λ name day. rw (p.1, p.2) (part_none out, (calm_same out).steady)
+    λ name day. rw (p.1, p.2) (none_told (g.O.Sink.device c.args.out.now))
 
 pub returns-clause-told : goal.returns-clause-told
 returns-clause-told g c = λ name day. tells_none (g.O.Sink.device c.args.out.now) c.args.tally.now

@@ -1,60 +1,60 @@
 use Rattle.std.proofs.Common.{[]}
 use Rattle.std.proofs.lemmas.Result.{err_from_is_err_and}
 use Rattle.msr_devices.proofs.Chaining.{calm_calm}
-use Rattle.msr_tool.proofs.StoppedRepacks.{ok_tells, write_tells_sink}
-use Rattle.msr_verify.proofs.EntriesFound.{stops_entries, stops_more, stops_summary, summary_is, tells_more, unverified_told, walk_ends, walk_stops}
+use Rattle.msr_tool.proofs.StoppedRepacks.{ok_tells}
+use Rattle.msr_verify.proofs.EntriesFound.{stop_tells, stops_entries, stops_more, stops_summary, summary_is, tells_more, unverified_told, walk_ends, walk_stops}
 use Rattle.msr_verify.proofs.folders.verify.Goals as goal
 
-pub returns-in_err-walk_folders-clause-answer : goal.returns-in_err-walk_folders-clause-answer
-returns-in_err-walk_folders-clause-answer g c =
+pub returns-in_err-walk_tree-clause-answer : goal.returns-in_err-walk_tree-clause-answer
+returns-in_err-walk_tree-clause-answer g c =
     let p = err_from_is_err_and c.from_residual.result c.from_residual.ensures.1 in
     let out0 = g.O.Sink.device c.args.out.now in
-    let out = g.O.Sink.device c.walk_folders.new.out in
-    let fault = c.in_err-walk_folders.field-0.0 in
-    rw (p.1, p.2) (walk_stops out0 out fault (stops_entries out0 out fault c.in_err-walk_folders.ensures.stops))
+    let out = g.O.Sink.device c.walk_tree.new.out in
+    let fault = c.in_err-walk_tree.field-0.0 in
+    rw (p.1, p.2) (walk_stops out0 out fault (stops_entries out0 out fault c.in_err-walk_tree.ensures.stops))
 
-pub returns-in_err-walk_folders-clause-write : goal.returns-in_err-walk_folders-clause-write
-returns-in_err-walk_folders-clause-write g c =
+pub returns-in_err-walk_tree-clause-write : goal.returns-in_err-walk_tree-clause-write
+returns-in_err-walk_tree-clause-write g c =
     let p = err_from_is_err_and c.from_residual.result c.from_residual.ensures.1 in
     let out0 = g.O.Sink.device c.args.out.now in
-    let out = g.O.Sink.device c.walk_folders.new.out in
-    rw (p.1, p.2) (write_tells_sink _ _ out0 out c.in_err-walk_folders.field-0.0 c.in_err-walk_folders.ensures.stops)
+    let out = g.O.Sink.device c.walk_tree.new.out in
+    rw (p.1, p.2) (stop_tells _ out0 out c.in_err-walk_tree.field-0.0 c.in_err-walk_tree.ensures.stops)
 
-pub returns-in_err-walk_folders-2-clause-answer : goal.returns-in_err-walk_folders-2-clause-answer
-returns-in_err-walk_folders-2-clause-answer g c =
-    let p = err_from_is_err_and c.from_residual-in_err-walk_folders-2.result
-    c.from_residual-in_err-walk_folders-2.ensures.1 in
+pub returns-in_err-walk_tree-2-clause-answer : goal.returns-in_err-walk_tree-2-clause-answer
+returns-in_err-walk_tree-2-clause-answer g c =
+    let p = err_from_is_err_and c.from_residual-in_err-walk_tree-2.result
+    c.from_residual-in_err-walk_tree-2.ensures.1 in
     let out0 = g.O.Sink.device c.args.out.now in
-    let out1 = g.O.Sink.device c.walk_folders.new.out in
-    let out = g.O.Sink.device c.walk_folders-2.new.out in
-    let fault = c.in_err-walk_folders-2.field-0.0 in
+    let out1 = g.O.Sink.device c.walk_tree.new.out in
+    let out = g.O.Sink.device c.walk_tree-2.new.out in
+    let fault = c.in_err-walk_tree-2.field-0.0 in
     rw (p.1, p.2) (walk_stops out0 out fault (stops_entries out0 out fault
-    (stops_more out0 out1 out c.new-tally.result c.walk_folders.new.tally fault c.in_ok-walk_folders.ensures.told
-    c.in_err-walk_folders-2.ensures.stops)))
+    (stops_more out0 out1 out c.new-tally.result c.walk_tree.new.tally fault c.in_ok-walk_tree.ensures.told
+    c.in_err-walk_tree-2.ensures.stops)))
 
-pub returns-in_err-walk_folders-2-clause-write : goal.returns-in_err-walk_folders-2-clause-write
-returns-in_err-walk_folders-2-clause-write g c =
-    let p = err_from_is_err_and c.from_residual-in_err-walk_folders-2.result
-    c.from_residual-in_err-walk_folders-2.ensures.1 in
+pub returns-in_err-walk_tree-2-clause-write : goal.returns-in_err-walk_tree-2-clause-write
+returns-in_err-walk_tree-2-clause-write g c =
+    let p = err_from_is_err_and c.from_residual-in_err-walk_tree-2.result
+    c.from_residual-in_err-walk_tree-2.ensures.1 in
     let out0 = g.O.Sink.device c.args.out.now in
-    let out1 = g.O.Sink.device c.walk_folders.new.out in
-    let out = g.O.Sink.device c.walk_folders-2.new.out in
-    let fault = c.in_err-walk_folders-2.field-0.0 in
-    rw (p.1, p.2) (write_tells_sink _ _ out0 out fault
-    (stops_more out0 out1 out c.new-tally.result c.walk_folders.new.tally fault c.in_ok-walk_folders.ensures.told
-    c.in_err-walk_folders-2.ensures.stops))
+    let out1 = g.O.Sink.device c.walk_tree.new.out in
+    let out = g.O.Sink.device c.walk_tree-2.new.out in
+    let fault = c.in_err-walk_tree-2.field-0.0 in
+    rw (p.1, p.2) (stop_tells _ out0 out fault
+    (stops_more out0 out1 out c.new-tally.result c.walk_tree.new.tally fault c.in_ok-walk_tree.ensures.told
+    c.in_err-walk_tree-2.ensures.stops))
 
 pub returns-in_err-write-clause-answer : goal.returns-in_err-write-clause-answer
 returns-in_err-write-clause-answer g c =
     let p = err_from_is_err_and c.from_residual-in_err-write.result c.from_residual-in_err-write.ensures.1 in
     let out0 = g.O.Sink.device c.args.out.now in
-    let out1 = g.O.Sink.device c.walk_folders.new.out in
-    let out2 = g.O.Sink.device c.walk_folders-2.new.out in
+    let out1 = g.O.Sink.device c.walk_tree.new.out in
+    let out2 = g.O.Sink.device c.walk_tree-2.new.out in
     let out = g.O.Sink.device c.write.new.out in
-    let tally = c.walk_folders-2.new.tally in
+    let tally = c.walk_tree-2.new.tally in
     let fault = c.in_err-write.field-0.0 in
-    let told = tells_more out0 out1 out2 c.new-tally.result c.walk_folders.new.tally tally
-    c.in_ok-walk_folders.ensures.told c.in_ok-walk_folders-2.ensures.told in
+    let told = tells_more out0 out1 out2 c.new-tally.result c.walk_tree.new.tally tally
+    c.in_ok-walk_tree.ensures.told c.in_ok-walk_tree-2.ensures.told in
     let line = summary_is told.entries tally (told.counts [] c.new-tally.ensures) in
     rw (p.1, p.2) (walk_stops out0 out fault
     (stops_summary out0 out2 out c.new-tally.result tally fault told
@@ -64,27 +64,27 @@ pub returns-in_err-write-clause-write : goal.returns-in_err-write-clause-write
 returns-in_err-write-clause-write g c =
     let p = err_from_is_err_and c.from_residual-in_err-write.result c.from_residual-in_err-write.ensures.1 in
     let out0 = g.O.Sink.device c.args.out.now in
-    let out1 = g.O.Sink.device c.walk_folders.new.out in
-    let out2 = g.O.Sink.device c.walk_folders-2.new.out in
+    let out1 = g.O.Sink.device c.walk_tree.new.out in
+    let out2 = g.O.Sink.device c.walk_tree-2.new.out in
     let out = g.O.Sink.device c.write.new.out in
-    let tally = c.walk_folders-2.new.tally in
+    let tally = c.walk_tree-2.new.tally in
     let fault = c.in_err-write.field-0.0 in
-    let told = tells_more out0 out1 out2 c.new-tally.result c.walk_folders.new.tally tally
-    c.in_ok-walk_folders.ensures.told c.in_ok-walk_folders-2.ensures.told in
+    let told = tells_more out0 out1 out2 c.new-tally.result c.walk_tree.new.tally tally
+    c.in_ok-walk_tree.ensures.told c.in_ok-walk_tree-2.ensures.told in
     let line = summary_is told.entries tally (told.counts [] c.new-tally.ensures) in
-    rw (p.1, p.2) (write_tells_sink _ _ out0 out fault
+    rw (p.1, p.2) (stop_tells _ out0 out fault
     (stops_summary out0 out2 out c.new-tally.result tally fault told
     (rw line at c.in_err-write.ensures.stops)))
 
 pub returns-clause-answer : goal.returns-clause-answer
 returns-clause-answer g c =
     let out0 = g.O.Sink.device c.args.out.now in
-    let out1 = g.O.Sink.device c.walk_folders.new.out in
-    let out2 = g.O.Sink.device c.walk_folders-2.new.out in
+    let out1 = g.O.Sink.device c.walk_tree.new.out in
+    let out2 = g.O.Sink.device c.walk_tree-2.new.out in
     let out = g.O.Sink.device c.write.new.out in
-    let tally = c.walk_folders-2.new.tally in
-    let told = tells_more out0 out1 out2 c.new-tally.result c.walk_folders.new.tally tally
-    c.in_ok-walk_folders.ensures.told c.in_ok-walk_folders-2.ensures.told in
+    let tally = c.walk_tree-2.new.tally in
+    let told = tells_more out0 out1 out2 c.new-tally.result c.walk_tree.new.tally tally
+    c.in_ok-walk_tree.ensures.told c.in_ok-walk_tree-2.ensures.told in
     let counts = told.counts [] c.new-tally.ensures in
     let line = summary_is told.entries tally counts in
     walk_ends out0 out2 out c.new-tally.result tally _ told
@@ -94,9 +94,9 @@ returns-clause-answer g c =
 pub returns-clause-write : goal.returns-clause-write
 returns-clause-write g c =
     let out0 = g.O.Sink.device c.args.out.now in
-    let out1 = g.O.Sink.device c.walk_folders.new.out in
-    let out2 = g.O.Sink.device c.walk_folders-2.new.out in
+    let out1 = g.O.Sink.device c.walk_tree.new.out in
+    let out2 = g.O.Sink.device c.walk_tree-2.new.out in
     let out = g.O.Sink.device c.write.new.out in
-    let calm = calm_calm out0 out1 out2 c.in_ok-walk_folders.ensures.told.calm
-    c.in_ok-walk_folders-2.ensures.told.calm in
+    let calm = calm_calm out0 out1 out2 c.in_ok-walk_tree.ensures.told.calm
+    c.in_ok-walk_tree-2.ensures.told.calm in
     ok_tells out0 out _ _ (calm_calm out0 out2 out calm c.in_ok-write.ensures.calm).steady

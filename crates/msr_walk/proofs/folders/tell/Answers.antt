@@ -1,25 +1,25 @@
 use Rattle.std.proofs.lemmas.Result.{err_from_is_err_and}
 use Rattle.std.proofs.Common.{refl}
-use Rattle.msr_devices.proofs.Chaining.{calm_same}
-use Rattle.msr_walk.proofs.EntriesTold.{part_none, part_line, part_one, tells_one}
+use Rattle.msr_folders.proofs.VisitLemmas.{part_line, part_one, tells_one}
+use Rattle.msr_walk.specs.Entries.{Entry, IsEntry, IsEntryLine, IsTally}
+use Rattle.msr_walk.proofs.EntriesTold.{none_told}
 use Rattle.msr_walk.proofs.folders.tell.Goals as goal
 
 pub returns-in_err-line-clause-stops : goal.returns-in_err-line-clause-stops
 returns-in_err-line-clause-stops g c =
     let p = err_from_is_err_and c.from_residual.result c.from_residual.ensures.1 in
-    let out = g.O.Sink.device c.args.out.now in
-    let asked = c.args.walker.now.archive.now.days in
-    λ is. rw (p.1, p.2) (part_none asked out, (calm_same out).steady)
+    λ is. rw (p.1, p.2) (none_told c.args.walker.now.archive.now.days (g.O.Sink.device c.args.out.now))
 
 pub returns-in_err-write_all-clause-stops : goal.returns-in_err-write_all-clause-stops
 returns-in_err-write_all-clause-stops g c =
     let p = err_from_is_err_and c.from_residual-in_err-write_all.result c.from_residual-in_err-write_all.ensures.1 in
     let part = c.in_err-write_all.ensures.part in
     let asked = c.args.walker.now.archive.now.days in
+    let entry : Entry = record { path = c.args.path.now; channel = c.args.channel.now; outcome = c.args.outcome } in
     λ is. rw (p.1, p.2) (
-      part_line asked (g.O.Sink.device c.args.out.now)
-          (g.O.Sink.device c.write_all.new.sink) part.0 c.args.path.now c.args.channel.now c.as_bytes.result.now
-          c.args.outcome is (rw c.as_bytes.ensures.value c.in_ok-line.ensures) part.1,
+      part_line (IsEntry asked) (IsEntryLine asked.bytes) (g.O.Sink.device c.args.out.now)
+          (g.O.Sink.device c.write_all.new.sink) part.0 entry c.as_bytes.result.now
+          is (rw c.as_bytes.ensures.value c.in_ok-line.ensures) part.1,
       c.in_err-write_all.ensures.failed,
     )
 
@@ -27,19 +27,19 @@ pub returns-in_err-add-clause-stops : goal.returns-in_err-add-clause-stops
 returns-in_err-add-clause-stops g c =
     let p = err_from_is_err_and c.from_residual-in_err-add.result c.from_residual-in_err-add.ensures.1 in
     let asked = c.args.walker.now.archive.now.days in
+    let entry : Entry = record { path = c.args.path.now; channel = c.args.channel.now; outcome = c.args.outcome } in
     λ is. rw (p.1, p.2) (
-      part_one asked (g.O.Sink.device c.args.out.now)
-          (g.O.Sink.device c.write_all.new.sink) c.args.path.now c.args.channel.now c.as_bytes.result.now
-          c.args.outcome is (rw c.as_bytes.ensures.value c.in_ok-line.ensures) c.in_ok-write_all.ensures.all,
+      part_one (IsEntry asked) (IsEntryLine asked.bytes) (g.O.Sink.device c.args.out.now)
+          (g.O.Sink.device c.write_all.new.sink) entry c.as_bytes.result.now
+          is (rw c.as_bytes.ensures.value c.in_ok-line.ensures) c.in_ok-write_all.ensures.all,
       c.in_ok-write_all.ensures.calm.steady,
     )
 
 pub returns-clause-told : goal.returns-clause-told
 returns-clause-told g c =
     let asked = c.args.walker.now.archive.now.days in
-    λ is. tells_one asked (g.O.Sink.device c.args.out.now)
-    (g.O.Sink.device c.write_all.new.sink) c.args.tally.now c.add.new.self c.args.path.now c.args.channel.now
-    c.as_bytes.result.now c.args.outcome is
+    let entry : Entry = record { path = c.args.path.now; channel = c.args.channel.now; outcome = c.args.outcome } in
+    λ is. tells_one (IsEntry asked) (IsEntryLine asked.bytes) IsTally (g.O.Sink.device c.args.out.now)
+    (g.O.Sink.device c.write_all.new.sink) c.args.tally.now c.add.new.self entry c.as_bytes.result.now is
     (rw c.as_bytes.ensures.value c.in_ok-line.ensures) c.in_ok-write_all.ensures.all c.in_ok-write_all.ensures.calm
-    (λ before h. c.in_ok-add.ensures before (record
-    { path = c.args.path.now; channel = c.args.channel.now; outcome = c.args.outcome }) h refl refl)
+    (λ before h. c.in_ok-add.ensures before entry h refl refl)

@@ -1,22 +1,21 @@
 use Rattle.std.proofs.Common.{rules}
 use Rattle.std.proofs.lemmas.Result.{err_from_is_err_and}
-use Rattle.msr_devices.proofs.Chaining.{calm_same}
 use Rattle.msr_walk.specs.Entries.{IsDayOf}
 use Rattle.msr_walk.proofs.Days.{outcome_of}
-use Rattle.msr_walk.proofs.EntriesTold.{part_none}
+use Rattle.msr_walk.proofs.EntriesTold.{none_told}
 use Rattle.msr_walk.proofs.folders.tell_day.Goals as goal
 
 pub returns-in_err-channel-clause-stops : goal.returns-in_err-channel-clause-stops
 returns-in_err-channel-clause-stops g c =
     let p = err_from_is_err_and c.from_residual.result c.from_residual.ensures.1 in
     let out = g.O.Sink.device c.args.out.now in
-    rw (p.1, p.2) (part_none c.args.walker.now.archive.now.days out, (calm_same out).steady)
+    rw (p.1, p.2) (none_told c.args.walker.now.archive.now.days out)
 
 pub returns-in_err-outcome-clause-stops : goal.returns-in_err-outcome-clause-stops
 returns-in_err-outcome-clause-stops g c =
     let p = err_from_is_err_and c.from_residual-in_err-outcome.result c.from_residual-in_err-outcome.ensures.1 in
     let out = g.O.Sink.device c.args.out.now in
-    rw (p.1, p.2) (part_none c.args.walker.now.archive.now.days out, (calm_same out).steady)
+    rw (p.1, p.2) (none_told c.args.walker.now.archive.now.days out)
 
 pub returns-clause-told : goal.returns-clause-told
 returns-clause-told g c =

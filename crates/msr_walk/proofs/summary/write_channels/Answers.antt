@@ -4,7 +4,7 @@ use Rattle.std.specs.List.{flat_map, slice_get}
 use Rattle.std.specs.Option.{option_map}
 use Rattle.msr_devices.specs.Device.{Takes}
 use Rattle.msr_devices.proofs.Chaining.{calm_calm, calm_failed, takes_append}
-use Rattle.msr_totals.specs.declared.Total.{Total}
+use Rattle.msr_folders.specs.declared.totals.Total.{Total}
 use Rattle.msr_walk.specs.Walk.{channel_line, with_bytes}
 use Rattle.msr_walk.proofs.ChannelLines.{channel_at, channels_end, lines_next, front_of, front_in}
 use Rattle.msr_walk.proofs.summary.write_channels.Goals as goal

@@ -3,7 +3,7 @@ use Rattle.std.proofs.lemmas.Result.{err_from_is_err_and}
 use Rattle.msr_devices.proofs.Chaining.{calm_calm, calm_failed, calm_same, takes_append}
 use Rattle.msr_walk.specs.Walk.{counts_line}
 use Rattle.msr_walk.proofs.ChannelLines.{front_after, front_all, front_before, summary_is}
-use Rattle.msr_walk.proofs.EntriesTold.{stops_within}
+use Rattle.msr_folders.proofs.VisitLemmas.{stops_within}
 use Rattle.msr_walk.proofs.summary.write_summary.Goals as goal
 
 pub returns-in_err-write_channels-clause-stops : goal.returns-in_err-write_channels-clause-stops

@@ -4,14 +4,9 @@ use Rattle.msr_walk.proofs.Days.{day_answer, day_differs, day_unkept, day_unsett
 use Rattle.msr_walk.proofs.day.Day.write.Goals.{else-asked-via-then-asked+else-repacked, else-asked-via-else-asked}
 use Rattle.msr_walk.proofs.day.Day.write.Goals as goal
 
-pub returns-in_err-input : goal.returns-in_err-input
-returns-in_err-input g c =
-    let p = err_from_is_err_and c.from_residual.result c.from_residual.ensures.1 in
-    rw (p.1, p.2, c.in_err-input.ensures) tt
-
 pub returns-in_err-records : goal.returns-in_err-records
 returns-in_err-records g c =
-    let p = err_from_is_err_and c.from_residual-in_err-records.result c.from_residual-in_err-records.ensures.1 in
+    let p = err_from_is_err_and c.from_residual.result c.from_residual.ensures.1 in
     rw (p.1, p.2, c.in_err-records.ensures) tt
 
 pub returns-in_err-report : goal.returns-in_err-report

@@ -1,9 +1,8 @@
 use Rattle.std.proofs.Common.{rules, ◌≡◌}
 use Rattle.std.proofs.lemmas.Result.{err_from_is_err_and}
-use Rattle.msr_devices.proofs.Chaining.{calm_same}
+use Rattle.msr_devices.proofs.Chaining.{calm_same, takes_none}
 use Rattle.msr_walk.specs.Stamp.{stamp_text}
 use Rattle.msr_walk.proofs.ChannelLines.{front_piece}
-use Rattle.msr_walk.proofs.EntriesTold.{takes_none}
 use Rattle.msr_walk.proofs.stamp.Stamp.write.Goals as goal
 
 pub returns-in_err-text-clause-stops : goal.returns-in_err-text-clause-stops

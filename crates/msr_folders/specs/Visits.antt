@@ -1,0 +1,49 @@
+-- What a walk through folders tells: entries, a line for each, and their counts.
+use Rattle.std.specs.Prelude.{◌≡◌, ℕ, List, [], ◌∷◌, ◌++◌}
+use Rattle.std.specs.List.{AllByRecursion}
+use Rattle.msr_devices.specs.Device.{Device, HasFailed, IsCalm, IsSteady, Takes}
+use Rattle.msr_devices.specs.declared.fault.DeviceFault.{DeviceFault}
+use Rattle.msr_devices.specs.declared.fault.DeviceFault.TheVariants.{Failed, Memory}
+
+-- a line for each entry, in order
+abbrev pub AreLines : {E : Type 0} → (is_line : E → List ℕ → Type 0) → List E → List ℕ → Type 0
+AreLines is_line [] lines = lines ≡ []
+AreLines is_line (entry ∷ entries) lines = (line rest : List ℕ)
+    × is_line entry line × AreLines is_line entries rest × (lines ≡ line ++ rest)
+
+-- Some more entries were told: their lines were printed, and they are counted.
+pub record Tells {E T : Type 0} (is_entry : E → Type 0) (is_line : E → List ℕ → Type 0) (is_tally : List E → T → Type 0)
+    (out0 out : Device) (tally0 tally : T) : Type 0 where
+  pub entries : List E
+  pub lines : List ℕ
+  pub are_entries : AllByRecursion is_entry entries
+  pub are_lines : AreLines is_line entries lines
+  pub prints : Takes out0 out lines
+  pub calm : IsCalm out0 out
+  pub counts : (before : List E) → is_tally before tally0 → is_tally (before ++ entries) tally
+
+-- A prefix of the lines of some more entries was printed.
+pub record TellsInPart {E : Type 0} (is_entry : E → Type 0) (is_line : E → List ℕ → Type 0) (out0 out : Device) : Type 0 where
+  pub entries : List E
+  pub printed : List ℕ
+  pub rest : List ℕ
+  pub are_entries : AllByRecursion is_entry entries
+  pub are_lines : AreLines is_line entries (printed ++ rest)
+  pub prints : Takes out0 out printed
+
+-- that was printed when a walk stopped: the sink failed, or else memory was refused
+abbrev pub StopsAt : Type 0 → Device → Device → DeviceFault → Type 0
+StopsAt printed out0 out Failed = printed × HasFailed out0 out
+StopsAt printed out0 out Memory = printed × IsSteady out0 out
+
+-- Steps that follow one another are steps, among which no call of the sink failed; a step that stops after others stops
+-- these too, and if memory is refused none needs to be taken.
+pub record VisitorLaws {V T : Type 0} (tells : V → Device → Device → T → T → Type 0)
+    (stops : V → Device → Device → DeviceFault → Type 0) : Type 0 where
+  pub calm : (visitor : V) (out0 out : Device) (tally0 tally : T) → tells visitor out0 out tally0 tally → IsCalm out0 out
+  pub none : (visitor : V) (out : Device) (tally : T) → tells visitor out out tally tally
+  pub more : (visitor : V) (out0 out1 out : Device) (tally0 tally1 tally : T)
+      → tells visitor out0 out1 tally0 tally1 → tells visitor out1 out tally1 tally → tells visitor out0 out tally0 tally
+  pub refused : (visitor : V) (out : Device) → stops visitor out out Memory
+  pub later : (visitor : V) (out0 out1 out : Device) (tally0 tally1 : T) (fault : DeviceFault)
+      → tells visitor out0 out1 tally0 tally1 → stops visitor out1 out fault → stops visitor out0 out fault

@@ -1,3 +1,0 @@
-pub mod AddLemmas
-pub mod FirstNameLemmas
-pub mod RowLemmas

@@ -1,5 +1,0 @@
-use Rattle.msr_verify.proofs.EntriesFound.{tells_none}
-use Rattle.msr_verify.proofs.folders.tell_unlisted.Goals as goal
-
-pub returns-then-is_gone-clause-told : goal.returns-then-is_gone-clause-told
-returns-then-is_gone-clause-told g c = tells_none (g.O.Sink.device c.args.out.now) c.args.tally.now

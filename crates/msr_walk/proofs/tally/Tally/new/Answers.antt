@@ -1,0 +1,14 @@
+use Rattle.std.proofs.Common.{refl}
+use Rattle.msr_walk.proofs.tally.Tally.new.Goals as goal
+
+pub returns : goal.returns
+returns c = record {
+  done = refl;
+  skipped = refl;
+  refused = refl;
+  larger = refl;
+  channels = c.new-channels.ensures;
+  bytes = c.new-bytes.ensures;
+  bytes_read = refl;
+  bytes_written = refl;
+}
