@@ -6,7 +6,7 @@ use Rattle.clap.specs.declared.error.kind.ErrorKind.{ErrorKind}
 use Rattle.clap.specs.declared.error.kind.ErrorKind.TheVariants.{DisplayHelp, DisplayVersion, OutOfMemory}
 use Rattle.clap.specs.declared.parser.matches.Found.{Found}
 use Rattle.msr_options.specs.Choice.{Choice, size_of}
-use Rattle.msr_days.specs.declared.DayOptions.{DayOptions}
+use Rattle.msr_options.specs.declared.days.DayOptions.{DayOptions}
 use Rattle.msr_kinds.specs.RecordLength.{IsRecordLength}
 use Rattle.msr_kinds.specs.declared.kinds.Kinds.{Kinds}
 use Rattle.msr_kinds.specs.declared.kinds.Kinds.TheVariants.{All, WithoutInt24}

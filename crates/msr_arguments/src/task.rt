@@ -1,6 +1,5 @@
 //! What the program can be asked to do.
-use msr_days::DayOptions;
-use msr_options::Options;
+use msr_options::{DayOptions, Options};
 use std::alloc::AllocError;
 
 /// A file to be repacked.

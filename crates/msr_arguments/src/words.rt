@@ -15,9 +15,8 @@ use crate::task::{
 use crate::texts;
 use clap::ArgMatches;
 use clap::error::ErrorKind;
-use msr_days::DayOptions;
 use msr_kinds::{Kinds, Length};
-use msr_options::Options;
+use msr_options::{DayOptions, Options};
 use msr_sds::levels_below;
 use std::alloc::{AllocError, Global};
 

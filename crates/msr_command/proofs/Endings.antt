@@ -12,7 +12,7 @@ use Rattle.msr_tool.specs.Listing.{ListAnswers}
 use Rattle.msr_tool.specs.Tasks.{Reports, Tells, VerdictAnswers}
 use Rattle.msr_tool.specs.declared.fault.ToolFault.{ToolFault}
 use Rattle.msr_tool.specs.declared.fault.ToolFault.TheVariants as fault
-use Rattle.msr_days.specs.declared.DayOptions.{DayOptions}
+use Rattle.msr_options.specs.declared.days.DayOptions.{DayOptions}
 use Rattle.msr_walk.specs.Walk.{IsWalk, Walks}
 use Rattle.msr_walk.proofs.EntriesTold.{part_none, stops_entries, walk_stops}
 use Rattle.msr_verify.specs.Walk.{IsWalk as IsVerifying, Verifies}

@@ -9,8 +9,8 @@ ghost use Rattle.msr_walk.specs.Walk.{StopsPrefix, channel_line, counts_line, la
 
 use crate::outcome::bytes_told;
 use crate::tally::Tally;
-use msr_days::DayOptions;
 use msr_devices::write_all;
+use msr_options::DayOptions;
 use msr_tool::{Sink, ToolFault};
 use msr_totals::{Total, Totals};
 use std::alloc::{AllocError, Global};
