@@ -1,8 +1,19 @@
-//! What the program can be asked to do.
+//! What the program can be asked to do, and what a person is told beside what is done.
 #![tactic(auto)]
 
 mod days;
+mod errors;
+mod files;
+mod hint;
 mod options;
+mod task;
 
 pub use days::DayOptions;
+pub use errors::Errors;
+pub use files::{hint_of_file, hint_of_folder};
+pub use hint::{Hint, write_hint};
 pub use options::Options;
+pub use task::{
+    Archiving, Checking, Comparing, Ending, Feeding, Folders, Listing, NoTask, Repacking, Task,
+    Verb, Verifying,
+};
