@@ -2,7 +2,7 @@
 use Rattle.std.proofs.Common.{◌≡◌, ◌⊎◌, inl, inr, ℕ, ◌+◌, ◌<◌, ◌∙◌, sym, arith, List, [], ◌∷◌, map, length, take, refl, slice_index_or, subst}
 use Rattle.std.proofs.lemmas.List.{get_or-map, get_or-take, get_or_default, get_or_read_under, length-map, length-take}
 use Rattle.std.specs.List.{Any}
-use Rattle.msr_arguments.specs.Tasks.{AreApart, Overlap}
+use Rattle.msr_options.specs.Tasks.{AreApart, Overlap}
 
 -- no two of the first n overlap
 pub record ApartBefore {X : Type 0} (text : X → List ℕ) (xs : List X) (n : ℕ) : Type 0 where

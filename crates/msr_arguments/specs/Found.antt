@@ -1,24 +1,24 @@
 -- What a task asks for, by what clap found under the names of its arguments.
-use Rattle.std.specs.Prelude.{◌≡◌, ◌≢◌, ◌⊎◌, ◌↔◌, ◌==◌, IsTrue, ℕ, ⊤, Bool, false, true, cond, List, [], ◌∷◌, codes, map, Option, None, Some, option_map, unwrap_or, ok_or}
+use Rattle.std.specs.Prelude.{◌≡◌, ◌≢◌, ◌⊎◌, ◌↔◌, ◌==◌, IsTrue, ℕ, ⊤, Bool, false, true, cond, List, [], ◌∷◌, codes, string_bytes, map, Option, None, Some, option_map, unwrap_or, ok_or}
 use Rattle.std.specs.Str.Parse.{ParsesUnsigned}
 use Rattle.clap.specs.Words.{first_value, matched_of, one_text, raw_values}
 use Rattle.clap.specs.declared.error.kind.ErrorKind.{ErrorKind}
 use Rattle.clap.specs.declared.error.kind.ErrorKind.TheVariants.{DisplayHelp, DisplayVersion, OutOfMemory}
 use Rattle.clap.specs.declared.parser.matches.Found.{Found}
 use Rattle.msr_options.specs.Choice.{Choice, size_of}
-use Rattle.msr_days.specs.declared.DayOptions.{DayOptions}
+use Rattle.msr_options.specs.declared.days.DayOptions.{DayOptions}
 use Rattle.msr_kinds.specs.RecordLength.{IsRecordLength}
 use Rattle.msr_kinds.specs.declared.kinds.Kinds.{Kinds}
 use Rattle.msr_kinds.specs.declared.kinds.Kinds.TheVariants.{All, WithoutInt24}
-use Rattle.msr_arguments.specs.Tasks.{IsTolerance}
-use Rattle.msr_arguments.specs.declared.task.Archiving.{Archiving}
-use Rattle.msr_arguments.specs.declared.task.Checking.{Checking}
-use Rattle.msr_arguments.specs.declared.task.Folders.{Folders}
-use Rattle.msr_arguments.specs.declared.task.NoTask.{NoTask}
-use Rattle.msr_arguments.specs.declared.task.NoTask.TheVariants.{Ending, NotALength, Memory}
-use Rattle.msr_arguments.specs.declared.task.Task.{Task}
-use Rattle.msr_arguments.specs.declared.task.Task.TheVariants.{Repack, List as Listing, Check, Compare, Archive, Verify, Feed}
-use Rattle.msr_arguments.specs.declared.task.Verifying.{Verifying}
+use Rattle.msr_options.specs.Tasks.{IsTolerance}
+use Rattle.msr_options.specs.declared.task.Archiving.{Archiving}
+use Rattle.msr_options.specs.declared.task.Checking.{Checking}
+use Rattle.msr_options.specs.declared.task.Folders.{Folders}
+use Rattle.msr_options.specs.declared.task.NoTask.{NoTask}
+use Rattle.msr_options.specs.declared.task.NoTask.TheVariants.{Ending, NotALength, Memory}
+use Rattle.msr_options.specs.declared.task.Task.{Task}
+use Rattle.msr_options.specs.declared.task.Task.TheVariants.{Repack, List as Listing, Check, Compare, Archive, Verify, Feed}
+use Rattle.msr_options.specs.declared.task.Verifying.{Verifying}
 
 -- the number of 32 bits that a text is in decimal digits, with or without a plus before them; `None` if there is no
 -- text, or it is no such number
@@ -131,15 +131,17 @@ AsksTask found (Verify asked) = AsksVerify found asked
 AsksTask found (Feed asked) =
     AsksOptions found (length_in found) asked.options × (first_value found (codes "REPORT") ≡ Some asked.report.now)
 
--- the command that asks for a task
-abbrev pub command_of : Task → List ℕ
-command_of (Repack asked) = codes "repack"
-command_of (Listing asked) = codes "list"
-command_of (Check asked) = codes "check"
-command_of (Compare asked) = codes "compare"
-command_of (Archive asked) = codes "archive"
-command_of (Verify asked) = codes "verify"
-command_of (Feed asked) = codes "feed"
+-- a bad command line: the text to end with, and status 2, unless memory is refused
+abbrev pub IsWrong : (text : List ℕ) → NoTask → Type 0
+IsWrong text (Ending ending) = (string_bytes ending.text ≡ text) × (ending.status ≡ 2)
+IsWrong text NotALength = ⊥
+IsWrong text Memory = ⊤
+
+-- a bad command line, whatever its text
+abbrev pub IsBadLine : NoTask → Type 0
+IsBadLine (Ending ending) = ending.status ≡ 2
+IsBadLine NotALength = ⊤
+IsBadLine Memory = ⊤
 
 -- clap was asked for help or for the version
 abbrev pub IsShown : ErrorKind → Type 0

@@ -1,2 +1,1 @@
-pub mod Tasks
 pub mod Found

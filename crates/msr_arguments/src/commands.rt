@@ -5,6 +5,7 @@
 use crate::texts;
 use clap::builder::ValueParser;
 use clap::{Arg, ArgAction, Command, value_parser};
+use msr_options::Verb;
 use std::alloc::{AllocError, Global};
 
 /// An option with a value, which this parser reads.
@@ -43,6 +44,15 @@ fn below<'a>(alloc: Global) -> Arg<'a> {
         .long_help(texts::LONG_BELOW)
 }
 
+/// An option without a value.
+fn flag<'a>(alloc: Global, name: &'a str, help: &'a str, long_help: &'a str) -> Arg<'a> {
+    Arg::new(alloc, name)
+        .long(name)
+        .action(ArgAction::SetTrue)
+        .help(help)
+        .long_help(long_help)
+}
+
 /// Adds options without a value, each by its name, its help and its long help.
 fn flags<'a>(
     alloc: Global,
@@ -50,15 +60,14 @@ fn flags<'a>(
     named: &[(&'a str, &'a str, &'a str)],
 ) -> Result<Command<'a>, AllocError> {
     for (name, help, long_help) in named {
-        command = command.arg(
-            Arg::new(alloc, name)
-                .long(name)
-                .action(ArgAction::SetTrue)
-                .help(help)
-                .long_help(long_help),
-        )?;
+        command = command.arg(flag(alloc, name, help, long_help))?;
     }
     Ok(command)
+}
+
+/// A file or folder that has to be given.
+fn file<'a>(alloc: Global, name: &'a str, help: &'a str) -> Arg<'a> {
+    Arg::new(alloc, name).required(true).help(help)
 }
 
 /// Adds files or folders that have to be given, each by its name and its help.
@@ -68,7 +77,7 @@ fn files<'a>(
     named: &[(&'a str, &'a str)],
 ) -> Result<Command<'a>, AllocError> {
     for (name, help) in named {
-        command = command.arg(Arg::new(alloc, name).required(true).help(help))?;
+        command = command.arg(file(alloc, name, help))?;
     }
     Ok(command)
 }
@@ -114,86 +123,60 @@ pub(crate) fn length_alone<'a>(alloc: Global) -> Result<Command<'a>, AllocError>
     Command::new(alloc, "msrepack").arg(length(alloc, value_parser!(u32)).allow_hyphen_values(true))
 }
 
-/// A command without arguments, with its help.
-fn described<'a>(
-    alloc: Global,
-    name: &'a str,
-    about: &'a str,
-    long_about: &'a str,
+/// What the help of a command says: a line, what it does, and at its end examples.
+#[derive(Clone, Copy)]
+struct About<'a> {
+    line: &'a str,
+    long: &'a str,
     after: &'a str,
-) -> Command<'a> {
+}
+
+fn about_of<'a>(verb: Verb) -> About<'a> {
+    match verb {
+        Verb::Repack => About {
+            line: texts::REPACK_ABOUT,
+            long: texts::REPACK_LONG_ABOUT,
+            after: texts::REPACK_AFTER,
+        },
+        Verb::List => About {
+            line: texts::LIST_ABOUT,
+            long: texts::LIST_LONG_ABOUT,
+            after: texts::LIST_AFTER,
+        },
+        Verb::Check => About {
+            line: texts::CHECK_ABOUT,
+            long: texts::CHECK_LONG_ABOUT,
+            after: texts::CHECK_AFTER,
+        },
+        Verb::Compare => About {
+            line: texts::COMPARE_ABOUT,
+            long: texts::COMPARE_LONG_ABOUT,
+            after: texts::COMPARE_AFTER,
+        },
+        Verb::Archive => About {
+            line: texts::ARCHIVE_ABOUT,
+            long: texts::ARCHIVE_LONG_ABOUT,
+            after: texts::ARCHIVE_AFTER,
+        },
+        Verb::Verify => About {
+            line: texts::VERIFY_ABOUT,
+            long: texts::VERIFY_LONG_ABOUT,
+            after: texts::VERIFY_AFTER,
+        },
+        Verb::Feed => About {
+            line: texts::FEED_ABOUT,
+            long: texts::FEED_LONG_ABOUT,
+            after: texts::FEED_AFTER,
+        },
+    }
+}
+
+/// A command without arguments, with its help.
+fn described<'a>(alloc: Global, name: &'a str, about: About<'a>) -> Command<'a> {
     Command::new(alloc, name)
-        .about(about)
-        .long_about(long_about)
-        .after_long_help(after)
-}
-
-fn repack<'a>(alloc: Global) -> Result<Command<'a>, AllocError> {
-    let command = described(
-        alloc,
-        "repack",
-        texts::REPACK_ABOUT,
-        texts::REPACK_LONG_ABOUT,
-        texts::REPACK_AFTER,
-    );
-    let command = files(alloc, packing(alloc, command)?, &[("IN", texts::IN)])?;
-    command.arg(Arg::new(alloc, "OUT").help(texts::OUT))
-}
-
-fn list<'a>(alloc: Global) -> Result<Command<'a>, AllocError> {
-    let command = described(
-        alloc,
-        "list",
-        texts::LIST_ABOUT,
-        texts::LIST_LONG_ABOUT,
-        texts::LIST_AFTER,
-    );
-    files(alloc, reading(alloc, command)?, &[("IN", texts::IN)])
-}
-
-fn check<'a>(alloc: Global) -> Result<Command<'a>, AllocError> {
-    let command = described(
-        alloc,
-        "check",
-        texts::CHECK_ABOUT,
-        texts::CHECK_LONG_ABOUT,
-        texts::CHECK_AFTER,
-    );
-    files(
-        alloc,
-        command,
-        &[("PACKED", texts::PACKED), ("REPORT", texts::REPORT)],
-    )
-}
-
-fn compare<'a>(alloc: Global) -> Result<Command<'a>, AllocError> {
-    let command = described(
-        alloc,
-        "compare",
-        texts::COMPARE_ABOUT,
-        texts::COMPARE_LONG_ABOUT,
-        texts::COMPARE_AFTER,
-    );
-    files(
-        alloc,
-        command.arg(tolerance(alloc))?,
-        &[("ONE", texts::ONE), ("OTHER", texts::OTHER)],
-    )
-}
-
-fn feed<'a>(alloc: Global) -> Result<Command<'a>, AllocError> {
-    let command = described(
-        alloc,
-        "feed",
-        texts::FEED_ABOUT,
-        texts::FEED_LONG_ABOUT,
-        texts::FEED_AFTER,
-    );
-    files(
-        alloc,
-        packing(alloc, command)?,
-        &[("REPORT", texts::FEED_REPORT)],
-    )
+        .about(about.line)
+        .long_about(about.long)
+        .after_long_help(about.after)
 }
 
 /// Adds the options of a walk through an archive.
@@ -214,80 +197,84 @@ fn walking<'a>(alloc: Global, command: Command<'a>) -> Result<Command<'a>, Alloc
     )
 }
 
-fn archive<'a>(alloc: Global) -> Result<Command<'a>, AllocError> {
-    let command = described(
-        alloc,
-        "archive",
-        texts::ARCHIVE_ABOUT,
-        texts::ARCHIVE_LONG_ABOUT,
-        texts::ARCHIVE_AFTER,
-    );
-    files(
-        alloc,
-        walking(alloc, packing_days(alloc, command)?)?,
-        &[
-            ("ROOT", texts::ROOT),
-            ("OUT", texts::OUT_FOLDER),
-            ("REPORTS", texts::REPORTS),
-        ],
-    )
+/// Adds the options of this command.
+fn with_options<'a>(
+    alloc: Global,
+    verb: Verb,
+    command: Command<'a>,
+) -> Result<Command<'a>, AllocError> {
+    match verb {
+        Verb::Repack | Verb::Feed => packing(alloc, command),
+        Verb::List => reading(alloc, command),
+        Verb::Check => Ok(command),
+        Verb::Compare => command.arg(tolerance(alloc)),
+        Verb::Archive => walking(alloc, packing_days(alloc, command)?),
+        Verb::Verify => command.arg(below(alloc)),
+    }
 }
 
-fn verify<'a>(alloc: Global) -> Result<Command<'a>, AllocError> {
-    let command = described(
-        alloc,
-        "verify",
-        texts::VERIFY_ABOUT,
-        texts::VERIFY_LONG_ABOUT,
-        texts::VERIFY_AFTER,
-    );
-    files(
-        alloc,
-        command.arg(below(alloc))?,
-        &[
-            ("ROOT", texts::ROOT),
-            ("OUT", texts::VERIFIED_OUT),
-            ("REPORTS", texts::VERIFIED_REPORTS),
-        ],
-    )
+/// Adds the files of a repack, of which the second need not be given.
+fn repacked<'a>(alloc: Global, command: Command<'a>) -> Result<Command<'a>, AllocError> {
+    files(alloc, command, &[("IN", texts::IN)])?.arg(Arg::new(alloc, "OUT").help(texts::OUT))
 }
 
-/// The commands.
-#[derive(Clone, Copy)]
-enum Verb {
-    Repack,
-    List,
-    Check,
-    Compare,
-    Archive,
-    Verify,
-    Feed,
+/// Adds the files or folders of this command.
+fn with_files<'a>(
+    alloc: Global,
+    verb: Verb,
+    command: Command<'a>,
+) -> Result<Command<'a>, AllocError> {
+    match verb {
+        Verb::Repack => repacked(alloc, command),
+        Verb::List => files(alloc, command, &[("IN", texts::IN)]),
+        Verb::Check => files(
+            alloc,
+            command,
+            &[("PACKED", texts::PACKED), ("REPORT", texts::REPORT)],
+        ),
+        Verb::Compare => files(
+            alloc,
+            command,
+            &[("ONE", texts::ONE), ("OTHER", texts::OTHER)],
+        ),
+        Verb::Archive => files(
+            alloc,
+            command,
+            &[
+                ("ROOT", texts::ROOT),
+                ("OUT", texts::OUT_FOLDER),
+                ("REPORTS", texts::REPORTS),
+            ],
+        ),
+        Verb::Verify => files(
+            alloc,
+            command,
+            &[
+                ("ROOT", texts::ROOT),
+                ("OUT", texts::VERIFIED_OUT),
+                ("REPORTS", texts::VERIFIED_REPORTS),
+            ],
+        ),
+        Verb::Feed => files(alloc, command, &[("REPORT", texts::FEED_REPORT)]),
+    }
 }
 
 fn command_for<'a>(alloc: Global, verb: Verb) -> Result<Command<'a>, AllocError> {
-    match verb {
-        Verb::Repack => repack(alloc),
-        Verb::List => list(alloc),
-        Verb::Check => check(alloc),
-        Verb::Compare => compare(alloc),
-        Verb::Archive => archive(alloc),
-        Verb::Verify => verify(alloc),
-        Verb::Feed => feed(alloc),
-    }
+    let command = described(alloc, verb.word(), about_of(verb));
+    with_files(alloc, verb, with_options(alloc, verb, command)?)
 }
 
 /// The program without its commands.
 fn program<'a>(alloc: Global) -> Result<Command<'a>, AllocError> {
-    let command = described(
-        alloc,
-        "msrepack",
-        texts::ABOUT,
-        texts::LONG_ABOUT,
-        texts::AFTER,
-    )
-    .version("1.0.0")
-    .subcommand_required(true);
-    command.bin_name("msrepack")
+    let about = About {
+        line: texts::ABOUT,
+        long: texts::LONG_ABOUT,
+        after: texts::AFTER,
+    };
+    described(alloc, "msrepack", about)
+        .version("1.0.0")
+        .subcommand_required(true)
+        .bin_name("msrepack")
 }
 
 /// The command line of the program.

@@ -3,21 +3,20 @@ ghost use Rattle.std.specs.Prelude.{◌≡◌, ◌≢◌, ◌<◌, ◌↔◌, �
 ghost use Rattle.msr_kinds.specs.Lengths.{bytes_of};
 ghost use Rattle.msr_kinds.specs.RecordLength.{IsRecordLength};
 ghost use Rattle.clap.specs.Words.{first_value, found_of, kind_of, one_text, subcommand_name_of};
-ghost use Rattle.msr_arguments.specs.Found.{AsksArchive, AsksBelow, AsksCheck, AsksDays, AsksFlags, AsksFolders, AsksOptions, AsksTask, AsksVerify, EndsFor, EndsWith, HoldsOptions, IsFlagOf, IsKindsOf, IsLengthOf, IsNumberOf, command_of, without_slash};
-ghost use Rattle.msr_arguments.specs.Tasks.{AreApart, AreBothStandard, AreOptions, HasStatus, HasTolerance, IsBadLine, IsBelow, IsDefault, IsTolerance, IsWrong, KeepsInput, Overlap, StandApart};
-ghost use Rattle.msr_arguments.specs.declared.task.NoTask.TheVariants.{NotALength};
+ghost use Rattle.msr_arguments.specs.Found.{AsksArchive, AsksBelow, AsksCheck, AsksDays, AsksFlags, AsksFolders, AsksOptions, AsksTask, AsksVerify, EndsFor, EndsWith, HoldsOptions, IsBadLine, IsFlagOf, IsKindsOf, IsLengthOf, IsNumberOf, IsWrong, length_in, without_slash};
+ghost use Rattle.msr_options.specs.Tasks.{AreApart, AreBothStandard, AreOptions, HasStatus, HasTolerance, IsBelow, IsDefault, IsTolerance, KeepsInput, Overlap, StandApart, verb_of, word_of};
+ghost use Rattle.msr_options.specs.declared.task.NoTask.TheVariants.{NotALength};
+ghost use Rattle.msr_options.specs.declared.task.Task.TheVariants.{Compare, Feed, Repack};
 
 use crate::commands::{command, length_alone};
-use crate::task::{
-    Archiving, Checking, Comparing, Ending, Feeding, Folders, Listing, NoTask, Repacking, Task,
-    Verifying,
-};
 use crate::texts;
 use clap::ArgMatches;
 use clap::error::ErrorKind;
-use msr_days::DayOptions;
 use msr_kinds::{Kinds, Length};
-use msr_options::Options;
+use msr_options::{
+    Archiving, Checking, Comparing, DayOptions, Ending, Feeding, Folders, Listing, NoTask, Options,
+    Repacking, Task, Verb, Verifying,
+};
 use msr_sds::levels_below;
 use std::alloc::{AllocError, Global};
 
@@ -58,6 +57,18 @@ fn wrong(alloc: Global, text: &str) -> NoTask
     }
 }
 
+/// What clap lets no line through without, so that the answer to a line without it is not seen.
+fn required<T>(alloc: Global, found: Option<T>) -> Result<T, NoTask>
+    ensures found { IfOk result (λ value. found ≡ Some value) }
+    ensures given { IsSome found → IsOk result }
+    ensures status { IfErr result IsBadLine }
+{
+    match found {
+        Some(value) => Ok(value),
+        None => Err(wrong(alloc, texts::NO_COMMAND)),
+    }
+}
+
 /// The answer to what clap found: a fault, or that help or the version is asked for.
 fn ending_of(alloc: Global, error: &clap::Error) -> NoTask
     ensures ends { EndsFor (kind_of error.now) result }
@@ -91,10 +102,8 @@ fn options_of(
     ensures asked { IfOk result (AreOptions (bytes_of length) tolerance strict kinds) }
     ensures status { IfErr result IsBadLine }
 {
-    match Options::new(length, tolerance) {
-        Some(options) => Ok(options.strict(strict).kinds(kinds)),
-        None => Err(wrong(alloc, texts::NO_COMMAND)),
-    }
+    let options = required(alloc, Options::new(length, tolerance))?;
+    Ok(options.strict(strict).kinds(kinds))
 }
 
 fn number_in(found: &ArgMatches<'_>, name: &str) -> Option<u32>
@@ -184,11 +193,18 @@ fn options_in(
     ensures status { IfErr result IsBadLine }
 {
     let length = length_of(alloc, length)?;
-    let Some(tolerance) = number_in(found, "tolerance") else {
-        return Err(wrong(alloc, texts::NO_COMMAND));
-    };
+    let tolerance = required(alloc, number_in(found, "tolerance"))?;
     let strict = flag_in(found, "strict");
     options_of(alloc, length, tolerance, strict, kinds_in(found))
+}
+
+/// The value of this name.
+fn given<'a>(alloc: Global, found: &ArgMatches<'a>, name: &str) -> Result<&'a str, NoTask>
+    ensures asked { IfOk result (λ text. first_value (found_of found.now) name.now ≡ Some text.now) }
+    ensures given { IsSome (first_value (found_of found.now) name.now) → IsOk result }
+    ensures status { IfErr result IsBadLine }
+{
+    required(alloc, found.get_str(name))
 }
 
 /// A file to be repacked, exactly if the output is not the input.
@@ -216,14 +232,15 @@ fn repacking_of<'a>(
 }
 
 /// Packed records to be checked: first the file with the records, then that with the report.
-fn checking_in<'a>(found: &ArgMatches<'a>) -> Option<Checking<'a>>
-    ensures asked { IfSome result (AsksCheck (found_of found.now)) }
+fn checking_in<'a>(alloc: Global, found: &ArgMatches<'a>) -> Result<Checking<'a>, NoTask>
+    ensures asked { IfOk result (AsksCheck (found_of found.now)) }
     ensures given { IsSome (first_value (found_of found.now) (codes "PACKED"))
-        → IsSome (first_value (found_of found.now) (codes "REPORT")) → IsSome result }
+        → IsSome (first_value (found_of found.now) (codes "REPORT")) → IsOk result }
+    ensures status { IfErr result IsBadLine }
 {
-    let packed = found.get_str("PACKED")?;
-    let report = found.get_str("REPORT")?;
-    Some(Checking { packed, report })
+    let packed = given(alloc, found, "PACKED")?;
+    let report = given(alloc, found, "REPORT")?;
+    Ok(Checking { packed, report })
 }
 
 /// Whether one folder is the other, or stands below it, by their names.
@@ -243,16 +260,17 @@ fn is_below(folder: &str, path: &str) -> bool
     }
 }
 
-fn folders_in<'a>(found: &ArgMatches<'a>) -> Option<Folders<'a>>
-    ensures asked { IfSome result (AsksFolders (found_of found.now)) }
+fn folders_in<'a>(alloc: Global, found: &ArgMatches<'a>) -> Result<Folders<'a>, NoTask>
+    ensures asked { IfOk result (AsksFolders (found_of found.now)) }
     ensures given { IsSome (first_value (found_of found.now) (codes "ROOT"))
         → IsSome (first_value (found_of found.now) (codes "OUT"))
-        → IsSome (first_value (found_of found.now) (codes "REPORTS")) → IsSome result }
+        → IsSome (first_value (found_of found.now) (codes "REPORTS")) → IsOk result }
+    ensures status { IfErr result IsBadLine }
 {
-    let root = found.get_str("ROOT")?;
-    let out = found.get_str("OUT")?;
-    let reports = found.get_str("REPORTS")?;
-    Some(Folders { root, out, reports })
+    let root = given(alloc, found, "ROOT")?;
+    let out = given(alloc, found, "OUT")?;
+    let reports = given(alloc, found, "REPORTS")?;
+    Ok(Folders { root, out, reports })
 }
 
 /// Whether one of the folders is that one, or either stands below the other, by their names.
@@ -382,10 +400,7 @@ fn archiving_in<'a>(alloc: Global, found: &ArgMatches<'a>) -> Result<Archiving<'
 {
     let days = days_in(alloc, found)?;
     let below = below_in(alloc, found)?;
-    match folders_in(found) {
-        Some(folders) => archiving_of(alloc, folders, below, days),
-        None => Err(wrong(alloc, texts::NO_COMMAND)),
-    }
+    archiving_of(alloc, folders_in(alloc, found)?, below, days)
 }
 
 /// An archive whose repack is to be verified, exactly if no two folders overlap.
@@ -411,38 +426,50 @@ fn verifying_in<'a>(alloc: Global, found: &ArgMatches<'a>) -> Result<Verifying<'
     ensures status { IfErr result IsBadLine }
 {
     let below = below_in(alloc, found)?;
-    match folders_in(found) {
-        Some(folders) => verifying_of(alloc, folders, below),
-        None => Err(wrong(alloc, texts::NO_COMMAND)),
-    }
+    verifying_of(alloc, folders_in(alloc, found)?, below)
 }
 
-/// The value of this name.
-fn given<'a>(alloc: Global, found: &ArgMatches<'a>, name: &str) -> Result<&'a str, NoTask>
-    ensures asked { IfOk result (λ text. first_value (found_of found.now) name.now ≡ Some text.now) }
-    ensures given { IsSome (first_value (found_of found.now) name.now) → IsOk result }
+/// The options of a command that is no archive's.
+fn options_for(alloc: Global, found: &ArgMatches<'_>) -> Result<Options, NoTask>
+    ensures asked { IfOk result (AsksOptions (found_of found.now) (length_in (found_of found.now))) }
+    ensures tolerance { IfOk result (λ options. IsTolerance options.tolerance) }
     ensures status { IfErr result IsBadLine }
 {
-    match found.get_str(name) {
-        Some(text) => Ok(text),
-        None => Err(wrong(alloc, texts::NO_COMMAND)),
-    }
+    options_in(alloc, found, found.get_str("length"))
 }
 
 /// The file to be repacked that clap found.
-fn repacking_in<'a>(
-    alloc: Global,
-    options: Options,
-    found: &ArgMatches<'a>,
-) -> Result<Repacking<'a>, NoTask>
-    ensures asked { IfOk result (λ asked. (asked.options ≡ options)
-        × (first_value (found_of found.now) (codes "IN") ≡ Some asked.input.now)
-        × (first_value (found_of found.now) (codes "OUT") ≡ option_map (λ name. name.now) asked.output)) }
+fn repacking_in<'a>(alloc: Global, found: &ArgMatches<'a>) -> Result<Repacking<'a>, NoTask>
+    ensures asked { IfOk result (λ asked. AsksTask (found_of found.now) (Repack asked)) }
+    ensures tolerance { IfOk result (λ asked. IsTolerance asked.options.tolerance) }
     ensures keeps_input { IfOk result (λ asked. IfSome asked.output (λ name. name.now ≢ asked.input.now)) }
     ensures status { IfErr result IsBadLine }
 {
+    let options = options_for(alloc, found)?;
     let input = given(alloc, found, "IN")?;
     repacking_of(alloc, options, input, found.get_str("OUT"))
+}
+
+/// The file whose segments are to be listed that clap found.
+fn listing_in<'a>(alloc: Global, found: &ArgMatches<'a>) -> Result<Listing<'a>, NoTask>
+    ensures asked { IfOk result (λ asked. AsksTask (found_of found.now) (Task.List asked)) }
+    ensures tolerance { IfOk result (λ asked. IsTolerance asked.options.tolerance) }
+    ensures status { IfErr result IsBadLine }
+{
+    let options = options_for(alloc, found)?;
+    let input = given(alloc, found, "IN")?;
+    Ok(Listing { options, input })
+}
+
+/// What is to be fed that clap found.
+fn feeding_in<'a>(alloc: Global, found: &ArgMatches<'a>) -> Result<Feeding<'a>, NoTask>
+    ensures asked { IfOk result (λ asked. AsksTask (found_of found.now) (Feed asked)) }
+    ensures tolerance { IfOk result (λ asked. IsTolerance asked.options.tolerance) }
+    ensures status { IfErr result IsBadLine }
+{
+    let options = options_for(alloc, found)?;
+    let report = given(alloc, found, "REPORT")?;
+    Ok(Feeding { options, report })
 }
 
 /// Two files to be compared, exactly if not both are standard input.
@@ -468,71 +495,47 @@ fn comparing_of<'a>(
 }
 
 /// The files to be compared that clap found.
-fn comparing_in<'a>(
-    alloc: Global,
-    options: Options,
-    found: &ArgMatches<'a>,
-) -> Result<Comparing<'a>, NoTask>
-    ensures asked { IfOk result (λ asked. (asked.options ≡ options)
-        × (first_value (found_of found.now) (codes "ONE") ≡ Some asked.one.now)
-        × (first_value (found_of found.now) (codes "OTHER") ≡ Some asked.other.now)) }
+fn comparing_in<'a>(alloc: Global, found: &ArgMatches<'a>) -> Result<Comparing<'a>, NoTask>
+    ensures asked { IfOk result (λ asked. AsksTask (found_of found.now) (Compare asked)) }
+    ensures tolerance { IfOk result (λ asked. IsTolerance asked.options.tolerance) }
     ensures keeps_input { IfOk result (λ asked. ¬ (AreBothStandard asked.one.now asked.other.now)) }
     ensures status { IfErr result IsBadLine }
 {
+    let options = options_for(alloc, found)?;
     let one = given(alloc, found, "ONE")?;
     let other = given(alloc, found, "OTHER")?;
     comparing_of(alloc, options, one, other)
 }
 
-/// What clap found. It lets no line through without a command, its inputs and numbers in their ranges.
+/// What clap found.
 fn task_of<'a>(alloc: Global, matches: &ArgMatches<'a>) -> Result<Task<'a>, NoTask>
-    ensures command { IfOk result (λ task. subcommand_name_of matches.now ≡ Some (command_of task)) }
+    ensures command { IfOk result (λ task. subcommand_name_of matches.now ≡ Some (word_of (verb_of task))) }
     ensures tolerance { IfOk result HasTolerance }
     ensures keeps_input { IfOk result KeepsInput }
     ensures status { IfErr result IsBadLine }
 {
-    let Some((name, found)) = matches.subcommand() else {
-        return Err(wrong(alloc, texts::NO_COMMAND));
-    };
-    task_in(alloc, name, found)
+    let (name, found) = required(alloc, matches.subcommand())?;
+    let verb = required(alloc, Verb::named(name))?;
+    task_in(alloc, verb, found)
 }
 
-/// What clap found under the command of this name.
-fn task_in<'a>(alloc: Global, name: &str, found: &ArgMatches<'a>) -> Result<Task<'a>, NoTask>
-    ensures command { IfOk result (λ task. name.now ≡ command_of task) }
+/// What clap found under this command.
+fn task_in<'a>(alloc: Global, verb: Verb, found: &ArgMatches<'a>) -> Result<Task<'a>, NoTask>
+    ensures command { IfOk result (λ task. verb_of task ≡ verb) }
     ensures asked { IfOk result (AsksTask (found_of found.now)) }
     ensures tolerance { IfOk result HasTolerance }
     ensures keeps_input { IfOk result KeepsInput }
     ensures status { IfErr result IsBadLine }
 {
-    if name == "check" {
-        return match checking_in(found) {
-            Some(asked) => Ok(Task::Check(asked)),
-            None => Err(wrong(alloc, texts::NO_COMMAND)),
-        };
+    match verb {
+        Verb::Repack => Ok(Task::Repack(repacking_in(alloc, found)?)),
+        Verb::List => Ok(Task::List(listing_in(alloc, found)?)),
+        Verb::Check => Ok(Task::Check(checking_in(alloc, found)?)),
+        Verb::Compare => Ok(Task::Compare(comparing_in(alloc, found)?)),
+        Verb::Archive => Ok(Task::Archive(archiving_in(alloc, found)?)),
+        Verb::Verify => Ok(Task::Verify(verifying_in(alloc, found)?)),
+        Verb::Feed => Ok(Task::Feed(feeding_in(alloc, found)?)),
     }
-    if name == "archive" {
-        return Ok(Task::Archive(archiving_in(alloc, found)?));
-    }
-    if name == "verify" {
-        return Ok(Task::Verify(verifying_in(alloc, found)?));
-    }
-    let options = options_in(alloc, found, found.get_str("length"))?;
-    if name == "feed" {
-        let report = given(alloc, found, "REPORT")?;
-        return Ok(Task::Feed(Feeding { options, report }));
-    }
-    if name == "list" {
-        let input = given(alloc, found, "IN")?;
-        return Ok(Task::List(Listing { options, input }));
-    }
-    if name == "compare" {
-        return Ok(Task::Compare(comparing_in(alloc, options, found)?));
-    }
-    if name == "repack" {
-        return Ok(Task::Repack(repacking_in(alloc, options, found)?));
-    }
-    Err(wrong(alloc, texts::NO_COMMAND))
 }
 
 /// The task that the words ask for, of which the first is the program's name.

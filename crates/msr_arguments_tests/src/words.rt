@@ -1,7 +1,7 @@
 //! msr_arguments: a command line without any word, not even the program's name, as no run has. What the others are read
 //! as, and how they are refused, runs of the program show.
-use msr_arguments::{Repacking, Task, read_words};
-use msr_options::Options;
+use msr_arguments::read_words;
+use msr_options::{Options, Repacking, Task};
 use msr_words::Length;
 use std::test::Fail;
 

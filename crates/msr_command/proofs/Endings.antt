@@ -1,7 +1,7 @@
 -- How tasks end: done, stopped, or before they begin.
 use Rattle.std.specs.Prelude.{◌↔◌, ⊤, IsTrue}
 use Rattle.std.proofs.Common.{◌≡◌, ◌⊎◌, ℕ, Bool, List, [], codes, refl, subst, sym, inl, inr, append-nil, Result, Ok, Err}
-use Rattle.msr_devices.specs.Device.{Device, Takes}
+use Rattle.msr_devices.specs.Device.{Device, HasLeft, Takes}
 use Rattle.msr_devices.proofs.Chaining.{calm_same, left_of, takes_append, takes_none}
 use Rattle.msr_base.specs.declared.counts.Counts.{Counts}
 use Rattle.msr_report.specs.declared.report.Report.{Report}
@@ -12,7 +12,7 @@ use Rattle.msr_tool.specs.Listing.{ListAnswers}
 use Rattle.msr_tool.specs.Tasks.{Reports, Tells, VerdictAnswers}
 use Rattle.msr_tool.specs.declared.fault.ToolFault.{ToolFault}
 use Rattle.msr_tool.specs.declared.fault.ToolFault.TheVariants as fault
-use Rattle.msr_days.specs.declared.DayOptions.{DayOptions}
+use Rattle.msr_options.specs.declared.days.DayOptions.{DayOptions}
 use Rattle.msr_walk.specs.Walk.{IsWalk, Walks}
 use Rattle.msr_walk.proofs.EntriesTold.{part_none, stops_entries, walk_stops}
 use Rattle.msr_verify.specs.Walk.{IsWalk as IsVerifying, Verifies}
@@ -21,12 +21,12 @@ use Rattle.msr_command.specs.declared.done.Done.{Done}
 use Rattle.msr_command.specs.declared.done.Done.TheVariants.{Written, Repacked, Checked, Compared, Walked}
 use Rattle.msr_command.specs.declared.task_fault.TaskFault.{TaskFault}
 use Rattle.msr_command.specs.declared.task_fault.TaskFault.TheVariants.{CannotOpen, Input, SameFile, SameOutput, Overlap, Closed, Tool}
-use Rattle.msr_arguments.specs.declared.task.Task.{Task}
-use Rattle.msr_arguments.specs.declared.task.Task.TheVariants.{Repack, List as Listing, Check, Compare, Archive, Verify, Feed}
+use Rattle.msr_options.specs.declared.task.Task.{Task}
+use Rattle.msr_options.specs.declared.task.Task.TheVariants.{Repack, List as Listing, Check, Compare, Archive, Verify, Feed}
 use Rattle.msr_command.specs.Turns.{AreTurns}
 use Rattle.msr_command.specs.Comparing.{names_of}
 use Rattle.msr_command.proofs.Comparisons.{compare_unsettled, two_after, two_none}
-use Rattle.msr_command.specs.Ends.{Checks, Does, Ends, EndsClosed, Feeds, FeedAnswers, FeedEnds, FeedsTo, IfChecked, IfRepacked, IfWritten, IsUncreated, IsUnread, ListEnds, ListsNamed, IsOverlapOrMemory, Over, RepackEnds, Repacks, RepacksNamed, StopsRecords, StopsReport, VerifiesArchive, WalksArchive, WritesList, WritesRecords, WritesReport}
+use Rattle.msr_command.specs.Ends.{Checks, Does, Ends, EndsClosed, Feeds, FeedAnswers, FeedEnds, FeedsTo, IfChecked, IfRepacked, IfWritten, IsUncreated, IsUnread, ListEnds, Lists, ListsNamed, IsOverlapOrMemory, Over, RepackEnds, Repacks, RepacksNamed, StopsRecords, StopsReport, VerifiesArchive, WalksArchive, WritesList, WritesRecords, WritesReport}
 
 -- nothing was read or printed
 over_none : (known : Type 0) (says : (input printed : List ℕ) → Type 0) (source out0 out : Device) → Takes out0 out [] →
@@ -377,28 +377,26 @@ task_unsettled (Feed asked) standard out0 out (Checked verdict) does = absurd do
 task_unsettled (Feed asked) standard out0 out (Compared comparison) does = absurd does.ends
 task_unsettled (Feed asked) standard out0 out (Walked refused) does = absurd does.ends
 
--- a file, and not standard input, was listed, or is at fault
+-- a source was listed, or is at fault
 
-pub list_done : (choice : Choice) (name : List ℕ) (standard out0 out : Device) (input printed : List ℕ)
-    (counts : Counts) →
-    (name ≡ codes "-" → ⊥) → Takes out0 out printed → ListAnswers (settings_of choice) input printed (Ok counts) →
-    ListsNamed choice name standard out0 out (Ok Written)
-list_done choice name standard out0 out input printed counts other prints answers = record {
+pub list_done : (choice : Choice) (source out0 out : Device) (input printed : List ℕ) (counts : Counts) →
+    HasLeft source input → Takes out0 out printed → ListAnswers (settings_of choice) input printed (Ok counts) →
+    Lists choice source out0 out (Ok Written)
+list_done choice source out0 out input printed counts left prints answers = record {
   input = input;
   printed = printed;
-  left = λ is. absurd (other is);
+  left = λ is. left;
   prints = prints;
   ends = record { counts = counts; listed = answers };
 }
 
-pub list_stops : (choice : Choice) (name : List ℕ) (standard out0 out : Device) (input printed : List ℕ)
-    (why : ToolFault) →
-    (name ≡ codes "-" → ⊥) → Takes out0 out printed → ListAnswers (settings_of choice) input printed (Err why) →
-    ListsNamed choice name standard out0 out (Err (Tool why))
-list_stops choice name standard out0 out input printed why other prints answers = record {
+pub list_stops : (choice : Choice) (source out0 out : Device) (input printed : List ℕ) (why : ToolFault) →
+    HasLeft source input → Takes out0 out printed → ListAnswers (settings_of choice) input printed (Err why) →
+    Lists choice source out0 out (Err (Tool why))
+list_stops choice source out0 out input printed why left prints answers = record {
   input = input;
   printed = printed;
-  left = λ is. absurd (other is);
+  left = λ is. left;
   prints = prints;
   ends = answers;
 }

@@ -5,7 +5,7 @@ use Rattle.msr_devices.specs.Device.{Device, CountsError, HasFailed, HasLeft, Ta
 use Rattle.msr_base.specs.declared.counts.Counts.{Counts}
 use Rattle.msr_report.specs.declared.report.Report.{Report}
 use Rattle.msr_options.specs.Choice.{Choice}
-use Rattle.msr_days.specs.declared.DayOptions.{DayOptions}
+use Rattle.msr_options.specs.declared.days.DayOptions.{DayOptions}
 use Rattle.msr_tool.specs.Settings.{settings_of}
 use Rattle.msr_tool.specs.Listing.{IsListed, ListAnswers}
 use Rattle.msr_tool.specs.Tasks.{IsReported, ReportAnswers, VerdictAnswers}
@@ -24,11 +24,10 @@ use Rattle.msr_command.specs.declared.task_fault.TaskFault.TheVariants.{CannotOp
 use Rattle.msr_command.specs.declared.comparing.Names.{Names}
 use Rattle.msr_command.specs.Comparing.{IsAnswered, IsUncompared, StopsComparison, names_of}
 use Rattle.msr_command.specs.Turns.{AreTurns}
-use Rattle.msr_arguments.specs.declared.task.NoTask.{NoTask}
-use Rattle.msr_arguments.specs.declared.task.NoTask.TheVariants.{Ending, NotALength, Memory}
-use Rattle.msr_arguments.specs.declared.task.Task.{Task}
-use Rattle.msr_arguments.specs.declared.task.Task.TheVariants.{Repack, List as Listing, Check, Compare, Archive, Verify, Feed}
-use Rattle.msr_arguments.specs.Tasks.{HasStatus, IsDefault}
+use Rattle.msr_options.specs.declared.task.NoTask.{NoTask}
+use Rattle.msr_options.specs.declared.task.NoTask.TheVariants.{Ending, NotALength, Memory}
+use Rattle.msr_options.specs.declared.task.Task.{Task}
+use Rattle.msr_options.specs.declared.task.Task.TheVariants.{Repack, List as Listing, Check, Compare, Archive, Verify, Feed}
 
 -- 0 for what was written, is least or is the same, 3 for what is not shown or differs, 1 for a walk on which an entry was
 -- refused, or not verified
@@ -182,6 +181,10 @@ ListEnds choice result input printed =
     Ends (IfWritten (WritesList choice input printed)) IsUnread
     (λ fault. ListAnswers (settings_of choice) input printed (Err fault)) printed result
 
+-- Listing a source.
+abbrev pub Lists : Choice → (source out0 out : Device) → Result Done TaskFault → Type 0
+Lists choice source out0 out result = Over ⊤ (ListEnds choice result) source out0 out
+
 -- Listing the file of a name.
 abbrev pub ListsNamed : Choice → (name : List ℕ) → (standard out0 out : Device) → Result Done TaskFault → Type 0
 ListsNamed choice name standard out0 out result = Over (name ≡ codes "-") (ListEnds choice result) standard out0 out
@@ -315,11 +318,9 @@ Does (Archive asked) standard out0 out result = WalksArchive asked.days out0 out
 Does (Verify asked) standard out0 out result = VerifiesArchive out0 out result
 Does (Feed asked) standard out0 out result = Feeds asked.options standard out0 out result
 
--- The words ask for a task, with none for the default, and it ended with this status.
-pub record EndsTask (words : ℕ) (standard out0 out : Device) (status : ℕ) : Type 0 where
-  pub task : Task
+-- A task was done, and ended with this status.
+pub record EndsDone (task : Task) (standard out0 out : Device) (status : ℕ) : Type 0 where
   pub outcome : Result Done TaskFault
-  pub default : words < 2 → IsDefault task
   pub does : Does task standard out0 out outcome
   pub ended : status ≡ status_of outcome
 
@@ -332,9 +333,7 @@ EndsText (Ending ending) out0 out status =
 EndsText NotALength out0 out status = (status ≡ 2) × (out ≡ out0)
 EndsText Memory out0 out status = (status ≡ 1) × (out ≡ out0)
 
--- The words ask for no task.
-pub record EndsWithoutTask (words : ℕ) (out0 out : Device) (status : ℕ) : Type 0 where
-  pub why : NoTask
-  pub some : 2 ≤ words
-  pub has_status : HasStatus why
-  pub ends : EndsText why out0 out status
+-- what was asked for was done, or what there is in its place was told
+abbrev pub EndsAsked : Result Task NoTask → (standard out0 out : Device) → (status : ℕ) → Type 0
+EndsAsked (Ok task) standard out0 out status = EndsDone task standard out0 out status
+EndsAsked (Err why) standard out0 out status = EndsText why out0 out status

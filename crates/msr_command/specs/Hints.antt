@@ -1,11 +1,11 @@
 -- What a person is told when a task has ended.
 use Rattle.std.specs.Prelude.{if◌then◌else◌, ◌≡◌, ◌≢◌, ℕ, Bool, false, true, List, codes, IfSome, IsSomeAnd, Option, None, Some, Result, Ok, Err}
 use Rattle.std.specs.Io.KnownBytes.{Appends}
-use Rattle.msr_hints.specs.Hints.{IsOfBytes, line_of}
-use Rattle.msr_hints.specs.declared.hint.Hint.{Hint}
-use Rattle.msr_hints.specs.declared.hint.Hint.TheVariants.{Folder, Lengths, System, Turns}
-use Rattle.msr_arguments.specs.declared.task.Task.{Task}
-use Rattle.msr_arguments.specs.declared.task.Task.TheVariants.{Repack, List as Listing, Check, Compare, Archive, Verify, Feed}
+use Rattle.msr_options.specs.Hints.{IsOfBytes, line_of}
+use Rattle.msr_options.specs.declared.hint.Hint.{Hint}
+use Rattle.msr_options.specs.declared.hint.Hint.TheVariants.{Folder, Lengths, System, Turns}
+use Rattle.msr_options.specs.declared.task.Task.{Task}
+use Rattle.msr_options.specs.declared.task.Task.TheVariants.{Repack, List as Listing, Check, Compare, Archive, Verify, Feed}
 use Rattle.msr_input.specs.declared.fault.ReadFault.{ReadFault}
 use Rattle.msr_tool.specs.Fault.{fault_of_reading}
 use Rattle.msr_tool.specs.declared.fault.ToolFault.{ToolFault}

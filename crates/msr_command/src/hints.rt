@@ -3,9 +3,8 @@ ghost use Rattle.msr_command.specs.Hints.{HintsBytes, HintsDone, HintsEnd, Hints
 
 use crate::done::Done;
 use crate::task_fault::TaskFault;
-use msr_arguments::Task;
-use msr_hints::{Hint, hint_of_file, hint_of_folder};
 use msr_input::ReadFault;
+use msr_options::{Hint, Task, hint_of_file, hint_of_folder};
 use msr_tool::ToolFault;
 use std::rt::Files;
 

@@ -1,4 +1,4 @@
-//! The program's tasks: what is done with the files that a command line names, and what is told at the end.
+//! The program's tasks: what is done with the files that a task names, and what is told at the end.
 #![tactic(auto)]
 
 mod comparing;
@@ -10,6 +10,5 @@ mod task_fault;
 mod tasks;
 mod turns;
 
-pub use msr_arguments::NOT_UTF8;
-pub use msr_hints::Errors;
+pub use msr_options::Errors;
 pub use program::{complain, run};

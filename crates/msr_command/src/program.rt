@@ -1,18 +1,17 @@
-//! What the program does with its words: a task, or the text that they end with.
+//! What the program does with what it was asked: a task, or the text that is told in its place.
 ghost use Rattle.std.specs.Io.KnownBytes.{Appends};
-ghost use Rattle.std.specs.Prelude.{◌≡◌, ◌⊎◌, ◌++◌, OnOk, codes, false, length, true};
+ghost use Rattle.std.specs.Prelude.{◌≡◌, ◌++◌, OnOk, codes, false, true};
 ghost use Rattle.msr_devices.specs.Device.{CanCountCall};
-ghost use Rattle.msr_command.specs.Ends.{EndsTask, EndsText, EndsWithoutTask, status_of, status_of_task_fault};
+ghost use Rattle.msr_command.specs.Ends.{EndsAsked, EndsText, status_of, status_of_task_fault};
 ghost use Rattle.msr_command.specs.Hints.{TellsLengths, TellsPerson};
-ghost use Rattle.msr_arguments.specs.declared.task.NoTask.TheVariants.{Ending as WithText};
+ghost use Rattle.msr_options.specs.declared.task.NoTask.TheVariants.{Ending as WithText};
 
 use crate::done::Done;
 use crate::hints::{FilesRead, hint_of};
 use crate::task_fault::TaskFault;
 use crate::tasks::do_task;
-use msr_arguments::{Ending, NoTask, read_words};
 use msr_devices::{Sink, Source, write_all};
-use msr_hints::{Errors, Hint, write_hint};
+use msr_options::{Ending, Errors, Hint, NoTask, Task, write_hint};
 use msr_walk::LockFile;
 use std::alloc::Global;
 use std::io;
@@ -82,8 +81,7 @@ fn tell_lengths<E: Write>(errors: &mut Errors<E>) -> io::Result<()>
 
 /// Prints the text to end with: help and the version as output, a fault of the command line as an error.
 fn end<O: Sink, E: Write>(output: &mut O, errors: &mut E, ending: &Ending) -> u8
-    requires output { CanCountCall (O.device output.old) }
-    requires status { (ending.now.status ≡ 0) ⊎ (ending.now.status ≡ 2) }
+    requires { CanCountCall (O.device output.old) }
     ensures { EndsText (WithText ending.now) (O.device output.old) (O.device output.new) result }
 {
     let text = ending.text.as_str();
@@ -95,11 +93,11 @@ fn end<O: Sink, E: Write>(output: &mut O, errors: &mut E, ending: &Ending) -> u8
     ending.status
 }
 
-/// Does what the words ask for, of which the first is the program's name, and gives the status.
-pub fn run<R: Files, I: Source, O: Sink, E: Write>(
+/// Does what was asked for, or tells what there is in place of a task, and gives the status.
+pub fn run<'a, R: Files, I: Source, O: Sink, E: Write>(
     rt: &R,
     alloc: Global,
-    words: &[&str],
+    asked: Result<Task<'a>, NoTask>,
     input: &mut I,
     output: &mut O,
     errors: &mut Errors<E>,
@@ -108,10 +106,9 @@ where
     R::File: LockFile,
     requires input { CanCountCall (I.device input.old) }
     requires output { CanCountCall (O.device output.old) }
-    ensures { EndsTask (length words.now) (I.device input.old) (O.device output.old) (O.device output.new) result
-        ⊎ EndsWithoutTask (length words.now) (O.device output.old) (O.device output.new) result }
+    ensures { EndsAsked asked.entry (I.device input.old) (O.device output.old) (O.device output.new) result }
 {
-    match read_words(alloc, words) {
+    match asked {
         Ok(task) => {
             let read = FilesRead::of(&task);
             let ended = do_task(rt, alloc, task, input, output);

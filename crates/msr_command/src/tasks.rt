@@ -2,7 +2,7 @@
 //! output.
 ghost use Rattle.std.specs.Prelude.{IfErr};
 ghost use Rattle.msr_devices.specs.Device.{CanCountCall};
-ghost use Rattle.msr_command.specs.Ends.{Checks, Does, EndsClosed, Feeds, FeedsTo, IsOverlapOrMemory, ListsNamed, OpensOutput, Repacks, RepacksNamed, VerifiesArchive, WalksArchive};
+ghost use Rattle.msr_command.specs.Ends.{Checks, Does, EndsClosed, Feeds, FeedsTo, IsOverlapOrMemory, Lists, ListsNamed, OpensOutput, Repacks, RepacksNamed, VerifiesArchive, WalksArchive};
 
 use crate::comparing::compare_files;
 use crate::done::Done;
@@ -11,8 +11,8 @@ use crate::files::{
 };
 use crate::task_fault::TaskFault;
 use crate::turns::is_in_turns;
-use msr_arguments::{Archiving, Checking, Feeding, Folders, Listing, Repacking, Task, Verifying};
 use msr_folders::{FileId, folders_overlap, settle};
+use msr_options::{Archiving, Checking, Feeding, Folders, Listing, Repacking, Task, Verifying};
 use msr_tool::{
     FromRead, FromWrite, Options, Sink, Source, ToolFault, check_and_tell, feed_and_report,
     list_segments, repack_and_report,
@@ -228,6 +228,23 @@ fn feed_to<R: Files, I: Source, O: Sink>(
     Ok(())
 }
 
+/// Lists the segments of the source.
+fn list_from<'a, I: Source, O: Sink>(
+    alloc: Global,
+    options: Options,
+    source: &mut I,
+    output: &mut O,
+) -> Result<Done, TaskFault<'a>>
+    requires source { CanCountCall (I.device source.old) }
+    requires output { CanCountCall (O.device output.old) }
+    ensures { Lists options (I.device source.old) (O.device output.old) (O.device output.new) result }
+{
+    match list_segments(alloc, source, output, options) {
+        Ok(_) => Ok(Done::Written),
+        Err(fault) => Err(TaskFault::Tool(fault)),
+    }
+}
+
 fn list_file<'a, R: Files, I: Source, O: Sink>(
     rt: &R,
     alloc: Global,
@@ -246,12 +263,10 @@ fn list_file<'a, R: Files, I: Source, O: Sink>(
     } = asked;
     if name == "-" {
         standard_input(rt)?;
-        list_segments(alloc, input, output, options)?;
-        return Ok(Done::Written);
+        return list_from(alloc, options, input, output);
     }
     let mut source = FromRead::new(open_file(rt, name)?.file);
-    list_segments(alloc, &mut source, output, options)?;
-    Ok(Done::Written)
+    list_from(alloc, options, &mut source, output)
 }
 
 /// Opens both inputs before either is read.

@@ -1,1 +1,4 @@
 pub mod Choice
+pub mod Days
+pub mod Hints
+pub mod Tasks

@@ -1,10 +1,15 @@
-//! The program `msrepack`: hands its words and streams to `run`, and ends with the status that it gives.
+//! The program `msrepack`: reads its words, has done what they ask for, and ends with the status that comes of it.
 #![tactic(auto)]
 
-use msr_command::{Errors, NOT_UTF8, complain, run};
-use msr_tool::{FromRead, FromWrite};
+ghost use Rattle.std.specs.Prelude.{◌⊎◌, length};
+ghost use Rattle.msr_devices.specs.Device.{CanCountCall};
+ghost use Rattle.msr_program.specs.Words.{EndsTask, EndsWithoutTask};
+
+use msr_arguments::{NOT_UTF8, read_words};
+use msr_command::{Errors, complain, run};
+use msr_tool::{FromRead, FromWrite, Sink, Source};
 use std::alloc::{AllocError, Global};
-use std::io::{ErrorKind, IsTerminal};
+use std::io::{ErrorKind, IsTerminal, Write};
 use std::process::ExitCode;
 use std::{env, io};
 
@@ -15,6 +20,23 @@ fn words_given(rt: &HostRuntime, alloc: Global) -> io::Result<Vec<String>> {
 
 fn borrowed(alloc: Global, words: &[String]) -> Result<Vec<&str>, AllocError> {
     words.iter().map(|word| word.as_str()).collect(alloc)
+}
+
+/// Does what the words ask for, of which the first is the program's name, and gives the status.
+fn run_words<I: Source, O: Sink, E: Write>(
+    rt: &HostRuntime,
+    alloc: Global,
+    words: &[&str],
+    input: &mut I,
+    output: &mut O,
+    errors: &mut Errors<E>,
+) -> u8
+    requires input { CanCountCall (I.device input.old) }
+    requires output { CanCountCall (O.device output.old) }
+    ensures { EndsTask (length words.now) (I.device input.old) (O.device output.old) (O.device output.new) result
+        ⊎ EndsWithoutTask (length words.now) (O.device output.old) (O.device output.new) result }
+{
+    run(rt, alloc, read_words(alloc, words), input, output, errors)
 }
 
 fn main(rt: HostRuntime) -> ExitCode {
@@ -30,7 +52,7 @@ fn main(rt: HostRuntime) -> ExitCode {
             Ok(words) => {
                 let mut input = FromRead::new(rt.stdin());
                 let mut output = FromWrite::new(rt.stdout());
-                run(
+                run_words(
                     &rt,
                     alloc,
                     words.as_slice(),

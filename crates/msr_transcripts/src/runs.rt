@@ -2,6 +2,7 @@
 
 use crate::files;
 use crate::settings::Settings;
+use msr_arguments::read_words;
 use msr_command::{Errors, run};
 use msr_tool::{TestSink, TestSource};
 use std::fs::{File, OpenOptions};
@@ -69,7 +70,7 @@ fn run_with(rt: &HostRuntime, settings: &Settings<'_>, words: &[&str]) -> io::Re
     let status = run(
         &settings.odd,
         rt.alloc(),
-        words,
+        read_words(rt.alloc(), words),
         &mut source,
         &mut sink,
         &mut errors,

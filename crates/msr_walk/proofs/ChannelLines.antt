@@ -8,7 +8,7 @@ use Rattle.std.specs.List.{flat_map, slice_get}
 use Rattle.std.specs.Option.{option_map}
 use Rattle.msr_devices.specs.Device.{Device, Takes}
 use Rattle.msr_devices.proofs.Chaining.{takes_append}
-use Rattle.msr_days.specs.declared.DayOptions.{DayOptions}
+use Rattle.msr_options.specs.declared.days.DayOptions.{DayOptions}
 use Rattle.msr_report.specs.Writing.{TakesPrefix}
 use Rattle.msr_walk.specs.Entries.{Entry, IsTally}
 use Rattle.msr_folders.specs.declared.totals.Total.{Total}

@@ -4,14 +4,14 @@ use Rattle.std.proofs.lemmas.List.{append-nil}
 use Rattle.msr_devices.specs.Device.{Device}
 use Rattle.msr_kinds.specs.declared.lengths.Length.{Length}
 use Rattle.msr_options.specs.Choice.{Choice}
-use Rattle.msr_days.specs.Days.{in_length}
+use Rattle.msr_options.specs.Days.{in_length}
 use Rattle.msr_output.specs.Output.{segment_of_packed}
 use Rattle.msr_report.specs.declared.report.Report.{Report}
 use Rattle.msr_tool.specs.Answer.{IsRepacked, IsStopped}
 use Rattle.msr_tool.specs.Tasks.{Reports}
 use Rattle.msr_tool.specs.declared.fault.ToolFault.{ToolFault}
 use Rattle.msr_tool.specs.declared.fault.ToolFault.TheVariants as fault
-use Rattle.msr_days.specs.declared.DayOptions.{DayOptions}
+use Rattle.msr_options.specs.declared.days.DayOptions.{DayOptions}
 use Rattle.msr_walk.specs.Day.{RepacksDay, HasAnswer, IsComparedIfAsked, IsDayOutcome, IsOutcomeOfDay, IsRepackedDay, IsShownIfAsked, IsUnread}
 use Rattle.msr_walk.specs.Entries.{IsDayOf, IsOutcomeOf}
 use Rattle.msr_walk.specs.declared.outcome.Outcome.{Outcome}

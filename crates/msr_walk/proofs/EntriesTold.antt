@@ -10,7 +10,7 @@ use Rattle.msr_folders.proofs.VisitLemmas.{part_none, stops_within}
 use Rattle.msr_report.specs.Writing.{TakesPrefix}
 use Rattle.msr_tool.specs.Fault.{fault_of_writing}
 use Rattle.msr_tool.specs.declared.fault.ToolFault.TheVariants.{Write}
-use Rattle.msr_days.specs.declared.DayOptions.{DayOptions}
+use Rattle.msr_options.specs.declared.days.DayOptions.{DayOptions}
 use Rattle.msr_walk.specs.Entries.{Entry, IsEntry, IsEntryLine, counted, is_refused}
 use Rattle.msr_walk.specs.Walk.{IsWalkInPart, StopsPrefix, StopsTelling, Tells, TellsInPart, TellsRefusals, Walks, summary}
 use Rattle.msr_walk.specs.declared.tally.Tally.{Tally}

@@ -10,8 +10,8 @@ use Rattle.msr_compare.specs.Answers.{HaveSameSegments}
 use Rattle.msr_tool.specs.Checking.{CheckAnswers, IsChecked}
 use Rattle.msr_tool.specs.Settings.{settings_of}
 use Rattle.msr_options.specs.Choice.{Choice, as_strict, size_of}
-use Rattle.msr_days.specs.Days.{in_length}
-use Rattle.msr_days.specs.declared.DayOptions.{DayOptions}
+use Rattle.msr_options.specs.Days.{in_length}
+use Rattle.msr_options.specs.declared.days.DayOptions.{DayOptions}
 use Rattle.msr_tool.specs.Tasks.{IsReported, ReportAnswers}
 use Rattle.msr_tool.specs.declared.fault.ToolFault.{ToolFault}
 use Rattle.msr_tool.specs.declared.fault.ToolFault.TheVariants.{Memory, Read}

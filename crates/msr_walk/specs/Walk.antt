@@ -10,7 +10,7 @@ use Rattle.msr_report.specs.Writing.{TakesPrefix}
 use Rattle.msr_folders.specs.declared.totals.Total.{Total}
 use Rattle.msr_tool.specs.declared.fault.ToolFault.{ToolFault}
 use Rattle.msr_tool.specs.declared.fault.ToolFault.TheVariants.{Input, Report, Read, Write, Memory}
-use Rattle.msr_days.specs.declared.DayOptions.{DayOptions}
+use Rattle.msr_options.specs.declared.days.DayOptions.{DayOptions}
 use Rattle.msr_walk.specs.Entries.{Entry, IsEntry, IsEntryLine, AreLines, IsTally, bytes_of_channels, bytes_told, channels_of, counted, is_done, is_larger, is_refused, is_skipped, summed}
 use Rattle.msr_walk.specs.declared.tally.Tally.{Tally}
 

@@ -11,8 +11,8 @@ use crate::repacking::{
     Counting, counts_kept, first_length, repack_day_of, require_same, require_shown,
 };
 use crate::stamp::Stamp;
-use msr_days::DayOptions;
 use msr_folders::{Look, ended, join, open_regular, settle_regular};
+use msr_options::DayOptions;
 use msr_tool::{FromRead, FromWrite, Length};
 use std::alloc::{AllocError, Global};
 use std::fs;

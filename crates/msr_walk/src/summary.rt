@@ -9,9 +9,9 @@ ghost use Rattle.msr_walk.specs.Walk.{StopsPrefix, channel_line, counts_line, la
 
 use crate::outcome::bytes_told;
 use crate::tally::Tally;
-use msr_days::DayOptions;
 use msr_devices::{DeviceFault, Sink, write_all};
 use msr_folders::{Total, Totals};
+use msr_options::DayOptions;
 use std::alloc::{AllocError, Global};
 
 /// The line of a channel, with the totals of its records and of its bytes.

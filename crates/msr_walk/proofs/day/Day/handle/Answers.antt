@@ -1,5 +1,5 @@
 use Rattle.std.proofs.Common.{IfOk, subst}
-use Rattle.msr_days.specs.declared.DayOptions.{DayOptions}
+use Rattle.msr_options.specs.declared.days.DayOptions.{DayOptions}
 use Rattle.msr_walk.specs.Day.{IsDayOutcome}
 use Rattle.msr_walk.proofs.Days.{outcome_of_day}
 use Rattle.msr_walk.proofs.day.Day.handle.Goals as goal

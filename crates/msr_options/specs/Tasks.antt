@@ -1,13 +1,35 @@
 -- What the words of a command line ask for.
-use Rattle.std.specs.Prelude.{◌≡◌, ◌≢◌, ◌⊎◌, ◌≤◌, ℕ, ⊤, Bool, false, List, ◌++◌, AllPairs, None, IfSome, codes, string_bytes}
+use Rattle.std.specs.Prelude.{◌≡◌, ◌≢◌, ◌⊎◌, ◌≤◌, ℕ, ⊤, Bool, false, List, ◌++◌, AllPairs, None, IfSome, codes}
 use Rattle.msr_kinds.specs.declared.kinds.Kinds.{Kinds}
 use Rattle.msr_kinds.specs.declared.kinds.Kinds.TheVariants.{All}
 use Rattle.msr_options.specs.Choice.{Choice, size_of}
-use Rattle.msr_arguments.specs.declared.task.Folders.{Folders}
-use Rattle.msr_arguments.specs.declared.task.Task.{Task}
-use Rattle.msr_arguments.specs.declared.task.Task.TheVariants.{Repack, List as Listing, Check, Compare, Archive, Verify, Feed}
-use Rattle.msr_arguments.specs.declared.task.NoTask.{NoTask}
-use Rattle.msr_arguments.specs.declared.task.NoTask.TheVariants.{Ending, NotALength, Memory}
+use Rattle.msr_options.specs.declared.task.Folders.{Folders}
+use Rattle.msr_options.specs.declared.task.Task.{Task}
+use Rattle.msr_options.specs.declared.task.Task.TheVariants.{Repack, List as Listing, Check, Compare, Archive, Verify, Feed}
+use Rattle.msr_options.specs.declared.task.Verb.{Verb}
+use Rattle.msr_options.specs.declared.task.Verb.TheVariants as verb
+use Rattle.msr_options.specs.declared.task.NoTask.{NoTask}
+use Rattle.msr_options.specs.declared.task.NoTask.TheVariants.{Ending, NotALength, Memory}
+
+-- the word of a command
+abbrev pub word_of : Verb → List ℕ
+word_of verb.Repack = codes "repack"
+word_of verb.List = codes "list"
+word_of verb.Check = codes "check"
+word_of verb.Compare = codes "compare"
+word_of verb.Archive = codes "archive"
+word_of verb.Verify = codes "verify"
+word_of verb.Feed = codes "feed"
+
+-- the command that asks for a task
+abbrev pub verb_of : Task → Verb
+verb_of (Repack asked) = verb.Repack
+verb_of (Listing asked) = verb.List
+verb_of (Check asked) = verb.Check
+verb_of (Compare asked) = verb.Compare
+verb_of (Archive asked) = verb.Archive
+verb_of (Verify asked) = verb.Verify
+verb_of (Feed asked) = verb.Feed
 
 -- 1 to 1,000,000 microseconds
 pub record IsTolerance (tolerance : ℕ) : Type 0 where
@@ -75,18 +97,6 @@ IsDefault (Compare asked) = ⊥
 IsDefault (Archive asked) = ⊥
 IsDefault (Verify asked) = ⊥
 IsDefault (Feed asked) = ⊥
-
--- a bad command line: the text to end with, and status 2, unless memory is refused
-abbrev pub IsWrong : (text : List ℕ) → NoTask → Type 0
-IsWrong text (Ending ending) = (string_bytes ending.text ≡ text) × (ending.status ≡ 2)
-IsWrong text NotALength = ⊥
-IsWrong text Memory = ⊤
-
--- a bad command line, whatever its text
-abbrev pub IsBadLine : NoTask → Type 0
-IsBadLine (Ending ending) = ending.status ≡ 2
-IsBadLine NotALength = ⊤
-IsBadLine Memory = ⊤
 
 -- no task, with status 0 for help and the version and 2 for a bad command line
 abbrev pub HasStatus : NoTask → Type 0

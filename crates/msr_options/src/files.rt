@@ -1,6 +1,6 @@
 //! Looks at what could not be read.
 ghost use Rattle.std.specs.Prelude.{◌≡◌, IfSome, Some};
-ghost use Rattle.msr_hints.specs.Hints.{IsOfBytes, hint_of_begin};
+ghost use Rattle.msr_options.specs.Hints.{IsOfBytes, hint_of_begin};
 
 use crate::hint::Hint;
 use std::fs;

@@ -1,7 +1,7 @@
 -- What is asked of the days of an archive.
 use Rattle.msr_kinds.specs.declared.lengths.Length.{Length}
 use Rattle.msr_options.specs.Choice.{Choice}
-use Rattle.msr_days.specs.declared.DayOptions.{DayOptions}
+use Rattle.msr_options.specs.declared.days.DayOptions.{DayOptions}
 
 -- the same choice for records of another length
 abbrev pub with_length : Length → Choice → Choice

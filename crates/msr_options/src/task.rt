@@ -1,6 +1,6 @@
 //! What the program can be asked to do.
-use msr_days::DayOptions;
-use msr_options::Options;
+use crate::days::DayOptions;
+use crate::options::Options;
 use std::alloc::AllocError;
 
 /// A file to be repacked.
@@ -87,6 +87,54 @@ pub enum Task<'a> {
     Feed(Feeding<'a>),
 }
 
+/// What the program can be asked to do, without what it is done with.
+#[derive(Clone, Copy, Debug, PartialEq, Eq)]
+pub enum Verb {
+    Repack,
+    List,
+    Check,
+    Compare,
+    Archive,
+    Verify,
+    Feed,
+}
+
+impl Verb {
+    ghost use Rattle.std.specs.Prelude.{◌≡◌, ◌↔◌, Some};
+    ghost use Rattle.msr_options.specs.Tasks.{word_of};
+
+    /// The command that this word is, if it is one.
+    pub fn named(word: &str) -> Option<Verb>
+        ensures { (verb : Verb) → (result ≡ Some verb) ↔ (word.now ≡ word_of verb) }
+    {
+        match word {
+            "repack" => Some(Verb::Repack),
+            "list" => Some(Verb::List),
+            "check" => Some(Verb::Check),
+            "compare" => Some(Verb::Compare),
+            "archive" => Some(Verb::Archive),
+            "verify" => Some(Verb::Verify),
+            "feed" => Some(Verb::Feed),
+            _ => None,
+        }
+    }
+
+    /// The word of the command.
+    pub fn word<'a>(self) -> &'a str
+        ensures { result.now ≡ word_of self }
+    {
+        match self {
+            Verb::Repack => "repack",
+            Verb::List => "list",
+            Verb::Check => "check",
+            Verb::Compare => "compare",
+            Verb::Archive => "archive",
+            Verb::Verify => "verify",
+            Verb::Feed => "feed",
+        }
+    }
+}
+
 /// The text to end with, and the status.
 #[derive(Debug, Drop)]
 pub struct Ending {
@@ -105,7 +153,7 @@ pub enum NoTask {
 
 impl From<AllocError> for NoTask {
     ghost use Rattle.std.specs.Prelude.{◌≡◌};
-    ghost use Rattle.msr_arguments.specs.declared.task.NoTask.TheVariants.{Memory};
+    ghost use Rattle.msr_options.specs.declared.task.NoTask.TheVariants.{Memory};
 
     ghost from_gives = { λ _ why. why ≡ Memory };
 

@@ -1,7 +1,7 @@
 //! What is certain beside a fault, or beside a repack.
 ghost use Rattle.std.specs.Io.KnownBytes.{Appends};
 ghost use Rattle.std.specs.Prelude.{◌≡◌, OnOk, IfSome, false, true};
-ghost use Rattle.msr_hints.specs.Hints.{line_of};
+ghost use Rattle.msr_options.specs.Hints.{line_of};
 
 use crate::errors::Errors;
 use std::io::Write;
@@ -25,7 +25,7 @@ pub enum Hint {
 }
 
 impl fmt::Display for Hint {
-    ghost use Rattle.msr_hints.specs.Hints.{text_of};
+    ghost use Rattle.msr_options.specs.Hints.{text_of};
 
     ghost output = { text_of };
 

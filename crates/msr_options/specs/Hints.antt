@@ -2,8 +2,8 @@
 use Rattle.std.specs.Prelude.{if◌then◌else◌, ◌≡◌, ◌⊎◌, ◌==◌, ℕ, List, [], ◌∷◌, ◌++◌, codes, Option, None, Some}
 use Rattle.std.specs.List.{starts_with}
 use Rattle.std.specs.Option.{option_map}
-use Rattle.msr_hints.specs.declared.hint.Hint.{Hint}
-use Rattle.msr_hints.specs.declared.hint.Hint.TheVariants.{Gzip, MiniSeed3, Folder, Turns, Lengths, System}
+use Rattle.msr_options.specs.declared.hint.Hint.{Hint}
+use Rattle.msr_options.specs.declared.hint.Hint.TheVariants.{Gzip, MiniSeed3, Folder, Turns, Lengths, System}
 
 -- the text of a hint; that of the system's reason is the system's own
 abbrev pub text_of : Hint → Option (List ℕ)

@@ -1,10 +1,8 @@
 //! What is asked of the days of an archive.
-#![tactic(auto)]
-
 ghost use Rattle.std.specs.Prelude.{◌≡◌};
 
+use crate::options::Options;
 use msr_kinds::Length;
-use msr_options::Options;
 
 /// How the days of an archive are repacked, which of them are kept, and what is told of them.
 #[derive(Clone, Copy, Debug, PartialEq, Eq)]
@@ -24,7 +22,7 @@ pub struct DayOptions {
 }
 
 impl DayOptions {
-    ghost use Rattle.msr_days.specs.Days.{in_length};
+    ghost use Rattle.msr_options.specs.Days.{in_length};
 
     /// The same for records of another length.
     pub fn in_length(&self, length: Length) -> DayOptions
