@@ -21,6 +21,9 @@ import tempfile
 import time
 
 ROOT = os.path.dirname(os.path.dirname(os.path.realpath(__file__)))
+sys.path.insert(0, os.path.join(ROOT, "tools"))
+from built import program_of
+
 RATE = 100
 EVENTS = 24
 LENGTHS = ("512", "4096")
@@ -118,11 +121,6 @@ def line(name, command, words, samples, few, folder, runs):
     speeds = [f"{seconds:.3f}", f"{samples / seconds:,.0f}", f"{size / seconds / 1e6:,.0f}"]
     row = [os.path.basename(name), command, *speeds, "-" if memory is None else f"{memory:,}", each]
     print("| " + " | ".join(row) + " |", flush=True)
-
-
-def program_of(named):
-    """The program that is named, or that of these sources, shipped or built."""
-    return named or subprocess.run([f"{ROOT}/tools/program"], stdout=subprocess.PIPE, check=True, text=True).stdout.strip()
 
 
 def main():

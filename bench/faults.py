@@ -351,11 +351,12 @@ def main():
     words.add_argument("--only", default="", help="only cases with this text in their titles")
     words.add_argument("--program")
     asked = words.parse_args()
+    program = day.program_of(asked.program)
     if not shutil.which("strace"):
         sys.exit("strace is not here: apt-get install strace")
     signal.signal(signal.SIGTERM, lambda *_: sys.exit(1))
     with tempfile.TemporaryDirectory(prefix="msrepack-faults-") as folder:
-        bench = Bench(os.path.realpath(day.program_of(asked.program)), folder)
+        bench = Bench(program, folder)
         for case in [*(it for title, name in inputs(folder) for it in cases_of(bench, title, name)), HELP]:
             if asked.only in case.title:
                 hold_case(bench, case)

@@ -17,6 +17,8 @@ import subprocess
 import sys
 import tempfile
 
+import day
+
 ROOT = os.path.dirname(os.path.dirname(os.path.abspath(__file__)))
 CRATE = f"{ROOT}/crates/msr_growths"
 SECONDS = 60
@@ -147,10 +149,11 @@ def main():
     words.add_argument("--only", metavar="NAME", help="this call alone")
     words.add_argument("--program", default=f"{CRATE}/out/msr_growths")
     given = words.parse_args()
+    program = day.program_of(given.program, "rt run in crates/msr_growths")
     with open(f"{CRATE}/stdout", encoding="ascii") as it:
         blocks = usual_blocks(it.read())
     with tempfile.TemporaryDirectory() as folder:
-        bench = Bench(given.program, folder)
+        bench = Bench(program, folder)
         for name, usual in blocks.items():
             if given.only in (None, name):
                 bench.try_call(name, usual)

@@ -159,9 +159,9 @@ echo "calm: outputs 2 least 2 same 2 samples 8064, digest 0a"
         room = tempfile.TemporaryDirectory(prefix="msrepack-bench-")
         self.addCleanup(room.cleanup)
         self.root = room.name
-        for name in ("kept", "figures.py", "workloads.py", "day.py"):
-            os.makedirs(f"{self.root}/bench", exist_ok=True)
-            shutil.copy(f"{HERE}/{name}", f"{self.root}/bench/{name}")
+        for name in ("bench/kept", "bench/figures.py", "bench/workloads.py", "bench/day.py", "tools/built.py"):
+            os.makedirs(os.path.dirname(f"{self.root}/{name}"), exist_ok=True)
+            shutil.copy(f"{os.path.dirname(HERE)}/{name}", f"{self.root}/{name}")
         self.put("bench/workloads.txt", "calm days calm 5 SEED\n")
         self.put("bench/kept.txt", self.ROOMY)
         self.put("crates.txt", "days: waves\nwaves:\n")

@@ -29,12 +29,18 @@ def program_of(checkout, workload):
     return os.path.join(os.path.abspath(checkout), "crates", workload.crate, "out", workload.crate)
 
 
+def require_program(checkout, workload):
+    """Ends the script if the workload's program is not built in that checkout."""
+    program = program_of(checkout, workload)
+    if not os.access(program, os.X_OK):
+        print(f"{program} is not built: rt run in crates/{workload.crate}", file=sys.stderr)
+        sys.exit(2)
+
+
 @contextlib.contextmanager
 def called(checkout, workload, seed):
     """The words of the workload's call in that checkout, and the folder and the standard input that it gets."""
     folder, program = os.path.join(os.path.abspath(checkout), "bench"), program_of(checkout, workload)
-    if not os.access(program, os.X_OK):
-        sys.exit(f"{program} is not built: rt run in crates/{workload.crate}")
     words = [str(seed) if word == "SEED" else word for word in workload.words]
     source = words.pop()[1:] if words and words[-1].startswith("<") else os.devnull
     with open(os.path.join(folder, source), "rb") as given:

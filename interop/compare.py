@@ -10,11 +10,13 @@ import subprocess
 import sys
 import tempfile
 
+ROOT = os.path.dirname(os.path.dirname(os.path.realpath(__file__)))
+sys.path.insert(0, os.path.join(ROOT, "tools"))
 import model
 import reports
+from built import program_of
 from model import INT16, INT24, INT32, STEIM1, STEIM2, Key
 
-ROOT = os.path.dirname(os.path.dirname(os.path.realpath(__file__)))
 LENGTHS = [256] * 6 + [512, 512, 1024, 4096, 32768]
 TOLERANCES = [1000, 1000, 1000, 1, 999, 1_000_000]
 RATES = [(20, 1), (1, 1), (100, 1), (3, 1), (20000, 4), (-10, 1), (7, -3), (-3, -7), (200, -10), (32767, 32767)]
@@ -355,11 +357,6 @@ def compare(job):
         if answer.fault is None and check_differs(program, made, answer):
             differ.append("check")
     return number, differ, answer.fault
-
-
-def program_of(named):
-    """The program that is named, or that of these sources, shipped or built."""
-    return named or subprocess.run([f"{ROOT}/tools/program"], stdout=subprocess.PIPE, check=True, text=True).stdout.strip()
 
 
 def main():

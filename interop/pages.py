@@ -1,8 +1,10 @@
 """Runs the recipes of README.md and docs/MANUAL.md, the lines after `$`, and compares what they print with the page.
 
-Each block is run in a new folder, which has what its words name: the program, the examples, and `turns.mseed`.
+Each block is run in a new folder, which has what its words name: the program, the examples, and `turns.mseed`. In a clone git
+has to ignore what they write, so that no recipe makes changes that are in no commit.
 """
 import difflib
+import fnmatch
 import os
 import re
 import shlex
@@ -64,9 +66,22 @@ def is_shown(lines, text):
     return re.fullmatch(pattern, text) is not None
 
 
+def ignored():
+    """The patterns of .gitignore for what stands at the top of a clone."""
+    with open(f"{ROOT}/.gitignore", encoding="utf-8") as file:
+        return [line.strip() for line in file if line.startswith("/")]
+
+
+def left_over(folder):
+    """What recipes wrote in the folder that git would not ignore."""
+    names = [f"/{name}{'/' * os.path.isdir(f'{folder}/{name}')}" for name in os.listdir(folder)]
+    given = ["/msrepack", "/examples/", *ignored()]
+    return sorted(name for name in names if not any(fnmatch.fnmatchcase(name, pattern) for pattern in given))
+
+
 def play_block(page, program, recipes):
-    """How many recipes of a block print what the page shows, and what is told of the others."""
-    told = []
+    """How many recipes of a block print what the page shows, and what is told of the others, and of what they leave."""
+    passed, told = 0, []
     with tempfile.TemporaryDirectory() as folder:
         os.symlink(program, f"{folder}/msrepack")
         os.symlink(f"{ROOT}/examples", f"{folder}/examples")
@@ -75,10 +90,13 @@ def play_block(page, program, recipes):
         for command, lines in recipes:
             both = {"stdout": subprocess.PIPE, "stderr": subprocess.STDOUT, "stdin": subprocess.DEVNULL}
             text = subprocess.run(["sh", "-c", command], cwd=folder, timeout=60, check=False, **both).stdout.decode(errors="replace")
-            if not is_shown(lines, text):
+            if is_shown(lines, text):
+                passed += 1
+            else:
                 differ = [f"    {line}\n" for line in difflib.ndiff(lines, text.splitlines()) if line[0] in "-+"]
                 told.append(f"{page}: $ {command}\n{''.join(differ)}")
-    return len(recipes) - len(told), told
+        told += [f"{page}: .gitignore lacks what a recipe writes: {name}\n" for name in left_over(folder)]
+    return passed, told
 
 
 def play(program, page):

@@ -20,12 +20,14 @@ import subprocess
 import sys
 import tempfile
 
-sys.dont_write_bytecode = True
-import compare
-import inputs
-
 HERE = os.path.dirname(os.path.realpath(__file__))
 ROOT = os.path.dirname(HERE)
+sys.dont_write_bytecode = True
+sys.path.insert(0, os.path.join(ROOT, "python"))
+import compare
+import inputs
+from msrepack import Report
+
 PACKAGES = ["gcc", "libc6-dev", "libmseed-dev", "libmseed-doc", "mseed2sac"]
 LENGTHS = [256, 512, 1024, 2048, 4096, 8192, 16384, 32768, 65536]
 KINDS = {11: "Steim-2", 10: "Steim-1", 1: "16-bit", 2: "24-bit", 3: "32-bit"}
@@ -179,7 +181,7 @@ def repacked(bench, name, length, options):
         it.write(text)
     if bench.said(bench.program, "check", out, report) != "least\n":
         sys.exit(f"check does not say least of {name} at {length}")
-    segments = int(re.search(r"^end (\d+) segments", text, re.M)[1])
+    segments = len(Report.parse(text).segments)
     with open(out, "rb") as it:
         encodings = it.read()[52::length]
     if UNREAD in encodings:
@@ -415,9 +417,10 @@ def main():
     words.add_argument("--program")
     words.add_argument("--only", default="", help="only inputs with this text in their titles, and nothing that is refused")
     asked = words.parse_args()
+    program = compare.program_of(asked.program)
     ensure_packages(asked.install)
     with tempfile.TemporaryDirectory(prefix="msrepack-interop-") as folder:
-        bench = Bench(os.path.realpath(compare.program_of(asked.program)), folder)
+        bench = Bench(program, folder)
         print(versions(bench))
         pairs = [rows_of(bench, it) for it in inputs.INPUTS if asked.only in it.title]
         for title, rows in zip(CHOICES, zip(*pairs)):

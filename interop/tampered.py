@@ -1,13 +1,17 @@
 """Programs that are wrong, each in one way, over a little of each part: where a part has to notice and does not, the test
-itself is wrong. The first is not wrong, and nothing may be noticed.
+itself is wrong. The first is not wrong, and nothing may be noticed. And reports that are wrong, each in one byte: the Python
+package has to say of each what the program says.
 """
 import itertools
 import os
 import re
+import subprocess
 import sys
 import tempfile
 from collections import namedtuple
 
+ROOT = os.path.dirname(os.path.dirname(os.path.realpath(__file__)))
+sys.path.insert(0, os.path.join(ROOT, "python"))
 import compare
 import model
 import pages
@@ -16,6 +20,7 @@ import play
 import same_segments
 import transcript
 from jobs import Job, Result
+from msrepack import NotAReport, Report
 
 # Runs the program, and then does what is wrong: to the text that is printed, to the complaint, to the status, or to the file
 # that was written, whose name is the last word.
@@ -78,18 +83,23 @@ RECIPES = [
 ]
 
 # The steps that have to fail; whether a file that is repacked and one that is refused do; how many of two pairs, of which one
-# is refused, and of the recipes. None if it hangs on the file.
-Noticed = namedtuple("Noticed", "steps repacked refused pairs recipes")
+# is refused, of the recipes, and of three reports, of which one shows the fewest records, one does not, and one is none. None if
+# it hangs on the file.
+Noticed = namedtuple("Noticed", "steps repacked refused pairs recipes reports")
 WAYS = {
-    "nothing wrong": Noticed(set(), 0, 0, 0, 0),
-    "another byte printed": Noticed({2, 6, 11, 14}, 1, None, 1, 1),
-    "another byte in a complaint": Noticed({9, 13, 14}, 0, 1, 1, 0),
-    "another status": Noticed(RUNS, 1, 1, 2, 0),
-    "another byte in a file": Noticed({4, 7}, 1, None, 0, 1),
-    "a file lost": Noticed({4, 7}, 1, 1, 0, 1),
-    "ends by a signal": Noticed(RUNS, 1, 1, 2, 2),
-    "does nothing": Noticed(RUNS - {5} | {4, 6, 7}, 1, 1, 2, 1),
+    "nothing wrong": Noticed(set(), 0, 0, 0, 0, 0),
+    "another byte printed": Noticed({2, 6, 11, 14}, 1, None, 1, 1, 2),
+    "another byte in a complaint": Noticed({9, 13, 14}, 0, 1, 1, 0, 1),
+    "another status": Noticed(RUNS, 1, 1, 2, 0, 3),
+    "another byte in a file": Noticed({4, 7}, 1, None, 0, 1, 0),
+    "a file lost": Noticed({4, 7}, 1, 1, 0, 1, 0),
+    "ends by a signal": Noticed(RUNS, 1, 1, 2, 2, 3),
+    "does nothing": Noticed(RUNS - {5} | {4, 6, 7}, 1, 1, 2, 1, 3),
 }
+
+# Of the reports that are changed, how many a job has.
+EACH = 100
+VERDICTS = {0: b"least\n", 3: b"not shown\n"}
 
 
 def steps_noticed(program):
@@ -114,6 +124,60 @@ def two_pairs():
     return [known[0], next(pair for pair in known if isinstance(pair.known, str))]
 
 
+def sample():
+    """Records and report of a file of two segments, by the model."""
+    with open(f"{ROOT}/examples/two-segments.mseed", "rb") as file:
+        answer = model.repacked(file.read(), 256, 1000, False, model.KINDS)
+    return answer.records, answer.report.encode()
+
+
+def changed(report):
+    """The report with each byte in turn another one, left out, and there twice."""
+    for place, byte in enumerate(report):
+        before, after = report[:place], report[place + 1 :]
+        yield from (before + bytes([byte ^ 1]) + after, before + after, before + bytes([byte, byte]) + after)
+
+
+def three_reports():
+    """One of other counts, one of another separator, one with a line left out."""
+    report = sample()[1]
+    return report.replace(b"read 5", b"read 6"), report.replace(b"separators 0", b"separators 1", 1), report[11:]
+
+
+def told_by_package(report):
+    """The status, the print and the complaint of `check`, as the package has it; the status and the print are one of the
+    verdicts if it is a report."""
+    try:
+        read = Report.parse(report)
+    except NotAReport as why:
+        return {(1, b"", f"msrepack: {why}\n".encode())}
+    if str(read).encode("latin-1") != report:
+        return set()
+    return {(status, verdict, b"") for status, verdict in VERDICTS.items()}
+
+
+def reports_noticed(program, texts):
+    """The reports of which the program says something else than the package."""
+    wrong = []
+    with tempfile.TemporaryDirectory() as folder:
+        packed, path = f"{folder}/packed.mseed", f"{folder}/report.txt"
+        with open(packed, "wb") as file:
+            file.write(sample()[0])
+        for text in texts:
+            with open(path, "wb") as file:
+                file.write(text)
+            both = {"stdin": subprocess.DEVNULL, "stdout": subprocess.PIPE, "stderr": subprocess.PIPE}
+            done = subprocess.run([program, "check", packed, path], check=False, **both)
+            if (done.returncode, done.stdout, done.stderr) not in told_by_package(text):
+                wrong.append(text)
+    return wrong
+
+
+def play_reports(program, texts):
+    wrong = reports_noticed(program, texts)
+    return Result(len(texts) - len(wrong), len(wrong), told=parts.told(f"the package reads another report: {it}" for it in wrong))
+
+
 def noticed(program):
     return Noticed(
         steps_noticed(program),
@@ -121,6 +185,7 @@ def noticed(program):
         parts.files(program, [file_with(True)]).failed,
         parts.pairs(program, two_pairs).failed,
         len(pages.play_block("", program, RECIPES)[1]),
+        len(reports_noticed(program, three_reports())),
     )
 
 
@@ -148,3 +213,6 @@ def jobs(program):
     yield Job("programs that are wrong", play_scripts, ())
     for way in WAYS:
         yield Job("programs that are wrong", play_way, (program, way))
+    texts = list(changed(sample()[1]))
+    for first in range(0, len(texts), EACH):
+        yield Job("reports that are wrong", play_reports, (program, texts[first : first + EACH]))

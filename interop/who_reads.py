@@ -91,9 +91,10 @@ def main():
     words.add_argument("--install", action="store_true", help="fetch what is missing with apt-get")
     words.add_argument("--program")
     asked = words.parse_args()
+    program = compare.program_of(asked.program)
     readers.ensure_packages(asked.install)
     with tempfile.TemporaryDirectory(prefix="msrepack-interop-") as folder:
-        bench = readers.Bench(os.path.realpath(compare.program_of(asked.program)), folder)
+        bench = readers.Bench(program, folder)
         print(readers.versions(bench))
         print_table(bench)
 

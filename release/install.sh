@@ -1,7 +1,8 @@
 #!/bin/sh
 # install.sh PREFIX               installs msrepack below the folder PREFIX, as /usr/local or ~/.local: what this folder
 #                                 holds, or in a clone, where this is release/install.sh, what release/tree makes of it
-# install.sh --uninstall PREFIX   removes what was installed there, and the folders that were made for it
+# install.sh --uninstall PREFIX   removes what was installed there, all or the part to which a killed install.sh came, and
+#                                 the folders that were made for it, PREFIX too
 #
 # Status 0: done; 1: a file is not what SHA256SUMS says, there is no program of these sources, nothing was installed
 # there, or a file cannot be written, and what had its name stays; 2: bad call.
@@ -16,23 +17,34 @@ export LC_ALL=C
 prefix=$(realpath -m -- "$1")
 here=$(readlink -f "$0")
 cd "${here%/*}"
-note=share/msrepack/installed # the folders that were made and the files, for uninstall
-tree= new=
+# The folders that were made, of PREFIX and those above it the whole paths, and the files, for uninstall. They stand in
+# $begun before the first folder is made, and while they are removed.
+note=share/msrepack/installed begun=.msrepack-begun
+tree= new= part= first=
+# Lists have a line for each name.
+IFS='
+'
+set -f
+
+# path_of NAME: where a folder or a file of the list stands.
+path_of() { case $1 in /*) echo "$1" ;; *) echo "$prefix/$1" ;; esac }
 
 cannot_write() {
     echo "install.sh: cannot write $prefix/$1" >&2
-    rm -f "$prefix/$1.part"
     exit 1
 }
 
-# Removes the folders that were made and are not noted: the next try would not note them.
+# Removes what is not noted: the file that is not whole, and the folders that were made, of which the next try would not know.
 finish() {
     [ -z "$tree" ] || rm -rf "$tree"
+    [ -z "$part" ] || rm -f "$part"
+    [ -z "$first" ] || rm -f "$prefix/$begun"
     for folder in $(printf '%s\n' $new | sort -r); do
-        [ ! -d "$prefix/$folder" ] || rmdir "$prefix/$folder" || :
+        [ ! -d "$(path_of "$folder")" ] || rmdir "$(path_of "$folder")" || :
     done
 }
 trap finish EXIT
+trap 'exit 1' HUP INT TERM
 
 # Enters the folder with bin and share.
 enter_tree() {
@@ -48,17 +60,22 @@ enter_tree() {
     files=$(find bin share -type f)
 }
 
-# Makes the folders that are not there, and notes them with all files.
+# Makes the folders that are not there, and notes them, with all files, before the first one.
 make_folders() {
+    above=$prefix
+    while [ ! -d "$above" ]; do new="$new$above$IFS" above=$(dirname "$above"); done
     mkdir -p "$prefix"
-    for folder in $folders; do [ -d "$prefix/$folder" ] || new="$new $folder"; done
-    # Those above others come first.
-    for folder in $new; do mkdir "$prefix/$folder"; done
-    old=
-    if [ -f "$prefix/$note" ]; then old=$(cat "$prefix/$note"); fi
+    for folder in $folders; do [ -d "$prefix/$folder" ] || new="$new$folder$IFS"; done
+    old=$(cat "$prefix/$note" "$prefix/$begun" 2>/dev/null) || :
     all=$(printf '%s\n' $old $new $files | sort -u)
-    echo "$all" >"$prefix/$note.part" && mv -f "$prefix/$note.part" "$prefix/$note" || cannot_write "$note"
-    new=
+    [ -f "$prefix/$begun" ] || first=yes
+    part=$prefix/$begun.part
+    echo "$all" >"$part" && mv -f "$part" "$prefix/$begun" || cannot_write "$begun"
+    part=
+    # Those above others come first.
+    for folder in $new; do [ -d "$(path_of "$folder")" ] || mkdir "$(path_of "$folder")"; done
+    mv -f "$prefix/$begun" "$prefix/$note" || cannot_write "$note"
+    new= first=
 }
 
 install_all() {
@@ -66,17 +83,32 @@ install_all() {
     make_folders
     for file in $files; do
         if [ -x "$file" ]; then mode=755; else mode=644; fi
-        install -m $mode "$file" "$prefix/$file.part" && mv -f "$prefix/$file.part" "$prefix/$file" ||
-            cannot_write "$file"
+        part=$prefix/$file.part
+        install -m $mode "$file" "$part" && mv -f "$part" "$prefix/$file" || cannot_write "$file"
+        part=
     done
 }
 
 uninstall_all() {
-    [ -f "$prefix/$note" ] || { echo "install.sh: nothing was installed below $prefix" >&2; exit 1; }
-    installed=$(sort -r "$prefix/$note")
-    for path in $installed; do [ -d "$prefix/$path" ] || rm -f "$prefix/$path"; done
-    rm "$prefix/$note"
-    for path in $installed; do [ ! -d "$prefix/$path" ] || rmdir --ignore-fail-on-non-empty "$prefix/$path"; done
+    if [ ! -f "$prefix/$note" ] && [ ! -f "$prefix/$begun" ]; then
+        [ -f "$prefix/$begun.part" ] || { echo "install.sh: nothing was installed below $prefix" >&2; exit 1; }
+        rm "$prefix/$begun.part"
+        exit
+    fi
+    # What has begun last has all names.
+    if [ -f "$prefix/$begun" ]; then rm -f "$prefix/$note"; else mv "$prefix/$note" "$prefix/$begun"; fi
+    installed=$(sort -ru "$prefix/$begun")
+    for name in $installed; do
+        path=$(path_of "$name")
+        [ -d "$path" ] || rm -f "$path" "$path.part"
+    done
+    for name in $installed; do
+        path=$(path_of "$name")
+        # The whole paths are the last ones.
+        case $name in /*) rm -f "$prefix/$begun" "$prefix/$begun.part" ;; esac
+        [ ! -d "$path" ] || rmdir --ignore-fail-on-non-empty "$path"
+    done
+    rm -f "$prefix/$begun" "$prefix/$begun.part"
 }
 
 ${what}_all

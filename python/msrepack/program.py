@@ -70,24 +70,20 @@ def _of_clone() -> Optional[str]:
     asked = os.path.join(clone, "tools", "program")
     if not os.path.isfile(os.path.join(clone, "crates.txt")) or not os.access(asked, os.X_OK):
         return None
-    told = subprocess.run(
-        [asked, "--ready"], stdin=subprocess.DEVNULL, stdout=subprocess.PIPE, stderr=subprocess.PIPE, check=False
-    )
-    if told.returncode != 0:
-        raise NotFound(complaint_of(told.returncode, os.fsdecode(told.stderr)))
-    return os.fsdecode(told.stdout).rstrip("\n")
+    told = _told([asked, "--ready"])
+    if told.status != 0:
+        raise NotFound(told.complaint)
+    return told.printed.rstrip("\n")
 
 
 @functools.lru_cache(None)
 def _require_new(program: str) -> None:
     """Other programs have this name too, as an example of libmseed's."""
     try:
-        told = subprocess.run(
-            [program, "--version"], stdin=subprocess.DEVNULL, stdout=subprocess.PIPE, stderr=subprocess.PIPE, check=False
-        )
+        told = _told([program, "--version"])
     except OSError as why:
         raise NotFound(f"{program} does not run ({why.strerror}): {INSTALL}") from None
-    found = VERSION.fullmatch(told.stdout.decode(errors="replace"))
+    found = VERSION.fullmatch(told.printed)
     if not found:
         raise NotFound(f"{program} is not msrepack, or does not run: {INSTALL}")
     if tuple(map(int, found.groups())) < NEEDED:
@@ -231,7 +227,11 @@ def run(words: Sequence[str], inputs: Sequence[Data], has_records: bool = False)
     A path is a word as it is. All else goes through pipes, and so do the answers: there is no file to be left behind.
     `BytesIO` gives its bytes without a copy.
     """
-    program = find_program()
+    return _told([find_program(), *words], inputs, has_records)
+
+
+def _told(words: Sequence[str], inputs: Sequence[Data] = (), has_records: bool = False) -> Ended:
+    """What any program tells."""
     with contextlib.ExitStack() as stack:
         pipes = _Pipes(stack)
         names = [_name_of(data, pipes) for data in inputs]
@@ -239,7 +239,7 @@ def run(words: Sequence[str], inputs: Sequence[Data], has_records: bool = False)
         outputs = [] if output is None else [f"/dev/fd/{output}"]
         printing, printed = pipes.drain()
         complaining, complained = pipes.drain()
-        with started([program, *words, *names, *outputs], printing, complaining, pipes.theirs) as process:
+        with started([*words, *names, *outputs], printing, complaining, pipes.theirs) as process:
             pipes.pump()
             status = process.wait()
     return Ended(status, _text(printed), records.getvalue(), complaint_of(status, _text(complained)), tuple(names))

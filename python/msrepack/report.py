@@ -56,7 +56,8 @@ class Segment(NamedTuple):
 
     Codes are without the spaces that fill them in a header. `start` and `end` are microseconds from 1970 on, those of
     the first and of the last sample; `start_time` and `end_time` are the same as `datetime`, in UTC. `correction` counts
-    units of 0.0001 s. `records` and `separators` are None if they are not told, as of a file that was listed.
+    units of 0.0001 s. `records` and `separators` tell of a repack. `segments` and a list pack nothing, so there they are
+    None; `repack(..).report.segments` has them.
 
     >>> import msrepack
     >>> [segment] = msrepack.segments("examples/one-record.mseed")

@@ -2,13 +2,16 @@
 the program that the package finds, and all modules.
 
 What failed is told, then each test that was skipped, with its reason. The last line is `N passed, N failed, N skipped`; the
-status is 0 if none failed.
+status is 0 if none failed, 2 if there is no program, which a line tells.
 """
 import os
 import sys
 import unittest
 
 HERE = os.path.dirname(os.path.realpath(__file__))
+sys.path.insert(0, os.path.dirname(HERE))
+sys.dont_write_bytecode = True
+from msrepack import NotFound, find_program
 
 
 def asked():
@@ -21,6 +24,11 @@ def asked():
 def main():
     if sys.argv[1:]:
         os.environ["MSREPACK"] = os.path.abspath(sys.argv[1])
+    try:
+        find_program()
+    except NotFound as why:
+        print(f"python/tests: {why}", file=sys.stderr)
+        return 2
     with open(os.devnull, "w", encoding="utf-8") as nothing:
         result = unittest.TextTestRunner(stream=nothing).run(asked())
     faults = result.failures + result.errors

@@ -32,6 +32,29 @@ class Breaks(io.BytesIO):
         return piece
 
 
+def told_after_ctrl_c(folder, before="pass"):
+    """What a script tells that uses the package of a folder, and gets a Ctrl-C when the first process that it starts after
+    this line is one already, and `Popen` has not come back."""
+    script = textwrap.dedent(f"""
+        import os, signal, msrepack
+        {before}
+        read = os.read
+        def interrupted(*words):
+            os.read = read
+            signal.raise_signal(signal.SIGINT)
+            return read(*words)
+        os.read = interrupted
+        try:
+            msrepack.repack(b"")
+        except KeyboardInterrupt:
+            try:
+                os.waitpid(-1, os.WNOHANG)
+            except ChildProcessError:
+                print("no child left")
+    """)
+    return subprocess.run([sys.executable, "-B", "-c", script], cwd=folder, stdout=subprocess.PIPE, text=True, check=False).stdout
+
+
 class Finding(Tidy):
     def setUp(self):
         super().setUp()
@@ -103,6 +126,12 @@ class Finding(Tidy):
         with self.assertRaises(subprocess.CalledProcessError) as caught:
             self.copied("clone", "python")
         self.assertIn("msrepack.errors.NotFound: no program is built\n", caught.exception.stderr)
+
+    def test_ctrl_c_while_the_clone_is_asked(self):
+        self.clone("exec sleep 60")
+        package = self.path("clone/python/msrepack")
+        shutil.copytree(os.path.join(ROOT, "python", "msrepack"), package)
+        self.assertEqual(told_after_ctrl_c(os.path.dirname(package)), "no child left\n")
 
     def clone(self, script):
         """What a clone has beside the package, as far as it is looked at."""
@@ -217,28 +246,10 @@ class Running(Tidy):
                 os.kill(int(read(mark)), 0)
 
     def test_ctrl_c_while_the_program_starts(self):
-        """When it is a process already, and `Popen` has not come back."""
-        script = textwrap.dedent("""
-            import os, signal, msrepack
-            msrepack.find_program()
-            read = os.read
-            def interrupted(*words):
-                os.read = read
-                signal.raise_signal(signal.SIGINT)
-                return read(*words)
-            os.read = interrupted
-            try:
-                msrepack.repack(b"")
-            except KeyboardInterrupt:
-                try:
-                    os.waitpid(-1, os.WNOHANG)
-                except ChildProcessError:
-                    print("no child left")
-        """)
-        with other_program("exec sleep 60"):
-            words = [sys.executable, "-B", "-c", script]
-            ran = subprocess.run(words, cwd=os.path.join(ROOT, "python"), stdout=subprocess.PIPE, text=True, check=False)
-        self.assertEqual(ran.stdout, "no child left\n")
+        """When it is a process already, and `Popen` has not come back; also while it is asked for its version."""
+        for before in ("msrepack.find_program()", "pass"):
+            with self.subTest(before=before), other_program("exec sleep 60"):
+                self.assertEqual(told_after_ctrl_c(os.path.join(ROOT, "python"), before), "no child left\n")
 
     def test_records_are_not_held_twice(self):
         script = textwrap.dedent("""
