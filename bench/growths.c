@@ -1,6 +1,6 @@
 /* Refuses one growth of memory, or all from one on: GROWTH tells which, counted from 1, and GROWTHS, a file, takes how
-   many there were. Growths are counted from the first line on that the program has written to standard output.
-   Loaded before the C library (LD_PRELOAD). */
+   many there were. Growths are counted from the first line on that the program has written to standard output, or with
+   GROWTH_FROM_START all of them. Loaded before the C library (LD_PRELOAD). */
 #define _GNU_SOURCE
 #include <dlfcn.h>
 #include <errno.h>
@@ -11,6 +11,11 @@
 
 static long made, wanted = -1;
 static int all_from_there, counting;
+
+__attribute__((constructor)) static void begin(void)
+{
+    counting = getenv("GROWTH_FROM_START") != NULL;
+}
 
 static int refused(void)
 {

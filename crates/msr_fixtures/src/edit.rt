@@ -56,7 +56,7 @@ pub enum Edit<'a> {
 }
 
 /// Writes a part of the bytes, as far as they reach.
-fn put(bytes: &mut [u8], at: usize, part: &[u8]) {
+pub(crate) fn put(bytes: &mut [u8], at: usize, part: &[u8]) {
     for (place, value) in part.iter().enumerate() {
         if let Some(byte) = bytes.get_mut(at.saturating_add(place)) {
             *byte = *value;

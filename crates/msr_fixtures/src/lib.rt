@@ -6,16 +6,16 @@
 
 mod edit;
 mod keys;
+mod named;
 mod numbers;
 mod records;
-mod refusals;
 mod rows;
 
 pub use edit::Edit;
 pub use keys::key_at;
+pub use named::edit_by_name;
 pub use numbers::next_of;
 pub use records::{
     START, header_bytes, int32_record, little_record, record, record_of_words, steim_record,
 };
-pub use refusals::REFUSALS;
 pub use rows::expect;

@@ -1,0 +1,66 @@
+//! Packers and areas, by calls that ask of their caller what no row of a table can know.
+use msr_fixtures::expect;
+use msr_packer::BlockPacker;
+use msr_plain::{Width, fill_plain};
+use msr_words::{Form, Kind, Kinds, Length, first_kind, one_division};
+use std::test::Fail;
+
+#[test]
+fn the_first_kind_of_a_run() -> Result<(), Fail> {
+    one_division();
+    let length = Length::new(256).ok_or("a length")?;
+    let kind = first_kind(&[0, 1, 2], 0, 3, Form::all_kinds(length));
+    expect(kind == Kind::Steim2, "three samples")
+}
+
+/// Of 603 samples of 0 the sizes of all groups are told: twice 43 words of seven, and a word of one.
+#[test]
+fn sizes_of_groups_of_zeros(rt: HostRuntime) -> Result<(), Fail> {
+    let alloc = rt.alloc();
+    let zeros = vec![in alloc; 0; 603]?;
+    let length = Length::new(256).ok_or("a length")?;
+    let kinds = Kinds::All;
+    let mut packer = BlockPacker::new(alloc, Form { length, kinds });
+    expect(packer.group_sizes().is_empty(), "none before the first")?;
+    packer.push_all(&zeros)?;
+    let full = [7u8; 43];
+    let first = packer.next_piece();
+    expect(
+        first.is_some() && packer.group_sizes() == &full[..],
+        "the first record",
+    )?;
+    let second = packer.last_piece();
+    expect(
+        second.is_some() && packer.group_sizes() == &full[..],
+        "the second record",
+    )?;
+    let third = packer.last_piece();
+    expect(
+        third.is_some() && packer.group_sizes() == &[1u8][..],
+        "one sample",
+    )
+}
+
+/// The area begins with these bytes, and the others are 0.
+fn is_filled(area: &[u8], bytes: &[u8]) -> bool {
+    match area.get(bytes.len()..) {
+        Some(rest) => area.starts_with(bytes) && rest.iter().all(|byte| *byte == 0),
+        None => false,
+    }
+}
+
+#[test]
+fn filled_areas() -> Result<(), Fail> {
+    let mut area = [9; 192];
+    fill_plain(Width::Four, &[-2147483648, 2147483647], &mut area);
+    expect(
+        is_filled(&area, &[0x80, 0, 0, 0, 0x7f, 0xff, 0xff, 0xff]),
+        "32 bits",
+    )?;
+    let mut area = [9; 7];
+    fill_plain(Width::Three, &[-8388608, 8388607], &mut area);
+    expect(is_filled(&area, &[0x80, 0, 0, 0x7f, 0xff, 0xff]), "24 bits")?;
+    let mut area = [9; 6];
+    fill_plain(Width::Two, &[-32768, 32767], &mut area);
+    expect(is_filled(&area, &[0x80, 0, 0x7f, 0xff]), "16 bits")
+}

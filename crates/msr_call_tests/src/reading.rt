@@ -1,0 +1,91 @@
+//! A reader that has records at hand, rows whose samples are joined, and laws.
+ghost use Rattle.std.specs.Prelude.{◌≡◌, IfOk, length};
+
+use msr_base::SampleVec;
+use msr_devices::{Behavior, TestSource};
+use msr_fixtures::{Edit, START, expect, int32_record, key_at};
+use msr_input::{NextRecord, ReadFault, RowReader, Settings};
+use msr_record::{Key, Kind, Row};
+use msr_segments::{
+    Joiner, cuts_grow_by_rows, cuts_keep_segments, followers_stand_with_joiners,
+    overruns_are_out_of_range, rows_have_one_division, steps_are_pushes,
+};
+use msr_time::{Rate, one_nominal_instant};
+use std::alloc::{AllocError, Global};
+use std::test::Fail;
+
+/// Whether a record was given, with or without a row as it was asked for.
+fn has_row(next: Result<Option<NextRecord>, ReadFault>, row: bool) -> bool {
+    match next {
+        Ok(Some(next)) => next.row.is_some() == row,
+        _ => false,
+    }
+}
+
+/// Two records come with the first read, and the second one is given without another.
+#[test]
+fn records_at_hand_need_no_read(rt: HostRuntime) -> Result<(), Fail> {
+    let mut bytes = [0; 512];
+    bytes[..256].copy_from_slice(&int32_record(&[Edit::SampleCount(0)]));
+    bytes[256..].copy_from_slice(&int32_record(&[]));
+    let once = Behavior {
+        most: 512,
+        interruptions: 0,
+        fails_at: Some(1),
+    };
+    let settings = Settings {
+        tolerance: 10_000,
+        strict: false,
+    };
+    let mut source = TestSource::new(&bytes, once);
+    let mut reader = RowReader::new(rt.alloc(), settings);
+    let before = reader.holds_record();
+    let empty = has_row(reader.next_record(&mut source), false);
+    let between = reader.holds_record();
+    let second = has_row(reader.next_record(&mut source), true);
+    let after = reader.holds_record();
+    let failed = reader.next_record(&mut source).err() == Some(ReadFault::Read);
+    expect(!before && empty, "the first record")?;
+    expect(between && second, "the second record")?;
+    expect(!after && failed, "the read after them")
+}
+
+/// A row of two samples, the second greater by one.
+fn rising(alloc: Global, key: Key, start: i64, first: i32) -> Result<Row, AllocError>
+    ensures start { IfOk result (λ row. row.start ≡ start) }
+    ensures samples { IfOk result (λ row. length row.samples ≡ 2) }
+{
+    Ok(Row {
+        key,
+        start,
+        kind: Kind::Int32,
+        samples: SampleVec::from_vec([first, first.wrapping_add(1)].to_vec(alloc)?),
+    })
+}
+
+#[test]
+fn samples_are_joined_in_order(rt: HostRuntime) -> Result<(), Fail> {
+    let key = key_at(Rate::new(1, 1).ok_or("no rate")?);
+    let mut joiner = Joiner::new(rt.alloc(), 1000);
+    for (start, first) in [(START, 1), (START + 2_000_000, 3), (START + 4_000_000, 5)] {
+        let ended = joiner.push(rising(rt.alloc(), key, start, first)?);
+        expect(matches!(ended, Ok(None)), "a row that joins")?;
+    }
+    let segment = joiner.finish().ok_or("no segment")?;
+    expect(segment.key == key, "the key")?;
+    expect(
+        segment.samples.as_slice() == [1, 2, 3, 4, 5, 6].as_slice(),
+        "the samples",
+    )
+}
+
+#[test]
+fn laws_are_callable() {
+    one_nominal_instant();
+    rows_have_one_division();
+    cuts_keep_segments();
+    cuts_grow_by_rows();
+    steps_are_pushes();
+    followers_stand_with_joiners();
+    overruns_are_out_of_range();
+}

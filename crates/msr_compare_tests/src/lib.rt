@@ -1,5 +1,0 @@
-//! Tests of comparing two inputs.
-#![tactic(auto)]
-
-#[cfg(test)]
-mod answers;

@@ -1,6 +1,0 @@
--- The groups that are left.
-use Rattle.std.proofs.Common.{length}
-use Rattle.msr_format_tests.proofs.steim.+are_groups.Given as goal
-
-abbrev pub decreases-are_groups : goal.decreases-are_groups
-decreases-are_groups l = length l.groups.now
