@@ -9,10 +9,10 @@ use crate::lists::Hexadecimal;
 use crate::records::{append, part_of};
 use crate::words::{NONE, Words};
 use msr_base::SampleVec;
+use msr_folders::Totals;
 use msr_packer::{Piece, StreamPacker};
 use msr_segments::{Joiner, Segment};
 use msr_time::is_instant;
-use msr_totals::Totals;
 use std::alloc::AllocError;
 use std::io;
 
