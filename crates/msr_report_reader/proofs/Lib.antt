@@ -1,5 +1,4 @@
 pub mod Digits
-mod HexDigits
 pub mod Padded
 pub mod Bytes
 pub mod Instants

@@ -5,8 +5,7 @@ use Rattle.std.specs.Str.{all_ascii_digits}
 use Rattle.std.proofs.lemmas.Str.Parse.{digits_value_short, digit_at}
 use Rattle.std.proofs.lemmas.Fmt.{decimal-digits_value, digits_value-decimal, length-decimal-le}
 use Rattle.std.proofs.lemmas.Bool.Decides.{nat_tests}
-use Rattle.std.proofs.lemmas.Grind.{common_steps}
-use Rattle.std.proofs.lemmas.List.{take_all, take_more, length-replicate}
+use Rattle.std.proofs.lemmas.List.{length-take-le, take_more, length-replicate}
 use Rattle.std.proofs.Math.Nat.{pow-le-pow_right}
 use Rattle.std.proofs.Math.Seq.{take-append_seam, drop-append_seam}
 use Rattle.msr_report.specs.Text.{padded_decimal}
@@ -37,7 +36,7 @@ reads_more digits i value d so_far more short is digit =
     rw (front, digits_more (take i digits) d, so_far.all, digit) refl in
     let sum : value * 10 + (d - 48) ≡ number_after 0 (take (i + 1) digits) =
     rw (front, value_more 0 (take i digits) d) (omega (arith, so_far.is)) in
-    let few : length (take (i + 1) digits) ≤ 6 = grind (arith, common_steps) in
+    let few : length (take (i + 1) digits) ≤ 6 = omega (arith, length-take-le (i + 1) digits (omega arith)) in
     let bound : number_after 0 (take (i + 1) digits) < 10 ^ 6 =
     digits_value_short own (take (i + 1) digits) 6 every few in
     record { all = every; is = sum; small = omega arith }
@@ -46,14 +45,6 @@ pub all_are_digits : (digits : List ℕ) (i : ℕ) → all_ascii_digits digits �
     → is_ascii_digit (get_or digits i 0) ≡ true
 all_are_digits digits i all within =
     let range = digit_at digits i (own.to digits all) within in grind (arith, nat_tests)
-
-pub reads_all : (digits : List ℕ) (i value : ℕ) → ReadsDigits digits i value → length digits ≤ i
-    → (all_ascii_digits digits ≡ true) × (value ≡ number_after 0 digits)
-reads_all digits i value so_far all =
-    let whole = take_all i digits all in (rw whole at so_far.all, rw whole at so_far.is)
-
-pub digit_range : (d : ℕ) → is_ascii_digit d ≡ true → (48 ≤ d) × (d < 58)
-digit_range d digit = grind (arith, nat_tests)
 
 is_48 : (d : ℕ) → (d == 48) ≡ true → d ≡ 48
 is_48 d h = grind (arith, nat_tests)

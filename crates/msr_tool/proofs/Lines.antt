@@ -1,5 +1,5 @@
 -- Segments written one after another, and their lines.
-use Rattle.std.proofs.Common.{◌≡◌, ◌≤◌, ℕ, zero, suc, false, List, [], ◌∷◌, ◌++◌, ◌∙◌, map, length, refl, sym, ap, subst, arith, append_assoc, All, Option, Some, None, IfSome, Result, Ok, Err, MatchResult, ◌+◌}
+use Rattle.std.proofs.Common.{◌≡◌, ◌≤◌, zero, suc, false, List, [], ◌∷◌, ◌++◌, ◌∙◌, map, length, refl, sym, ap, subst, arith, append_assoc, All, Option, Some, None, IfSome, Result, Ok, Err, MatchResult, ◌+◌}
 use Rattle.std.specs.Prelude.{option_map}
 use Rattle.std.specs.Option.{option_to_list}
 use Rattle.std.proofs.lemmas.List.{map-append, append-nil}

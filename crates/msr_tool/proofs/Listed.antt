@@ -6,22 +6,11 @@ use Rattle.std.proofs.lemmas.List.{append-nil}
 use Rattle.msr_segments.specs.declared.joiner.Segment.{Segment}
 use Rattle.msr_devices.specs.Device.{Device, Takes, IsCalm}
 use Rattle.msr_devices.specs.WriteBuffer.{Passes}
-use Rattle.msr_devices.proofs.Chaining.{takes_append, takes_none, calm_calm, calm_same}
+use Rattle.msr_devices.proofs.Chaining.{takes_append, calm_calm}
 use Rattle.msr_report.specs.Text.{IsListLine, counts_line}
 use Rattle.msr_base.specs.declared.counts.Counts.{Counts}
 use Rattle.msr_tool.specs.Listing.{AreListLines}
 use Rattle.msr_tool.specs.ListWriting.{HasListed, HasListedAll, HasListedPrefix, HasListedCut, IsLastLine, open_of}
-
--- before the first row
-pub listed_none : (start : Device) → HasListed start start [] []
-listed_none start = record {
-  text = [];
-  taken = [];
-  lines = refl;
-  takes = takes_none start;
-  whole = refl;
-  calm = calm_same start;
-}
 
 pub lists_snoc : (segments : List Segment) (text line : List ℕ) (segment : Segment) → AreListLines segments text
     → IsListLine segment.key segment.start (length segment.samples) line

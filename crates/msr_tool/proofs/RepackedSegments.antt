@@ -1,5 +1,5 @@
 -- What was repacked is readable, with the segments of the input.
-use Rattle.std.proofs.Common.{◌≡◌, ◌∙◌, ℕ, ◌+◌, ◌^◌, ◌≤◌, lit<, List, [], ◌∷◌, ◌++◌, drop, length, length-append, map, arith, refl, sym, ap, subst, Option, None, Some, IfNone, IfSome, Ok}
+use Rattle.std.proofs.Common.{◌≡◌, ◌∙◌, ℕ, ◌^◌, ◌≤◌, lit<, List, [], ◌∷◌, ◌++◌, drop, length, length-append, map, arith, refl, sym, ap, subst, Option, None, Some, IfNone, IfSome, Ok}
 use Rattle.std.proofs.Math.Nat.{pow-le-pow_right}
 use Rattle.std.proofs.lemmas.List.{drop_at}
 use Rattle.std.specs.List.{flat_map}

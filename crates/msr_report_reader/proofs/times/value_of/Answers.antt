@@ -1,7 +1,7 @@
 use Rattle.std.proofs.Common.{◌≡◌, true}
 use Rattle.std.specs.Char.{is_ascii_digit}
 use Rattle.std.proofs.Common.{slice_index_or, arith, refl, sym, ◌∙◌}
-use Rattle.msr_report_reader.proofs.Padded.{reads_more, reads_all, digit_range, all_are_digits}
+use Rattle.msr_report_reader.proofs.Padded.{reads_more, all_are_digits}
 use Rattle.msr_report_reader.proofs.times.value_of.Goals as goal
 
 pub returns-then-not-is_ascii_digit : goal.returns-then-not-is_ascii_digit
@@ -14,24 +14,3 @@ pub loop-digit-preserved : goal.loop-digit-preserved
 loop-digit-preserved c =
     reads_more c.args.digits.now c.loop-digit.digit-index c.loop-digit.value _ c.loop-digit.invariant (omega arith)
     (omega arith) refl (sym c.is_ascii_digit.ensures.value ∙ c.if-not-is_ascii_digit.false)
-
-pub loop-digit-init : goal.loop-digit-init
-loop-digit-init c = record { all = refl; is = refl; small = omega arith }
-
-pub overflow_mul-value : goal.overflow_mul-value
-overflow_mul-value c = omega (arith, c.loop-digit.invariant.small)
-
-pub overflow_sub-value : goal.overflow_sub-value
-overflow_sub-value c =
-    (digit_range (slice_index_or c.args.digits.now c.loop-digit.digit-index 0)
-    (sym c.is_ascii_digit.ensures.value ∙ c.if-not-is_ascii_digit.false)).0
-
-pub overflow_add-value : goal.overflow_add-value
-overflow_add-value c =
-    let range = digit_range (slice_index_or c.args.digits.now c.loop-digit.digit-index 0)
-    (sym c.is_ascii_digit.ensures.value ∙ c.if-not-is_ascii_digit.false) in
-    omega (arith, c.loop-digit.invariant.small)
-
-pub returns : goal.returns
-returns c =
-    reads_all c.args.digits.now c.loop-digit.digit-index c.loop-digit.value c.loop-digit.invariant (omega arith)
