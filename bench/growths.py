@@ -29,7 +29,7 @@ CRATE = f"{ROOT}/crates/msr_vectors"
 SECONDS = 60
 # How a row tells that memory ran out: by its answer, or, if it takes one thing after another, by a line of its own.
 NONE = "no such row, or no memory"
-TOLD = (NONE, "refused true")
+TOLD = (NONE, "refused true", "Err(One(Memory))", "Err(Other(Memory))")
 # The rows that are tried begin so: those that take one thing after another, and of the others the first of each name.
 EACH = ("push", "extend", "stream", "append", "joins", "totals")
 FIRST = (
@@ -60,7 +60,7 @@ def answers():
 def chosen(found):
     rows = [row for row in found if row.split(" ")[0] in EACH]
     for begin in FIRST:
-        first = [row for row in found if row.startswith(begin)]
+        first = [row for row in found if row == begin] or [row for row in found if row.startswith(begin)]
         if not first:
             sys.exit(f"growths.py: no row begins with {begin!r}")
         rows.append(first[0])

@@ -1,8 +1,9 @@
 //! Packers and areas, by calls that ask of their caller what no row of a table can know.
 use msr_fixtures::expect;
-use msr_packer::BlockPacker;
+use msr_packer::{BlockPacker, Packing, Run, pack};
 use msr_plain::{Width, fill_plain};
-use msr_words::{Form, Kind, Kinds, Length, first_kind, one_division};
+use msr_words::Kind::{self, Steim2};
+use msr_words::{Form, Kinds, Length, first_kind, one_division};
 use std::test::Fail;
 
 #[test]
@@ -11,6 +12,45 @@ fn the_first_kind_of_a_run() -> Result<(), Fail> {
     let length = Length::new(256).ok_or("a length")?;
     let kind = first_kind(&[0, 1, 2], 0, 3, Form::all_kinds(length));
     expect(kind == Kind::Steim2, "three samples")
+}
+
+/// Whether each run has 721 samples of a day, or what is left of it, and its separator where it starts.
+fn are_sevens_of_a_day(packing: &Packing) -> bool {
+    let mut start = 0u64;
+    for (run, separator) in packing.runs.iter().zip(packing.separators.as_slice()) {
+        let end = start.saturating_add(721).min(8_640_000);
+        let expected = Run {
+            start,
+            end,
+            kind: Steim2,
+        };
+        if *run != expected || *separator != start {
+            return false;
+        }
+        start = end;
+    }
+    true
+}
+
+/// A day at 100 samples a second that rises by one: 103 words of seven differences, and 257 samples left.
+#[test]
+fn the_ramp_of_a_day(rt: HostRuntime) -> Result<(), Fail> {
+    let record_length = Length::new(512).ok_or("a length")?;
+    let mut samples = Vec::new(rt.alloc());
+    for sample in 0..8_640_000i32 {
+        samples.push(sample)?;
+    }
+    let packing = pack(rt.alloc(), samples.as_slice(), record_length)?;
+    let counts = (packing.runs.len(), packing.separators.len());
+    expect(counts == (11_984, 11_984), "how many")?;
+    expect(are_sevens_of_a_day(&packing), "each run and separator")?;
+    let last = packing.runs.as_slice().last().copied();
+    let expected = Run {
+        start: 8_639_743,
+        end: 8_640_000,
+        kind: Steim2,
+    };
+    expect(last == Some(expected), "the last run")
 }
 
 /// Of 603 samples of 0 the sizes of all groups are told: twice 43 words of seven, and a word of one.

@@ -23,10 +23,14 @@ fn memory_is_its_own_fault(rt: HostRuntime) -> Result<(), Fail> {
 fn faults_of_inputs(rt: HostRuntime) -> Result<(), Fail> {
     let kind = FaultKind::Header(HeaderFault::OtherBlockette(500));
     let fault = Fault { offset: 0, kind };
-    let (input, read) = (ReadFault::Input(fault), ReadFault::from(DeviceFault::Failed));
+    let (input, read) = (
+        ReadFault::Input(fault),
+        ReadFault::from(DeviceFault::Failed),
+    );
     let text = format!(in rt.alloc(); "{fault}, {input}, {read}")?;
     expect(
-        text.as_str() == "offset 0: 5 OtherBlockette 500, offset 0: 5 OtherBlockette 500, read fault",
+        text.as_str()
+            == "offset 0: 5 OtherBlockette 500, offset 0: 5 OtherBlockette 500, read fault",
         "a fault",
     )
 }

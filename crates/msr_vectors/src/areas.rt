@@ -6,10 +6,10 @@ ghost use Rattle.msr_steim.specs.Word.{AreGroups};
 use crate::lists::{Hexadecimal, samples};
 use crate::words::{Words, differ};
 use msr_base::SampleVec;
-use msr_plain::{decode_plain, decode_plain_into, plain_samples};
+use msr_plain::{PlainFault, decode_plain, decode_plain_into, plain_samples};
 use msr_steim::{
-    Group, SteimSamples, Version, decode_steim, decode_steim_into, fill_steim, group_width,
-    is_group, read_word, steim_samples, write_word,
+    Group, SteimFault, SteimSamples, Version, decode_steim, decode_steim_into, fill_steim,
+    group_width, is_group, read_word, steim_samples, write_word,
 };
 use std::alloc::Global;
 
@@ -61,6 +61,7 @@ pub fn plain(words: &mut Words<'_>) -> Option<String> {
             }
             format!(in words.alloc; "{:?}", found.as_slice()).ok()
         }
+        Err(PlainFault::Memory) => None,
         Err(fault) => {
             let is_kept = into == Err(fault) && viewed.is_none() && out == kept;
             if !is_kept {
@@ -103,6 +104,7 @@ pub fn steim(words: &mut Words<'_>) -> Option<String> {
             }
             format!(in words.alloc; "{samples:?} {agrees}").ok()
         }
+        Err(SteimFault::Memory) => None,
         Err(fault) => {
             if into != Err(fault) || viewed.err() != Some(fault) {
                 return differ(words.alloc);

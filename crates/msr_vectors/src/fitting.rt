@@ -1,5 +1,7 @@
 //! Which runs fit a record, by the trackers, by `Kind::fits` and by `groups`.
 
+ghost use Rattle.std.specs.Prelude.{◌≤◌, length};
+
 use crate::words::{Words, differ, kind_of};
 use msr_steim::Version;
 use msr_words::{
@@ -128,6 +130,14 @@ pub fn difference_at(words: &mut Words<'_>) -> Option<String> {
     format!(in words.alloc; "{found}").ok()
 }
 
+/// The size of the longest group, by a window of its own.
+fn longest_at(samples: &[i32], at: usize) -> usize
+    requires { at ≤ length samples.now }
+{
+    let mut window = Window::new();
+    window.longest_steim2_group(samples, at)
+}
+
 /// `word_size NUMBER SAMPLES`: how many differences stand together in a Steim-2 word from that sample on, by a window of
 /// its own.
 pub fn word_size(words: &mut Words<'_>) -> Option<String> {
@@ -135,8 +145,7 @@ pub fn word_size(words: &mut Words<'_>) -> Option<String> {
     if at > samples.len() {
         return None;
     }
-    let mut window = Window::new();
-    let size = window.longest_steim2_group(&samples, at);
+    let size = longest_at(&samples, at);
     format!(in words.alloc; "{size}").ok()
 }
 

@@ -174,6 +174,7 @@ fn add_record<R: Source>(reader: &mut RowReader, source: &mut R, told: &mut Told
     match reader.next_record(source) {
         Ok(Some(next)) => told.rows.push((next.length, place_of(&next))).ok()?,
         Ok(None) => told.end = Some(None),
+        Err(ReadFault::Memory) => return None,
         Err(fault) => told.end = Some(Some(fault)),
     }
     Some(())
@@ -193,6 +194,7 @@ fn add_outline<R: Source>(reader: &mut RowReader, source: &mut R, told: &mut Tol
             told.rows.push((0, Some(place))).ok()?;
         }
         Ok(None) => told.end = Some(None),
+        Err(ReadFault::Memory) => return None,
         Err(fault) => told.end = Some(Some(fault)),
     }
     Some(())
