@@ -2,9 +2,10 @@
 use Rattle.std.specs.Prelude.{◌↔◌, ⊤, IsTrue}
 use Rattle.std.proofs.Common.{◌≡◌, ◌⊎◌, ℕ, Bool, List, [], codes, refl, subst, sym, inl, inr, append-nil, Result, Ok, Err}
 use Rattle.msr_devices.specs.Device.{Device, HasLeft, Takes}
-use Rattle.msr_devices.proofs.Chaining.{calm_same, left_of, takes_append, takes_none}
+use Rattle.msr_devices.proofs.Chaining.{left_of, takes_append, takes_none}
 use Rattle.msr_base.specs.declared.counts.Counts.{Counts}
 use Rattle.msr_report.specs.declared.report.Report.{Report}
+use Rattle.msr_devices.specs.declared.fault.DeviceFault.TheVariants as device_fault
 use Rattle.msr_verdict.specs.declared.verdict.Verdict.{Verdict}
 use Rattle.msr_options.specs.Choice.{Choice}
 use Rattle.msr_tool.specs.Settings.{settings_of}
@@ -14,9 +15,9 @@ use Rattle.msr_tool.specs.declared.fault.ToolFault.{ToolFault}
 use Rattle.msr_tool.specs.declared.fault.ToolFault.TheVariants as fault
 use Rattle.msr_options.specs.declared.days.DayOptions.{DayOptions}
 use Rattle.msr_walk.specs.Walk.{IsWalk, Walks}
-use Rattle.msr_walk.proofs.EntriesTold.{part_none, stops_entries, walk_stops}
+use Rattle.msr_walk.proofs.EntriesTold.{none_told, stops_entries, walk_stops}
 use Rattle.msr_verify.specs.Walk.{IsWalk as IsVerifying, Verifies}
-use Rattle.msr_verify.proofs.EntriesFound.{part_none as none_found, stops_entries as stops_found, walk_stops as verifying_stops}
+use Rattle.msr_verify.proofs.EntriesFound.{none_told as none_found, stops_entries as stops_found, walk_stops as verifying_stops}
 use Rattle.msr_command.specs.declared.done.Done.{Done}
 use Rattle.msr_command.specs.declared.done.Done.TheVariants.{Written, Repacked, Checked, Compared, Walked}
 use Rattle.msr_command.specs.declared.task_fault.TaskFault.{TaskFault}
@@ -257,8 +258,8 @@ pub archive_unbegun : (asked : DayOptions) (out : Device) (stop : TaskFault) →
 archive_unbegun asked out stop (inl overlap) = rw overlap
     (record { printed = []; prints = takes_none out; ends = (tt, refl) })
 archive_unbegun asked out stop (inr refused) = rw refused (archive_stops asked out out fault.Memory
-    (walk_stops asked out out fault.Memory
-    (stops_entries asked out out fault.Memory (part_none asked out, (calm_same out).steady))))
+    (walk_stops asked out out device_fault.Memory
+    (stops_entries asked out out device_fault.Memory (none_told asked out))))
 
 pub verify_done : (out0 out : Device) (unverified : Bool) → Verifies out0 out (Ok unverified) →
     VerifiesArchive out0 out (Ok (Walked unverified))
@@ -272,8 +273,8 @@ pub verify_unbegun : (out : Device) (stop : TaskFault) → IsOverlapOrMemory sto
 verify_unbegun out stop (inl overlap) = rw overlap
     (record { printed = []; prints = takes_none out; ends = (tt, refl) })
 verify_unbegun out stop (inr refused) = rw refused (verify_stops out out fault.Memory
-    (verifying_stops out out fault.Memory
-    (stops_found out out fault.Memory (none_found out, (calm_same out).steady))))
+    (verifying_stops out out device_fault.Memory
+    (stops_found out out device_fault.Memory (none_found out))))
 
 -- what was printed is not stored
 
