@@ -28,6 +28,7 @@ use Rattle.msr_options.specs.declared.task.NoTask.{NoTask}
 use Rattle.msr_options.specs.declared.task.NoTask.TheVariants.{Ending, NotALength, Memory}
 use Rattle.msr_options.specs.declared.task.Task.{Task}
 use Rattle.msr_options.specs.declared.task.Task.TheVariants.{Repack, List as Listing, Check, Compare, Archive, Verify, Feed}
+use Rattle.msr_options.specs.Tasks.{HasStatus, IsDefault}
 
 -- 0 for what was written, is least or is the same, 3 for what is not shown or differs, 1 for a walk on which an entry was
 -- refused, or not verified
@@ -337,3 +338,18 @@ EndsText Memory out0 out status = (status ≡ 1) × (out ≡ out0)
 abbrev pub EndsAsked : Result Task NoTask → (standard out0 out : Device) → (status : ℕ) → Type 0
 EndsAsked (Ok task) standard out0 out status = EndsDone task standard out0 out status
 EndsAsked (Err why) standard out0 out status = EndsText why out0 out status
+
+-- The words ask for a task, with none for the default, and it ended with this status.
+pub record EndsTask (words : ℕ) (standard out0 out : Device) (status : ℕ) : Type 0 where
+  pub task : Task
+  pub outcome : Result Done TaskFault
+  pub default : words < 2 → IsDefault task
+  pub does : Does task standard out0 out outcome
+  pub ended : status ≡ status_of outcome
+
+-- The words ask for no task.
+pub record EndsWithoutTask (words : ℕ) (out0 out : Device) (status : ℕ) : Type 0 where
+  pub why : NoTask
+  pub some : 2 ≤ words
+  pub has_status : HasStatus why
+  pub ends : EndsText why out0 out status

@@ -3,7 +3,7 @@
 
 ghost use Rattle.std.specs.Prelude.{◌⊎◌, length};
 ghost use Rattle.msr_devices.specs.Device.{CanCountCall};
-ghost use Rattle.msr_program.specs.Words.{EndsTask, EndsWithoutTask};
+ghost use Rattle.msr_command.specs.Ends.{EndsTask, EndsWithoutTask};
 
 use msr_arguments::{NOT_UTF8, read_words};
 use msr_command::{Errors, complain, run};

@@ -1,5 +1,5 @@
 use Rattle.std.proofs.Common.{length}
-use Rattle.msr_program.proofs.Words.{words_end}
+use Rattle.msr_command.proofs.Words.{words_end}
 use Rattle.msr_program.proofs.run_words.Goals as goal
 
 pub returns : goal.returns

@@ -1,12 +1,11 @@
 -- What the words ask for is done, or they ask for nothing.
-use Rattle.std.proofs.Common.{◌⊎◌, ◌≤◌, ◌<◌, ℕ, arith, inl, inr, Result, Ok, Err}
+use Rattle.std.proofs.Common.{◌⊎◌, ℕ, ◌<◌, ◌≤◌, arith, inl, inr, Result, Ok, Err}
 use Rattle.std.specs.Prelude.{IfErr, IsOkAnd}
 use Rattle.msr_devices.specs.Device.{Device}
 use Rattle.msr_options.specs.Tasks.{HasStatus, IsDefault}
 use Rattle.msr_options.specs.declared.task.NoTask.{NoTask}
 use Rattle.msr_options.specs.declared.task.Task.{Task}
-use Rattle.msr_command.specs.Ends.{EndsAsked}
-use Rattle.msr_program.specs.Words.{EndsTask, EndsWithoutTask}
+use Rattle.msr_command.specs.Ends.{EndsAsked, EndsTask, EndsWithoutTask}
 
 some_words : (words : ℕ) → (words < 2 → ⊥) → 2 ≤ words
 some_words words none = grind (arith, none)
