@@ -22,12 +22,18 @@ fn has_row(next: Result<Option<NextRecord>, ReadFault>, row: bool) -> bool {
     }
 }
 
+/// Records one after another.
+fn two(first: &[u8; 256], second: &[u8; 256]) -> [u8; 512] {
+    let mut bytes = [0; 512];
+    bytes[..256].copy_from_slice(first);
+    bytes[256..].copy_from_slice(second);
+    bytes
+}
+
 /// Two records come with the first read, and the second one is given without another.
 #[test]
 fn records_at_hand_need_no_read(rt: HostRuntime) -> Result<(), Fail> {
-    let mut bytes = [0; 512];
-    bytes[..256].copy_from_slice(&int32_record(&[Edit::SampleCount(0)]));
-    bytes[256..].copy_from_slice(&int32_record(&[]));
+    let bytes = two(&int32_record(&[Edit::SampleCount(0)]), &int32_record(&[]));
     let once = Behavior {
         most: 512,
         interruptions: 0,
