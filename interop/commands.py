@@ -184,7 +184,7 @@ def opened(name, given):
     try:
         file = os.open(name, os.O_RDONLY)
     except OSError:
-        raise Ends(1, told(f"cannot open {name}")) from None
+        raise Ends(1, told(f"cannot open {walks.in_one_line(name)}")) from None
     read_apart(name, given)
     content = walks.read_to_end(file)
     return content or b"", content is None
@@ -207,7 +207,7 @@ def made(name, source, given):
     try:
         os.close(os.open(name, os.O_WRONLY | os.O_CREAT | os.O_TRUNC, 0o666))
     except OSError:
-        raise Ends(1, told(f"cannot open {name}")) from None
+        raise Ends(1, told(f"cannot open {walks.in_one_line(name)}")) from None
 
 
 # The commands: each gives the outcomes that there may be.
@@ -291,10 +291,10 @@ def compare(task, given):
     for (one, one_fails), (other, other_fails) in itertools.product(*both):
         for name, fails in zip(task.names, (one_fails, other_fails)):
             if fails:
-                yield Outcome(1, b"", told(f"{name}: read fault"))
+                yield Outcome(1, b"", told(f"{walks.in_one_line(name)}: read fault"))
         answer = model.compared(one, other, task.tolerance)
         if answer.fault and not one_fails and not (other_fails and answer.whose == 1):
-            yield Outcome(1, b"", told(f"{task.names[answer.whose]}: {answer.fault}"))
+            yield Outcome(1, b"", told(f"{walks.in_one_line(task.names[answer.whose])}: {answer.fault}"))
         elif not one_fails and not other_fails:
             yield Outcome(answer.status, model.text(answer.lines).encode(), b"")
 
