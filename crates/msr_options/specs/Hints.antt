@@ -10,7 +10,8 @@ abbrev pub text_of : Hint → Option (List ℕ)
 text_of Gzip = Some (codes "this is gzip")
 text_of MiniSeed3 = Some (codes "this is miniSEED 3, which msrepack does not read")
 text_of Folder = Some (codes "a folder: msrepack archive reads archives")
-text_of Turns = Some (codes "channels which alternate are not joined")
+text_of Turns =
+    Some (codes "no record was saved: most segments are one record long, as with channels in turns, or gaps")
 text_of Lengths =
     Some (codes "msrepack writes records of 256, 512, 1024, 2048, 4096, 8192, 16384, 32768 or 65536 bytes")
 text_of (System error) = None

@@ -16,7 +16,7 @@ pub enum Hint {
     MiniSeed3,
     /// The file is a folder.
     Folder,
-    /// Channels seem to alternate.
+    /// A repack saved no record, and most segments are one record long.
     Turns,
     /// The lengths of written records.
     Lengths,
@@ -34,7 +34,9 @@ impl fmt::Display for Hint {
             Hint::Gzip => f.write_str("this is gzip"),
             Hint::MiniSeed3 => f.write_str("this is miniSEED 3, which msrepack does not read"),
             Hint::Folder => f.write_str("a folder: msrepack archive reads archives"),
-            Hint::Turns => f.write_str("channels which alternate are not joined"),
+            Hint::Turns => f.write_str(
+                "no record was saved: most segments are one record long, as with channels in turns, or gaps",
+            ),
             Hint::Lengths => f.write_str(
                 "msrepack writes records of 256, 512, 1024, 2048, 4096, 8192, 16384, 32768 or 65536 bytes",
             ),
