@@ -299,12 +299,17 @@ def compare(task, given):
             yield Outcome(answer.status, model.text(answer.lines).encode(), b"")
 
 
+def hint_of(walk, given):
+    """What a person is told of a walk that came to its end."""
+    return b"hint: no folder of an archive below ROOT\n" if given.is_terminal and walk.has_no_day() else b""
+
+
 def archive(task, given):
     if walks.overlap(task.names):
         raise Ends(2, told("the folders overlap"))
     walk = walks.Walk(task, given.odd)
     text = model.text(walk.lines()).encode()
-    yield Outcome(int(walk.refused > 0), text, b"", lines=True)
+    yield Outcome(int(walk.refused > 0), text, hint_of(walk, given), lines=True)
 
 
 def verify(task, given):
@@ -312,7 +317,7 @@ def verify(task, given):
         raise Ends(2, told("the folders overlap"))
     found = walks.Verification(task, given.odd)
     text = model.text(found.lines()).encode()
-    yield Outcome(int(found.is_to_be_looked_at()), text, b"", lines=True)
+    yield Outcome(int(found.is_to_be_looked_at()), text, hint_of(found, given), lines=True)
 
 
 DOES = {
@@ -344,7 +349,7 @@ def run(words, given):
     which is made even so."""
     try:
         task = read_words(words)
-        if given.is_terminal:
+        if given.is_terminal and task.command not in ("archive", "verify"):
             raise Unsaid("what a person is told")
         if given.writing.fails == 0 and task.command != "feed":
             return [Outcome(1, b"", told("write fault"))]

@@ -3,6 +3,7 @@
 #![tactic(auto)]
 
 mod files;
+mod found;
 mod kind;
 mod listing;
 mod paths;
@@ -11,6 +12,7 @@ mod totals;
 mod visitor;
 
 pub use files::{FileId, Look, is_gone, may_be_one, open_regular, settle, settle_regular};
+pub use found::WalkFound;
 pub use kind::{FileKind, kind_of};
 pub use listing::{ListFault, names_in};
 pub use paths::{Shown, ended, entry_path, folder_of, join, shown_path};

@@ -18,6 +18,8 @@ pub enum Hint {
     Folder,
     /// A repack saved no record, and most segments are one record long.
     Turns,
+    /// A walk found no file of waveform data.
+    NoArchive,
     /// The lengths of written records.
     Lengths,
     /// Why a file cannot be opened, in the system's words.
@@ -37,6 +39,7 @@ impl fmt::Display for Hint {
             Hint::Turns => f.write_str(
                 "no record was saved: most segments are one record long, as with channels in turns, or gaps",
             ),
+            Hint::NoArchive => f.write_str("no folder of an archive below ROOT"),
             Hint::Lengths => f.write_str(
                 "msrepack writes records of 256, 512, 1024, 2048, 4096, 8192, 16384, 32768 or 65536 bytes",
             ),
