@@ -20,6 +20,8 @@ pub enum Hint {
     Turns,
     /// A walk found no file of waveform data.
     NoArchive,
+    /// Standard input is waited for, though no word asked for that.
+    Waiting,
     /// The lengths of written records.
     Lengths,
     /// Why a file cannot be opened, in the system's words.
@@ -40,6 +42,9 @@ impl fmt::Display for Hint {
                 "no record was saved: most segments are one record long, as with channels in turns, or gaps",
             ),
             Hint::NoArchive => f.write_str("no folder of an archive below ROOT"),
+            Hint::Waiting => f.write_str(
+                "msrepack waits for records on standard input; msrepack --help tells what else it does",
+            ),
             Hint::Lengths => f.write_str(
                 "msrepack writes records of 256, 512, 1024, 2048, 4096, 8192, 16384, 32768 or 65536 bytes",
             ),
