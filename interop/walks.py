@@ -409,8 +409,14 @@ class Walk:
             raise NotKept("differs")
 
     def read_again(self, path):
-        with open(self.odd.other if is_like(self.odd.made, path) else path, "rb") as file:
-            return file.read()
+        try:
+            file = os.open(self.odd.other if is_like(self.odd.made, path) else path, os.O_RDONLY)
+        except OSError:
+            raise NotDone("cannot open") from None
+        content = read_to_end(file)
+        if content is None:
+            raise NotDone("read fault")
+        return content
 
     def name(self, places, parts):
         """The old stamp and the old records go; the report gets its name, and then the records."""
