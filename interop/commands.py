@@ -184,7 +184,7 @@ def opened(name, given):
     try:
         file = os.open(name, os.O_RDONLY)
     except OSError:
-        raise Ends(1, told(f"cannot open {name}")) from None
+        raise Ends(1, told(f"cannot open {walks.in_one_line(name)}")) from None
     read_apart(name, given)
     content = walks.read_to_end(file)
     return content or b"", content is None
@@ -207,7 +207,7 @@ def made(name, source, given):
     try:
         os.close(os.open(name, os.O_WRONLY | os.O_CREAT | os.O_TRUNC, 0o666))
     except OSError:
-        raise Ends(1, told(f"cannot open {name}")) from None
+        raise Ends(1, told(f"cannot open {walks.in_one_line(name)}")) from None
 
 
 # The commands: each gives the outcomes that there may be.
@@ -291,12 +291,17 @@ def compare(task, given):
     for (one, one_fails), (other, other_fails) in itertools.product(*both):
         for name, fails in zip(task.names, (one_fails, other_fails)):
             if fails:
-                yield Outcome(1, b"", told(f"{name}: read fault"))
+                yield Outcome(1, b"", told(f"{walks.in_one_line(name)}: read fault"))
         answer = model.compared(one, other, task.tolerance)
         if answer.fault and not one_fails and not (other_fails and answer.whose == 1):
-            yield Outcome(1, b"", told(f"{task.names[answer.whose]}: {answer.fault}"))
+            yield Outcome(1, b"", told(f"{walks.in_one_line(task.names[answer.whose])}: {answer.fault}"))
         elif not one_fails and not other_fails:
             yield Outcome(answer.status, model.text(answer.lines).encode(), b"")
+
+
+def hint_of(walk, given):
+    """What a person is told of a walk that came to its end."""
+    return b"hint: no folder of an archive below ROOT\n" if given.is_terminal and walk.has_no_day() else b""
 
 
 def archive(task, given):
@@ -304,7 +309,7 @@ def archive(task, given):
         raise Ends(2, told("the folders overlap"))
     walk = walks.Walk(task, given.odd)
     text = model.text(walk.lines()).encode()
-    yield Outcome(int(walk.refused > 0), text, b"", lines=True)
+    yield Outcome(int(walk.refused > 0), text, hint_of(walk, given), lines=True)
 
 
 def verify(task, given):
@@ -312,7 +317,7 @@ def verify(task, given):
         raise Ends(2, told("the folders overlap"))
     found = walks.Verification(task, given.odd)
     text = model.text(found.lines()).encode()
-    yield Outcome(int(found.is_to_be_looked_at()), text, b"", lines=True)
+    yield Outcome(int(found.is_to_be_looked_at()), text, hint_of(found, given), lines=True)
 
 
 DOES = {
@@ -344,7 +349,7 @@ def run(words, given):
     which is made even so."""
     try:
         task = read_words(words)
-        if given.is_terminal:
+        if given.is_terminal and task.command not in ("archive", "verify"):
             raise Unsaid("what a person is told")
         if given.writing.fails == 0 and task.command != "feed":
             return [Outcome(1, b"", told("write fault"))]

@@ -186,6 +186,9 @@ class Walk:
             else:
                 yield self.refuse(below, "cannot open")
 
+    def has_no_day(self):
+        return not (self.task.below or self.done or self.refused or self.larger)
+
     def refuse(self, path, text):
         self.refused += 1
         return f"refused {in_one_line(path)}: {text}"
@@ -406,8 +409,14 @@ class Walk:
             raise NotKept("differs")
 
     def read_again(self, path):
-        with open(self.odd.other if is_like(self.odd.made, path) else path, "rb") as file:
-            return file.read()
+        try:
+            file = os.open(self.odd.other if is_like(self.odd.made, path) else path, os.O_RDONLY)
+        except OSError:
+            raise NotDone("cannot open") from None
+        content = read_to_end(file)
+        if content is None:
+            raise NotDone("read fault")
+        return content
 
     def name(self, places, parts):
         """The old stamp and the old records go; the report gets its name, and then the records."""
@@ -451,7 +460,11 @@ class Verification:
         yield " ".join(f"{word} {count}" for word, count in self.sums.items())
 
     def is_to_be_looked_at(self):
-        return any(count for word, count in self.sums.items() if word not in ("files", "skipped"))
+        """What is neither verified nor skipped; the whole archive has to have a day."""
+        return self.has_no_day() or any(count for word, count in self.sums.items() if word not in ("files", "skipped"))
+
+    def has_no_day(self):
+        return not self.task.below and all(word == "skipped" or not count for word, count in self.sums.items())
 
     def told(self, word, path):
         self.sums["files" if word == "verified" else word] += 1

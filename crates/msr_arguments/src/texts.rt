@@ -233,7 +233,8 @@ and last the counts, of days that are verified first:
 
 files N skipped N refused N missing N notshown N differs N orphan N
 
-Status 0 if all is verified or skipped, else 1; 2 if the command line is wrong.";
+Status 0 if all is verified or skipped, else 1, also if all of ROOT is walked and has no
+day of waveform data; 2 if the command line is wrong.";
 
 /// Examples of `verify`.
 pub(crate) const VERIFY_AFTER: &str = "Examples:

@@ -14,9 +14,11 @@ use Rattle.msr_tool.specs.Tasks.{Reports, Tells, VerdictAnswers}
 use Rattle.msr_tool.specs.declared.fault.ToolFault.{ToolFault}
 use Rattle.msr_tool.specs.declared.fault.ToolFault.TheVariants as fault
 use Rattle.msr_options.specs.declared.days.DayOptions.{DayOptions}
-use Rattle.msr_walk.specs.Walk.{IsWalk, Walks}
+use Rattle.msr_folders.specs.declared.found.WalkFound.{WalkFound}
+use Rattle.msr_folders.specs.declared.found.WalkFound.TheVariants.{Well, Unwell, NoDay}
+use Rattle.msr_walk.specs.Walk.{IsWalk, WalkEnds, Walks}
 use Rattle.msr_walk.proofs.EntriesTold.{none_told, stops_entries, walk_stops}
-use Rattle.msr_verify.specs.Walk.{IsWalk as IsVerifying, Verifies}
+use Rattle.msr_verify.specs.Walk.{IsWalk as IsVerifying, Verifies, WalkEnds as VerifyingEnds}
 use Rattle.msr_verify.proofs.EntriesFound.{none_told as none_found, stops_entries as stops_found, walk_stops as verifying_stops}
 use Rattle.msr_command.specs.declared.done.Done.{Done}
 use Rattle.msr_command.specs.declared.done.Done.TheVariants.{Written, Repacked, Checked, Compared, Walked}
@@ -27,7 +29,7 @@ use Rattle.msr_options.specs.declared.task.Task.TheVariants.{Repack, List as Lis
 use Rattle.msr_command.specs.Turns.{AreTurns}
 use Rattle.msr_command.specs.Comparing.{names_of}
 use Rattle.msr_command.proofs.Comparisons.{compare_unsettled, two_after, two_none}
-use Rattle.msr_command.specs.Ends.{Checks, Does, Ends, EndsClosed, Feeds, FeedAnswers, FeedEnds, FeedsTo, IfChecked, IfRepacked, IfWritten, IsUncreated, IsUnread, ListEnds, Lists, ListsNamed, IsOverlapOrMemory, Over, RepackEnds, Repacks, RepacksNamed, StopsRecords, StopsReport, VerifiesArchive, WalksArchive, WritesList, WritesRecords, WritesReport}
+use Rattle.msr_command.specs.Ends.{ArchiveEnds, Checks, Does, Ends, EndsClosed, Feeds, FeedAnswers, FeedEnds, FeedsTo, IfChecked, IfRepacked, IfWritten, IsUncreated, IsUnread, ListEnds, Lists, ListsNamed, IsOverlapOrMemory, Over, RepackEnds, Repacks, RepacksNamed, StopsRecords, StopsReport, VerifiesArchive, VerifyEnds, WalksArchive, WritesList, WritesRecords, WritesReport, done_of_archive, done_of_verifying}
 
 -- nothing was read or printed
 over_none : (known : Type 0) (says : (input printed : List ℕ) → Type 0) (source out0 out : Device) → Takes out0 out [] →
@@ -244,9 +246,19 @@ check_stops packed report out0 out why does = record {
   ends = does.answers;
 }
 
-pub archive_done : (asked : DayOptions) (out0 out : Device) (refused : Bool) → Walks asked out0 out (Ok refused) →
-    WalksArchive asked out0 out (Ok (Walked refused))
-archive_done asked out0 out refused does = record { printed = does.printed; prints = does.prints; ends = does.ends }
+archive_ends : (asked : DayOptions) (printed : List ℕ) (is_whole : Bool) (found : WalkFound)
+    → WalkEnds asked printed (Ok found) → ArchiveEnds asked printed (Ok (done_of_archive is_whole found))
+archive_ends asked printed is_whole Well ends = record { found = Well; is_whole = is_whole; walk = ends; is = refl }
+archive_ends asked printed is_whole Unwell ends = record { found = Unwell; is_whole = is_whole; walk = ends; is = refl }
+archive_ends asked printed is_whole NoDay ends = record { found = NoDay; is_whole = is_whole; walk = ends; is = refl }
+
+pub archive_done : (asked : DayOptions) (out0 out : Device) (is_whole : Bool) (found : WalkFound)
+    → Walks asked out0 out (Ok found) → WalksArchive asked out0 out (Ok (done_of_archive is_whole found))
+archive_done asked out0 out is_whole found does = record {
+  printed = does.printed;
+  prints = does.prints;
+  ends = archive_ends asked does.printed is_whole found does.ends;
+}
 
 pub archive_stops : (asked : DayOptions) (out0 out : Device) (why : ToolFault) → Walks asked out0 out (Err why) →
     WalksArchive asked out0 out (Err (Tool why))
@@ -261,9 +273,19 @@ archive_unbegun asked out stop (inr refused) = rw refused (archive_stops asked o
     (walk_stops asked out out device_fault.Memory
     (stops_entries asked out out device_fault.Memory (none_told asked out))))
 
-pub verify_done : (out0 out : Device) (unverified : Bool) → Verifies out0 out (Ok unverified) →
-    VerifiesArchive out0 out (Ok (Walked unverified))
-verify_done out0 out unverified does = record { printed = does.printed; prints = does.prints; ends = does.ends }
+verify_ends : (printed : List ℕ) (is_whole : Bool) (found : WalkFound) → VerifyingEnds printed (Ok found)
+    → VerifyEnds printed (Ok (done_of_verifying is_whole found))
+verify_ends printed is_whole Well ends = record { found = Well; is_whole = is_whole; walk = ends; is = refl }
+verify_ends printed is_whole Unwell ends = record { found = Unwell; is_whole = is_whole; walk = ends; is = refl }
+verify_ends printed is_whole NoDay ends = record { found = NoDay; is_whole = is_whole; walk = ends; is = refl }
+
+pub verify_done : (out0 out : Device) (is_whole : Bool) (found : WalkFound) → Verifies out0 out (Ok found)
+    → VerifiesArchive out0 out (Ok (done_of_verifying is_whole found))
+verify_done out0 out is_whole found does = record {
+  printed = does.printed;
+  prints = does.prints;
+  ends = verify_ends does.printed is_whole found does.ends;
+}
 
 pub verify_stops : (out0 out : Device) (why : ToolFault) → Verifies out0 out (Err why) →
     VerifiesArchive out0 out (Err (Tool why))
@@ -331,52 +353,60 @@ task_unsettled (Repack asked) standard out0 out (Repacked in_turns) does =
     over_said _ _ _ standard out0 out (repack_unstored asked.options in_turns) does
 task_unsettled (Repack asked) standard out0 out (Checked verdict) does = absurd does.ends
 task_unsettled (Repack asked) standard out0 out (Compared comparison) does = absurd does.ends
-task_unsettled (Repack asked) standard out0 out (Walked refused) does = absurd does.ends
+task_unsettled (Repack asked) standard out0 out (Walked refused no_day) does = absurd does.ends
 task_unsettled (Listing asked) standard out0 out Written does =
     over_said _ _ _ standard out0 out (list_unstored asked.options) does
 task_unsettled (Listing asked) standard out0 out (Repacked in_turns) does = absurd does.ends
 task_unsettled (Listing asked) standard out0 out (Checked verdict) does = absurd does.ends
 task_unsettled (Listing asked) standard out0 out (Compared comparison) does = absurd does.ends
-task_unsettled (Listing asked) standard out0 out (Walked refused) does = absurd does.ends
+task_unsettled (Listing asked) standard out0 out (Walked refused no_day) does = absurd does.ends
 task_unsettled (Check asked) standard out0 out Written does = absurd does.ends
 task_unsettled (Check asked) standard out0 out (Repacked in_turns) does = absurd does.ends
 task_unsettled (Check asked) standard out0 out (Checked verdict) does = check_unsettled out0 out verdict does
 task_unsettled (Check asked) standard out0 out (Compared comparison) does = absurd does.ends
-task_unsettled (Check asked) standard out0 out (Walked refused) does = absurd does.ends
+task_unsettled (Check asked) standard out0 out (Walked refused no_day) does = absurd does.ends
 task_unsettled (Compare asked) standard out0 out Written does = absurd does.ends
 task_unsettled (Compare asked) standard out0 out (Repacked in_turns) does = absurd does.ends
 task_unsettled (Compare asked) standard out0 out (Checked verdict) does = absurd does.ends
 task_unsettled (Compare asked) standard out0 out (Compared comparison) does =
     compare_unsettled asked.options (names_of asked) standard out0 out comparison does
-task_unsettled (Compare asked) standard out0 out (Walked refused) does = absurd does.ends
+task_unsettled (Compare asked) standard out0 out (Walked refused no_day) does = absurd does.ends
 task_unsettled (Archive asked) standard out0 out Written does = absurd does.ends
 task_unsettled (Archive asked) standard out0 out (Repacked in_turns) does = absurd does.ends
 task_unsettled (Archive asked) standard out0 out (Checked verdict) does = absurd does.ends
 task_unsettled (Archive asked) standard out0 out (Compared comparison) does = absurd does.ends
-task_unsettled (Archive asked) standard out0 out (Walked refused) does =
-    let P : List ℕ → Type 0 = λ text. IsWalk asked.days text does.ends.0 in
+task_unsettled (Archive asked) standard out0 out (Walked refused no_day) does =
+    let P : List ℕ → Type 0 = λ text. IsWalk asked.days text does.ends.walk.0 in
     record {
       printed = does.printed;
       prints = does.prints;
-      ends = record { entries = does.ends.0; rest = []; walk = subst P (sym (append-nil does.printed)) does.ends.1 };
+      ends = record {
+        entries = does.ends.walk.0;
+        rest = [];
+        walk = subst P (sym (append-nil does.printed)) does.ends.walk.1;
+      };
     }
 task_unsettled (Verify asked) standard out0 out Written does = absurd does.ends
 task_unsettled (Verify asked) standard out0 out (Repacked in_turns) does = absurd does.ends
 task_unsettled (Verify asked) standard out0 out (Checked verdict) does = absurd does.ends
 task_unsettled (Verify asked) standard out0 out (Compared comparison) does = absurd does.ends
-task_unsettled (Verify asked) standard out0 out (Walked refused) does =
-    let P : List ℕ → Type 0 = λ text. IsVerifying text does.ends.0 in
+task_unsettled (Verify asked) standard out0 out (Walked refused no_day) does =
+    let P : List ℕ → Type 0 = λ text. IsVerifying text does.ends.walk.0 in
     record {
       printed = does.printed;
       prints = does.prints;
-      ends = record { entries = does.ends.0; rest = []; walk = subst P (sym (append-nil does.printed)) does.ends.1 };
+      ends = record {
+        entries = does.ends.walk.0;
+        rest = [];
+        walk = subst P (sym (append-nil does.printed)) does.ends.walk.1;
+      };
     }
 task_unsettled (Feed asked) standard out0 out Written does =
     over_said _ _ _ standard out0 out (feed_unstored asked.options) does
 task_unsettled (Feed asked) standard out0 out (Repacked in_turns) does = absurd does.ends
 task_unsettled (Feed asked) standard out0 out (Checked verdict) does = absurd does.ends
 task_unsettled (Feed asked) standard out0 out (Compared comparison) does = absurd does.ends
-task_unsettled (Feed asked) standard out0 out (Walked refused) does = absurd does.ends
+task_unsettled (Feed asked) standard out0 out (Walked refused no_day) does = absurd does.ends
 
 -- a source was listed, or is at fault
 

@@ -1,5 +1,5 @@
 -- How a task ends: what was read and printed, for what the files of the system hold.
-use Rattle.std.specs.Prelude.{if◌then◌else◌, ◌≡◌, ◌≢◌, ◌⊎◌, ◌↔◌, ◌<◌, ◌≤◌, ℕ, ⊤, Bool, IsTrue, List, [], codes, string_bytes, Result, Ok, Err}
+use Rattle.std.specs.Prelude.{if◌then◌else◌, ◌≡◌, ◌≢◌, ◌⊎◌, ◌↔◌, ◌<◌, ◌≤◌, ℕ, ⊤, Bool, false, true, IsTrue, List, [], codes, string_bytes, Result, Ok, Err}
 use Rattle.std.specs.declared.io.Error.{Error}
 use Rattle.msr_devices.specs.Device.{Device, CountsError, HasFailed, HasLeft, Takes}
 use Rattle.msr_base.specs.declared.counts.Counts.{Counts}
@@ -12,6 +12,8 @@ use Rattle.msr_tool.specs.Tasks.{IsReported, ReportAnswers, VerdictAnswers}
 use Rattle.msr_verdict.specs.declared.verdict.Verdict.{Verdict}
 use Rattle.msr_verdict.specs.declared.verdict.Verdict.TheVariants.{Least, NotShown}
 use Rattle.msr_tool.specs.declared.fault.ToolFault.{ToolFault}
+use Rattle.msr_folders.specs.declared.found.WalkFound.{WalkFound}
+use Rattle.msr_folders.specs.declared.found.WalkFound.TheVariants.{Well, Unwell, NoDay}
 use Rattle.msr_walk.specs.Walk.{WalkEnds}
 use Rattle.msr_verify.specs.Walk.{WalkEnds as VerifyingEnds}
 use Rattle.msr_tool.specs.declared.fault.ToolFault.TheVariants as engine
@@ -31,7 +33,7 @@ use Rattle.msr_options.specs.declared.task.Task.TheVariants.{Repack, List as Lis
 use Rattle.msr_options.specs.Tasks.{HasStatus, IsDefault}
 
 -- 0 for what was written, is least or is the same, 3 for what is not shown or differs, 1 for a walk on which an entry was
--- refused, or not verified
+-- refused, or not verified, or which had none to verify
 abbrev pub status_of_done : Done → ℕ
 status_of_done Written = 0
 status_of_done (Repacked in_turns) = 0
@@ -39,7 +41,7 @@ status_of_done (Checked Least) = 0
 status_of_done (Checked NotShown) = 3
 status_of_done (Compared (Same told)) = 0
 status_of_done (Compared (Differ difference)) = 3
-status_of_done (Walked refused) = if refused then 1 else 0
+status_of_done (Walked refused no_day) = if refused then 1 else 0
 
 -- 2 if the output is the input, two outputs are one file, or folders overlap, which is a wrong command line, and else 1
 abbrev pub status_of_task_fault : TaskFault → ℕ
@@ -95,35 +97,35 @@ IfWritten says Written = says
 IfWritten says (Repacked in_turns) = ⊥
 IfWritten says (Checked verdict) = ⊥
 IfWritten says (Compared comparison) = ⊥
-IfWritten says (Walked refused) = ⊥
+IfWritten says (Walked refused no_day) = ⊥
 
 abbrev pub IfRepacked : (Bool → Type 0) → Done → Type 0
 IfRepacked says Written = ⊥
 IfRepacked says (Repacked in_turns) = says in_turns
 IfRepacked says (Checked verdict) = ⊥
 IfRepacked says (Compared comparison) = ⊥
-IfRepacked says (Walked refused) = ⊥
+IfRepacked says (Walked refused no_day) = ⊥
 
 abbrev pub IfChecked : (Verdict → Type 0) → Done → Type 0
 IfChecked says Written = ⊥
 IfChecked says (Repacked in_turns) = ⊥
 IfChecked says (Checked verdict) = says verdict
 IfChecked says (Compared comparison) = ⊥
-IfChecked says (Walked refused) = ⊥
+IfChecked says (Walked refused no_day) = ⊥
 
 abbrev pub IfCompared : (Comparison → Type 0) → Done → Type 0
 IfCompared says Written = ⊥
 IfCompared says (Repacked in_turns) = ⊥
 IfCompared says (Checked verdict) = ⊥
 IfCompared says (Compared comparison) = says comparison
-IfCompared says (Walked refused) = ⊥
+IfCompared says (Walked refused no_day) = ⊥
 
-abbrev pub IfWalked : (Bool → Type 0) → Done → Type 0
+abbrev pub IfWalked : (Done → Type 0) → Done → Type 0
 IfWalked says Written = ⊥
 IfWalked says (Repacked in_turns) = ⊥
 IfWalked says (Checked verdict) = ⊥
 IfWalked says (Compared comparison) = ⊥
-IfWalked says (Walked refused) = says refused
+IfWalked says (Walked refused no_day) = says (Walked refused no_day)
 
 -- How a task ends: it is done, or the engine stops, with what that says; or nothing is printed, since a file stops it
 -- that may do so, or standard output is closed.
@@ -265,9 +267,28 @@ abbrev pub ComparesNamed : Choice → Names → (standard out0 out : Device) →
 ComparesNamed choice names standard out0 out result =
     OverTwo (IsOneStandard names) (IsOtherStandard names) (CompareEnds choice names result) standard standard out0 out
 
+-- what repacking an archive ends with, which was walked whole, or in part
+abbrev pub done_of_archive : (is_whole : Bool) → WalkFound → Done
+done_of_archive is_whole Well = Walked false false
+done_of_archive is_whole Unwell = Walked true false
+done_of_archive is_whole NoDay = Walked false is_whole
+
+-- and verifying it: the whole archive has to have a day
+abbrev pub done_of_verifying : (is_whole : Bool) → WalkFound → Done
+done_of_verifying is_whole Well = Walked false false
+done_of_verifying is_whole Unwell = Walked true false
+done_of_verifying is_whole NoDay = Walked is_whole is_whole
+
+-- A walk of an archive, or of a part of it, ended so.
+pub record IsEndOf (done_of : (is_whole : Bool) → WalkFound → Done) (ends : WalkFound → Type 0) (done : Done) : Type 0 where
+  pub found : WalkFound
+  pub is_whole : Bool
+  pub walk : ends found
+  pub is : done ≡ done_of is_whole found
+
 abbrev pub ArchiveEnds : DayOptions → (printed : List ℕ) → Result Done TaskFault → Type 0
 ArchiveEnds asked printed result =
-    Ends (IfWalked (λ refused. WalkEnds asked printed (Ok refused))) IsOverlap
+    Ends (IfWalked (IsEndOf done_of_archive (λ found. WalkEnds asked printed (Ok found)))) IsOverlap
     (λ fault. WalkEnds asked printed (Err fault)) printed result
 
 -- Walking an archive, and what was printed.
@@ -278,7 +299,7 @@ pub record WalksArchive (asked : DayOptions) (out0 out : Device) (result : Resul
 
 abbrev pub VerifyEnds : (printed : List ℕ) → Result Done TaskFault → Type 0
 VerifyEnds printed result =
-    Ends (IfWalked (λ unverified. VerifyingEnds printed (Ok unverified))) IsOverlap
+    Ends (IfWalked (IsEndOf done_of_verifying (λ found. VerifyingEnds printed (Ok found)))) IsOverlap
     (λ fault. VerifyingEnds printed (Err fault)) printed result
 
 -- Verifying the repack of an archive, and what was printed.

@@ -3,7 +3,7 @@ use Rattle.std.specs.Prelude.{if◌then◌else◌, ◌≡◌, ◌≢◌, ℕ, Bo
 use Rattle.std.specs.Io.KnownBytes.{Appends}
 use Rattle.msr_options.specs.Hints.{IsOfBytes, line_of}
 use Rattle.msr_options.specs.declared.hint.Hint.{Hint}
-use Rattle.msr_options.specs.declared.hint.Hint.TheVariants.{Folder, Lengths, System, Turns}
+use Rattle.msr_options.specs.declared.hint.Hint.TheVariants.{Folder, Lengths, NoArchive, System, Turns}
 use Rattle.msr_options.specs.declared.task.Task.{Task}
 use Rattle.msr_options.specs.declared.task.Task.TheVariants.{Repack, List as Listing, Check, Compare, Archive, Verify, Feed}
 use Rattle.msr_input.specs.declared.fault.ReadFault.{ReadFault}
@@ -52,7 +52,7 @@ HintsDone Written hint = hint ≡ None
 HintsDone (Repacked in_turns) hint = hint ≡ (if in_turns then Some Turns else None)
 HintsDone (Checked verdict) hint = hint ≡ None
 HintsDone (Compared comparison) hint = hint ≡ None
-HintsDone (Walked refused) hint = hint ≡ None
+HintsDone (Walked refused no_day) hint = hint ≡ (if no_day then Some NoArchive else None)
 
 abbrev pub HintsEngine : FilesRead → ToolFault → Option Hint → Type 0
 HintsEngine read (fault.Input found) hint = HintsBytes read.records hint

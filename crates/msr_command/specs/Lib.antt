@@ -1,4 +1,5 @@
 pub mod Comparing
 pub mod Ends
 pub mod Hints
+pub mod Told
 pub mod Turns

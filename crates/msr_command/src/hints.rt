@@ -71,7 +71,8 @@ fn hint_of_done(done: &Done) -> Option<Hint>
 {
     match done {
         Done::Repacked { in_turns } => { if *in_turns { Some(Hint::Turns) } else { None } }
-        Done::Written | Done::Checked(_) | Done::Compared(_) | Done::Walked { .. } => None,
+        Done::Walked { no_day, .. } => { if *no_day { Some(Hint::NoArchive) } else { None } }
+        Done::Written | Done::Checked(_) | Done::Compared(_) => None,
     }
 }
 

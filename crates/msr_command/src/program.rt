@@ -4,6 +4,7 @@ ghost use Rattle.std.specs.Prelude.{◌≡◌, ◌++◌, OnOk, codes, false, tru
 ghost use Rattle.msr_devices.specs.Device.{CanCountCall};
 ghost use Rattle.msr_command.specs.Ends.{EndsAsked, EndsText, status_of, status_of_task_fault};
 ghost use Rattle.msr_command.specs.Hints.{TellsLengths, TellsPerson};
+ghost use Rattle.msr_command.specs.Told.{TellsFault};
 ghost use Rattle.msr_options.specs.declared.task.NoTask.TheVariants.{Ending as WithText};
 
 use crate::done::Done;
@@ -33,11 +34,18 @@ fn write_complaint<E: Write>(errors: &mut E, text: &str) -> io::Result<()>
     writeln!(errors, "msrepack: {text}")
 }
 
+/// Prints the line of a task's fault.
+fn write_fault<E: Write>(errors: &mut E, fault: &TaskFault<'_>) -> io::Result<()>
+    ensures { OnOk result (TellsFault fault.now (E.contents errors.old) (E.contents errors.new)) }
+{
+    writeln!(errors, "msrepack: {fault}")
+}
+
 /// Prints the line of a task's fault, and gives its status.
 fn complain_of<E: Write>(errors: &mut E, fault: &TaskFault<'_>) -> u8
     ensures { result ≡ status_of_task_fault fault.now }
 {
-    writeln!(errors, "msrepack: {fault}").ok();
+    write_fault(errors, fault).ok();
     fault.status()
 }
 

@@ -1,34 +1,51 @@
 //! Why a task ends before it is done.
 use msr_devices::DeviceFault;
+use msr_folders::Shown;
 use msr_input::ReadFault;
 use msr_tool::ToolFault;
-use std::io;
-use thiserror::Error;
+use std::{fmt, io};
 
 /// Why a task ended before it was done.
-#[derive(Debug, Drop, Error)]
+#[derive(Debug, Drop)]
 pub(crate) enum TaskFault<'a> {
     /// The file with this name could not be opened, or not be made, and why.
-    #[error("cannot open {0}")]
     CannotOpen(&'a str, io::Error),
     /// Of two inputs that with this name is refused, or cannot be read.
-    #[error("{0}: {1}")]
     Input(&'a str, ReadFault),
     /// The output is the input, by another name or a link; or standard output is redirected to an input.
-    #[error("the output is the input")]
     SameFile,
     /// A file to be written is what standard output is redirected to.
-    #[error("two outputs are one file")]
     SameOutput,
     /// One of an archive's folders is another, or stands below it, by whatever links.
-    #[error("the folders overlap")]
     Overlap,
     /// Nothing can be printed: standard output is closed, or refuses a write of no bytes.
-    #[error("write fault")]
     Closed,
     /// The engine ended.
-    #[error("{0}")]
     Tool(ToolFault),
+}
+
+impl fmt::Display for TaskFault<'_> {
+    ghost use Rattle.msr_command.specs.Told.{text_of};
+
+    ghost output = { text_of };
+
+    fn fmt<W: fmt::Write>(&self, f: &mut fmt::Formatter<W>) -> fmt::Result {
+        match self {
+            TaskFault::CannotOpen(name, _) => {
+                let shown = Shown { path: *name };
+                write!(f, "cannot open {shown}")
+            }
+            TaskFault::Input(name, fault) => {
+                let shown = Shown { path: *name };
+                write!(f, "{shown}: {fault}")
+            }
+            TaskFault::SameFile => f.write_str("the output is the input"),
+            TaskFault::SameOutput => f.write_str("two outputs are one file"),
+            TaskFault::Overlap => f.write_str("the folders overlap"),
+            TaskFault::Closed => f.write_str("write fault"),
+            TaskFault::Tool(fault) => write!(f, "{fault}"),
+        }
+    }
 }
 
 impl<'a> TaskFault<'a> {

@@ -325,8 +325,8 @@ where
         days,
     };
     require_apart(rt, alloc, folders)?;
-    let refused = walk(rt, alloc, &archive, output)?;
-    Ok(Done::Walked { refused })
+    let found = walk(rt, alloc, &archive, output)?;
+    Ok(Done::of_archive(found, archive.below.is_empty()))
 }
 
 fn verify_archive<'a, R: Files, O: Sink>(
@@ -346,6 +346,6 @@ fn verify_archive<'a, R: Files, O: Sink>(
         reports: folders.reports,
         below: below.as_slice(),
     };
-    let refused = verify(rt, alloc, &archive, output)?;
-    Ok(Done::Walked { refused })
+    let found = verify(rt, alloc, &archive, output)?;
+    Ok(Done::of_verifying(found, archive.below.is_empty()))
 }

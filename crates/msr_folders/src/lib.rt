@@ -3,6 +3,7 @@
 #![tactic(auto)]
 
 mod files;
+mod found;
 mod kind;
 mod listing;
 mod paths;
@@ -11,9 +12,10 @@ mod totals;
 mod visitor;
 
 pub use files::{FileId, Look, is_gone, may_be_one, open_regular, settle, settle_regular};
+pub use found::WalkFound;
 pub use kind::{FileKind, kind_of};
 pub use listing::{ListFault, names_in};
-pub use paths::{ended, entry_path, folder_of, join, shown_path};
+pub use paths::{Shown, ended, entry_path, folder_of, join, shown_path};
 pub use places::{Place, folders_overlap, place_of};
 pub use totals::{Total, Totals};
 pub use visitor::{FolderWalk, Visitor, visit_folders};

@@ -1,10 +1,10 @@
 //! The paths of folders and files.
-ghost use Rattle.std.specs.Prelude.{◌≡◌, ◌++◌, ◌∷◌, IfOk, OnOk};
+ghost use Rattle.std.specs.Prelude.{◌≡◌, IfOk};
 ghost use Rattle.std.specs.String.{string_bytes};
-ghost use Rattle.msr_report.specs.Text.{hex_text};
-ghost use Rattle.msr_folders.specs.Paths.{below, ended, folder_of, joined, shown_letter, shown_path};
+ghost use Rattle.msr_folders.specs.Paths.{below, ended, folder_of, joined, shown_path};
 
 use std::alloc::{AllocError, Global};
+use std::fmt;
 
 /// The path of what stands below a folder. A folder without a name has nothing below it: the answer is the path that
 /// no file has.
@@ -51,22 +51,47 @@ pub fn folder_of(path: &str) -> &str
     }
 }
 
-/// Appends a control character as it is printed: a line feed in a name would begin another line.
-#[tactic(auto, using(std::proofs::lemmas::Fmt::hex_byte))]
-fn push_control(text: &mut String, code: u8) -> Result<(), AllocError>
-    ensures { OnOk result (string_bytes text.new ≡ string_bytes text.old ++ 37 ∷ hex_text code) }
-{
-    write!(text, "%{code:02x}")
+/// A character of a path as it is printed: a line feed in a name would begin another line.
+#[derive(Clone, Copy)]
+struct ShownLetter {
+    letter: char,
 }
 
-/// Appends a character of a path as it is printed.
-fn push_letter(text: &mut String, letter: char) -> Result<(), AllocError>
-    ensures { OnOk result (string_bytes text.new ≡ string_bytes text.old ++ shown_letter letter) }
-{
-    if letter.is_ascii_control() {
-        push_control(text, letter as u8)
-    } else {
-        text.push(letter)
+impl fmt::Display for ShownLetter {
+    ghost use Rattle.std.specs.Prelude.{Some};
+    ghost use Rattle.msr_folders.specs.Paths.{shown_letter};
+
+    ghost output = { λ shown. Some (shown_letter shown.letter) };
+
+    #[tactic(auto, using(std::proofs::lemmas::Fmt::hex_byte))]
+    fn fmt<W: fmt::Write>(&self, f: &mut fmt::Formatter<W>) -> fmt::Result {
+        if self.letter.is_ascii_control() {
+            let code = self.letter as u8;
+            write!(f, "%{code:02x}")
+        } else {
+            f.write_char(self.letter)
+        }
+    }
+}
+
+/// A path, or the name of another file, as it is printed.
+#[derive(Clone, Copy, Debug)]
+pub struct Shown<'a> {
+    pub path: &'a str,
+}
+
+impl fmt::Display for Shown<'_> {
+    ghost use Rattle.std.specs.Prelude.{Some};
+    ghost use Rattle.msr_folders.specs.Paths.{shown_path};
+
+    ghost output = { λ shown. Some (shown_path shown.path.now) };
+
+    fn fmt<W: fmt::Write>(&self, f: &mut fmt::Formatter<W>) -> fmt::Result {
+        for letter in self.path.chars() {
+            let shown = ShownLetter { letter };
+            write!(f, "{shown}")?;
+        }
+        Ok(())
     }
 }
 
@@ -74,9 +99,6 @@ fn push_letter(text: &mut String, letter: char) -> Result<(), AllocError>
 pub fn shown_path(alloc: Global, path: &str) -> Result<String, AllocError>
     ensures { IfOk result (λ text. string_bytes text ≡ shown_path path.now) }
 {
-    let mut text = String::new(alloc);
-    for letter in path.chars() {
-        push_letter(&mut text, letter)?;
-    }
-    Ok(text)
+    let shown = Shown { path };
+    format!(in alloc; "{shown}")
 }

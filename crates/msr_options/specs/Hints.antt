@@ -3,14 +3,18 @@ use Rattle.std.specs.Prelude.{if◌then◌else◌, ◌≡◌, ◌⊎◌, ◌==�
 use Rattle.std.specs.List.{starts_with}
 use Rattle.std.specs.Option.{option_map}
 use Rattle.msr_options.specs.declared.hint.Hint.{Hint}
-use Rattle.msr_options.specs.declared.hint.Hint.TheVariants.{Gzip, MiniSeed3, Folder, Turns, Lengths, System}
+use Rattle.msr_options.specs.declared.hint.Hint.TheVariants.{Gzip, MiniSeed3, Folder, Turns, NoArchive, Waiting, Lengths, System}
 
 -- the text of a hint; that of the system's reason is the system's own
 abbrev pub text_of : Hint → Option (List ℕ)
 text_of Gzip = Some (codes "this is gzip")
 text_of MiniSeed3 = Some (codes "this is miniSEED 3, which msrepack does not read")
 text_of Folder = Some (codes "a folder: msrepack archive reads archives")
-text_of Turns = Some (codes "channels which alternate are not joined")
+text_of Turns =
+    Some (codes "no record was saved: most segments are one record long, as with channels in turns, or gaps")
+text_of NoArchive = Some (codes "no folder of an archive below ROOT")
+text_of Waiting =
+    Some (codes "msrepack waits for records on standard input; msrepack --help tells what else it does")
 text_of Lengths =
     Some (codes "msrepack writes records of 256, 512, 1024, 2048, 4096, 8192, 16384, 32768 or 65536 bytes")
 text_of (System error) = None

@@ -16,8 +16,12 @@ pub enum Hint {
     MiniSeed3,
     /// The file is a folder.
     Folder,
-    /// Channels seem to alternate.
+    /// A repack saved no record, and most segments are one record long.
     Turns,
+    /// A walk found no file of waveform data.
+    NoArchive,
+    /// Standard input is waited for, though no word asked for that.
+    Waiting,
     /// The lengths of written records.
     Lengths,
     /// Why a file cannot be opened, in the system's words.
@@ -34,7 +38,13 @@ impl fmt::Display for Hint {
             Hint::Gzip => f.write_str("this is gzip"),
             Hint::MiniSeed3 => f.write_str("this is miniSEED 3, which msrepack does not read"),
             Hint::Folder => f.write_str("a folder: msrepack archive reads archives"),
-            Hint::Turns => f.write_str("channels which alternate are not joined"),
+            Hint::Turns => f.write_str(
+                "no record was saved: most segments are one record long, as with channels in turns, or gaps",
+            ),
+            Hint::NoArchive => f.write_str("no folder of an archive below ROOT"),
+            Hint::Waiting => f.write_str(
+                "msrepack waits for records on standard input; msrepack --help tells what else it does",
+            ),
             Hint::Lengths => f.write_str(
                 "msrepack writes records of 256, 512, 1024, 2048, 4096, 8192, 16384, 32768 or 65536 bytes",
             ),

@@ -1,12 +1,15 @@
 //! The program `msrepack`: reads its words, has done what they ask for, and ends with the status that comes of it.
 #![tactic(auto)]
 
-ghost use Rattle.std.specs.Prelude.{◌⊎◌, length};
+ghost use Rattle.std.specs.Io.KnownBytes.{Appends};
+ghost use Rattle.std.specs.Prelude.{◌≡◌, ◌⊎◌, ◌<◌, ◌≤◌, IfSome, OnOk, false, length, true};
 ghost use Rattle.msr_devices.specs.Device.{CanCountCall};
 ghost use Rattle.msr_command.specs.Ends.{EndsTask, EndsWithoutTask};
+ghost use Rattle.msr_options.specs.Hints.{line_of};
 
 use msr_arguments::{NOT_UTF8, read_words};
 use msr_command::{Errors, complain, run};
+use msr_options::{Hint, write_hint};
 use msr_tool::{FromRead, FromWrite, Sink, Source};
 use std::alloc::{AllocError, Global};
 use std::io::{ErrorKind, IsTerminal, Write};
@@ -39,6 +42,24 @@ fn run_words<I: Source, O: Sink, E: Write>(
     run(rt, alloc, read_words(alloc, words), input, output, errors)
 }
 
+/// Tells a person who gave no word, and gives no input either, that input is waited for.
+fn tell_waiting<E: Write>(
+    errors: &mut Errors<E>,
+    words: usize,
+    is_from_terminal: bool,
+) -> io::Result<()>
+    ensures asked { 2 ≤ words → errors.new ≡ errors.old }
+    ensures given { is_from_terminal ≡ false → errors.new ≡ errors.old }
+    ensures script { errors.old.is_terminal ≡ false → errors.new ≡ errors.old }
+    ensures person { OnOk result (errors.old.is_terminal ≡ true → is_from_terminal ≡ true → words < 2 →
+        IfSome (line_of Hint.Waiting) (Appends (E.contents errors.old.to) (E.contents errors.new.to))) }
+{
+    if words < 2 && is_from_terminal {
+        return write_hint(errors, Hint::Waiting);
+    }
+    Ok(())
+}
+
 fn main(rt: HostRuntime) -> ExitCode {
     let alloc = rt.alloc();
     let standard = rt.stderr();
@@ -50,7 +71,9 @@ fn main(rt: HostRuntime) -> ExitCode {
     let status = match words_given(&rt, alloc) {
         Ok(words) => match borrowed(alloc, words.as_slice()) {
             Ok(words) => {
-                let mut input = FromRead::new(rt.stdin());
+                let given = rt.stdin();
+                tell_waiting(&mut errors, words.len(), given.is_terminal()).ok();
+                let mut input = FromRead::new(given);
                 let mut output = FromWrite::new(rt.stdout());
                 run_words(
                     &rt,

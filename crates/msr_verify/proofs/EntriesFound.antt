@@ -1,19 +1,19 @@
 -- Walks put together from the entries that were told.
-use Rattle.std.proofs.Common.{◌≡◌, ◌↔◌, ℕ, nat_lt, arith, List, ◌++◌, ◌∙◌, refl, ap, sym, append_assoc, take, drop, Bool, Ok, Err, IsErrOf}
+use Rattle.std.proofs.Common.{◌≡◌, ◌↔◌, ℕ, List, ◌++◌, ◌∙◌, refl, ap, sym, append_assoc, take, drop, Ok, Err, IsErrOf}
 use Rattle.std.proofs.lemmas.List.{take-append-drop}
-use Rattle.std.proofs.lemmas.Bool.{ltb-true, ltb-false}
 use Rattle.msr_devices.specs.Device.{Device, HasFailed, Takes}
 use Rattle.msr_devices.specs.declared.fault.DeviceFault.{DeviceFault}
 use Rattle.msr_devices.specs.declared.fault.DeviceFault.TheVariants.{Failed, Memory}
 use Rattle.msr_devices.proofs.Chaining.{takes_append, calm_same, steady_sound}
 use Rattle.msr_folders.specs.Visits.{StopsAt}
+use Rattle.msr_folders.specs.declared.found.WalkFound.{WalkFound}
 use Rattle.msr_folders.proofs.VisitLemmas as visits
 use Rattle.msr_folders.proofs.VisitLemmas.{part_none, stops_within}
 use Rattle.msr_report.specs.Writing.{TakesPrefix}
 use Rattle.msr_tool.specs.Fault.{fault_of_writing}
 use Rattle.msr_tool.specs.declared.fault.ToolFault.TheVariants.{Write}
-use Rattle.msr_verify.specs.Entries.{Entry, IsEntry, IsEntryLine, IsVerifyTally, counted, is_unverified}
-use Rattle.msr_verify.specs.Walk.{IsWalkInPart, StopsPrefix, StopsTelling, Tells, TellsInPart, TellsUnverified, Verifies, counts_line, summary}
+use Rattle.msr_verify.specs.Entries.{Entry, IsEntry, IsEntryLine, IsVerifyTally}
+use Rattle.msr_verify.specs.Walk.{IsWalkInPart, StopsPrefix, StopsTelling, Tells, TellsEnd, TellsInPart, Verifies, counts_line, summary}
 use Rattle.msr_verify.specs.declared.tally.VerifyTally.{VerifyTally}
 
 -- no entry more
@@ -94,15 +94,15 @@ walk_stops out0 out Memory h = record { printed = h.0.printed; prints = h.0.prin
 
 -- the sink failed if that is told
 pub stop_tells : (Part : Type 0) (out0 out : Device) (fault : DeviceFault) → StopsAt Part out0 out fault
-    → IsErrOf {T = Bool} (Err (fault_of_writing fault)) Write ↔ HasFailed out0 out
+    → IsErrOf {T = WalkFound} (Err (fault_of_writing fault)) Write ↔ HasFailed out0 out
 stop_tells Part out0 out Failed h = ((λ e. h.1), (λ has_failed. refl))
 stop_tells Part out0 out Memory h = ((λ e. absurd cc), (λ has_failed. absurd (steady_sound out0 out h.1 has_failed)))
 
-pub walk_ends : (out0 out1 out : Device) (tally0 tally : VerifyTally) (unverified : Bool) →
+pub walk_ends : (out0 out1 out : Device) (tally0 tally : VerifyTally) (found : WalkFound) →
     (told : Tells out0 out1 tally0 tally) → Takes out1 out (summary told.entries)
-    → TellsUnverified told.entries unverified →
-    Verifies out0 out (Ok unverified)
-walk_ends out0 out1 out tally0 tally unverified told prints refusals = record {
+    → TellsEnd told.entries found →
+    Verifies out0 out (Ok found)
+walk_ends out0 out1 out tally0 tally found told prints end = record {
   printed = told.lines ++ summary told.entries;
   prints = takes_append out0 out1 out told.lines (summary told.entries) told.prints prints;
   ends = (
@@ -113,14 +113,9 @@ walk_ends out0 out1 out tally0 tally unverified told prints refusals = record {
       are_lines = told.are_lines;
       whole = refl;
     },
-    refusals,
+    end,
   );
 }
-
--- a count of what is neither verified nor skipped tells whether there is some
-pub unverified_told : (entries : List Entry) (n : ℕ) → n ≡ counted is_unverified entries
-    → TellsUnverified entries (nat_lt 0 n)
-unverified_told entries n h = (λ yes. omega (arith, h, ltb-true 0 n yes), λ no. omega (arith, h, ltb-false 0 n no))
 
 -- the last line, from the counts of the entries
 pub summary_is : (entries : List Entry) (tally : VerifyTally) → IsVerifyTally entries tally → counts_line tally ≡ summary entries

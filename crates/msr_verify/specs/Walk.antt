@@ -1,15 +1,17 @@
 -- What a walk prints, and how it ends.
-use Rattle.std.specs.Prelude.{◌≡◌, ℕ, ◌<◌, Bool, true, false, List, [], ◌++◌, codes, Result, Ok, Err}
+use Rattle.std.specs.Prelude.{◌≡◌, ℕ, ◌<◌, List, [], ◌++◌, codes, Result, Ok, Err}
 use Rattle.std.specs.Fmt.{decimal}
 use Rattle.std.specs.List.{AllByRecursion}
 use Rattle.msr_devices.specs.Device.{Device, Takes}
 use Rattle.msr_devices.specs.declared.fault.DeviceFault.{DeviceFault}
 use Rattle.msr_folders.specs.Visits as visits
 use Rattle.msr_folders.specs.Visits.{StopsAt}
+use Rattle.msr_folders.specs.declared.found.WalkFound.{WalkFound}
+use Rattle.msr_folders.specs.declared.found.WalkFound.TheVariants.{Well, Unwell, NoDay}
 use Rattle.msr_report.specs.Writing.{TakesPrefix}
 use Rattle.msr_tool.specs.declared.fault.ToolFault.{ToolFault}
 use Rattle.msr_tool.specs.declared.fault.ToolFault.TheVariants.{Input, Report, Read, Write, Memory}
-use Rattle.msr_verify.specs.Entries.{Entry, IsEntry, IsEntryLine, AreLines, IsVerifyTally, counted, is_unverified, tally_of}
+use Rattle.msr_verify.specs.Entries.{Entry, IsEntry, IsEntryLine, AreLines, IsVerifyTally, counted, is_unverified, is_verified, tally_of}
 use Rattle.msr_verify.specs.declared.tally.VerifyTally.{VerifyTally}
 
 -- the counts at the end of the last line
@@ -53,10 +55,12 @@ pub record IsWalk (text : List ℕ) (entries : List Entry) : Type 0 where
   pub are_lines : AreLines entries lines
   pub whole : text ≡ lines ++ summary entries
 
--- a walk that came to its end tells whether one of its entries is neither verified nor skipped
-abbrev pub TellsUnverified : List Entry → Bool → Type 0
-TellsUnverified entries unverified = (unverified ≡ true → 0 < counted is_unverified entries)
-    × (unverified ≡ false → counted is_unverified entries ≡ 0)
+-- a walk that came to its end tells whether one of its entries is neither verified nor skipped, and if none is, whether
+-- one is verified
+abbrev pub TellsEnd : List Entry → WalkFound → Type 0
+TellsEnd entries Well = (counted is_unverified entries ≡ 0) × (0 < counted is_verified entries)
+TellsEnd entries Unwell = 0 < counted is_unverified entries
+TellsEnd entries NoDay = (counted is_unverified entries ≡ 0) × (counted is_verified entries ≡ 0)
 
 -- A prefix of the text of a whole walk.
 pub record IsWalkInPart (printed : List ℕ) : Type 0 where
@@ -65,9 +69,8 @@ pub record IsWalkInPart (printed : List ℕ) : Type 0 where
   pub walk : IsWalk (printed ++ rest) entries
 
 -- the whole text was printed, or a prefix of it when the walk stopped, which no input and no source can make it do
-abbrev pub WalkEnds : (printed : List ℕ) → Result Bool ToolFault → Type 0
-WalkEnds printed (Ok unverified) = (entries : List Entry) × IsWalk printed entries
-    × TellsUnverified entries unverified
+abbrev pub WalkEnds : (printed : List ℕ) → Result WalkFound ToolFault → Type 0
+WalkEnds printed (Ok found) = (entries : List Entry) × IsWalk printed entries × TellsEnd entries found
 WalkEnds printed (Err (Input found)) = ⊥
 WalkEnds printed (Err (Report line)) = ⊥
 WalkEnds printed (Err Read) = ⊥
@@ -75,7 +78,7 @@ WalkEnds printed (Err Write) = IsWalkInPart printed
 WalkEnds printed (Err Memory) = IsWalkInPart printed
 
 -- What verifying an archive printed, and how it ended.
-pub record Verifies (out0 out : Device) (result : Result Bool ToolFault) : Type 0 where
+pub record Verifies (out0 out : Device) (result : Result WalkFound ToolFault) : Type 0 where
   pub printed : List ℕ
   pub prints : Takes out0 out printed
   pub ends : WalkEnds printed result

@@ -1,5 +1,5 @@
 -- Answers about days.
-use Rattle.std.proofs.Common.{◌≡◌, ℕ, refl, sym, map, false, IfOk, List, [], inl, inr, Result, Ok, Err}
+use Rattle.std.proofs.Common.{◌≡◌, ◌↔◌, ℕ, refl, sym, map, false, IfOk, List, [], inl, inr, Result, Ok, Err, IsErrOf}
 use Rattle.std.proofs.lemmas.List.{append-nil}
 use Rattle.msr_devices.specs.Device.{Device}
 use Rattle.msr_kinds.specs.declared.lengths.Length.{Length}
@@ -12,7 +12,7 @@ use Rattle.msr_tool.specs.Tasks.{Reports}
 use Rattle.msr_tool.specs.declared.fault.ToolFault.{ToolFault}
 use Rattle.msr_tool.specs.declared.fault.ToolFault.TheVariants as fault
 use Rattle.msr_options.specs.declared.days.DayOptions.{DayOptions}
-use Rattle.msr_walk.specs.Day.{RepacksDay, HasAnswer, IsComparedIfAsked, IsDayOutcome, IsOutcomeOfDay, IsRepackedDay, IsShownIfAsked, IsUnread}
+use Rattle.msr_walk.specs.Day.{RepacksDay, HasAnswer, IsComparedIfAsked, IsDayOutcome, IsOutcomeOfDay, IsRepackedDay, IsShownIfAsked, IsUnread, fault_of_checking}
 use Rattle.msr_walk.specs.Entries.{IsDayOf, IsOutcomeOf}
 use Rattle.msr_walk.specs.declared.outcome.Outcome.{Outcome}
 use Rattle.msr_walk.specs.declared.outcome.Outcome.TheVariants.{Done, Same, Skipped, Refused, NotShown as Unshown, Differs as Different, Larger as Grown}
@@ -52,24 +52,6 @@ day_unsettled choice source records0 records text0 text repacked does = record {
   answers = inr (record { report = does.answers.report; rest = []; reported = rw append-nil does.answers.reported });
 }
 
--- what was written is not kept
-pub day_unkept : (asked : DayOptions) (source records0 records text0 text : Device) (repacked : Repacked) (why : DayFault) →
-    RepacksDay asked.options source records0 records text0 text (Ok repacked) → IsShownIfAsked asked.check (Err why)
-    → IsRepackedDay asked (Err why)
-day_unkept asked source records0 records text0 text repacked CannotOpen does is = tt
-day_unkept asked source records0 records text0 text repacked Gone does is = absurd is.1
-day_unkept asked source records0 records text0 text repacked Listing does is = absurd is.1
-day_unkept asked source records0 records text0 text repacked NotShown does is = record { check = is.0; unshown = is.1 }
-day_unkept asked source records0 records text0 text repacked Differs does is = absurd is.1
-day_unkept asked source records0 records text0 text repacked (Larger counts) does is = absurd is.1
-day_unkept asked source records0 records text0 text repacked ClaimedByAnother does is = absurd is.1
-day_unkept asked source records0 records text0 text repacked (Tool why) does is = rw is.1 (record {
-  input = does.input;
-  written = does.written;
-  told = does.told;
-  answers = inr (record { report = does.answers.report; rest = []; reported = rw append-nil does.answers.reported });
-})
-
 -- the records of what was repacked were read, and none refused
 stopped_after : (choice : Choice) (input written : List ℕ) (report : Report) → IsRepacked choice input written report
     → IsStopped choice input written
@@ -106,6 +88,29 @@ day_unread choice source records0 records text0 text repacked why does (inr is) 
   told = does.told;
   answers = inr (record { report = does.answers.report; rest = []; reported = rw append-nil does.answers.reported });
 })
+
+-- a failed read of what was written is told as such, and nothing else is
+pub failure_told : {T : Type 0} (why : ToolFault) (P : Type 0) → IsErrOf {T = T} (Err why) fault.Read ↔ P
+    → IsErrOf {T = Unit {0}} (Err (fault_of_checking why)) (Tool fault.Read) ↔ P
+failure_told (fault.Input found) P is = ((λ e. absurd cc), (λ p. let e = is.1 p in absurd cc))
+failure_told (fault.Report line) P is = ((λ e. absurd cc), (λ p. let e = is.1 p in absurd cc))
+failure_told fault.Read P is = ((λ e. is.0 refl), (λ p. refl))
+failure_told fault.Write P is = ((λ e. absurd cc), (λ p. let e = is.1 p in absurd cc))
+failure_told fault.Memory P is = ((λ e. absurd cc), (λ p. let e = is.1 p in absurd cc))
+
+-- what was written is not kept
+pub day_unkept : (asked : DayOptions) (source records0 records text0 text : Device) (repacked : Repacked) (why : DayFault) →
+    RepacksDay asked.options source records0 records text0 text (Ok repacked) → IsShownIfAsked asked.check (Err why)
+    → IsRepackedDay asked (Err why)
+day_unkept asked source records0 records text0 text repacked CannotOpen does is = tt
+day_unkept asked source records0 records text0 text repacked Gone does is = absurd is.1
+day_unkept asked source records0 records text0 text repacked Listing does is = absurd is.1
+day_unkept asked source records0 records text0 text repacked NotShown does is = record { check = is.0; unshown = is.1 }
+day_unkept asked source records0 records text0 text repacked Differs does is = absurd is.1
+day_unkept asked source records0 records text0 text repacked (Larger counts) does is = absurd is.1
+day_unkept asked source records0 records text0 text repacked ClaimedByAnother does is = absurd is.1
+day_unkept asked source records0 records text0 text repacked (Tool why) does is =
+    day_unread asked.options source records0 records text0 text repacked why does is.1
 
 -- what was written is not the same data as the day's own file
 pub day_differs : (asked : DayOptions) (source records0 records text0 text : Device) (repacked : Repacked)

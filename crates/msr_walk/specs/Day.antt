@@ -14,6 +14,7 @@ use Rattle.msr_options.specs.Days.{in_length}
 use Rattle.msr_options.specs.declared.days.DayOptions.{DayOptions}
 use Rattle.msr_tool.specs.Tasks.{IsReported, ReportAnswers}
 use Rattle.msr_tool.specs.declared.fault.ToolFault.{ToolFault}
+use Rattle.msr_tool.specs.declared.fault.ToolFault.TheVariants as fault
 use Rattle.msr_tool.specs.declared.fault.ToolFault.TheVariants.{Memory, Read}
 use Rattle.msr_verdict.specs.declared.verdict.Verdict.{Verdict}
 use Rattle.msr_verdict.specs.declared.verdict.Verdict.TheVariants.{Least}
@@ -75,13 +76,28 @@ pub record WasShown : Type 0 where
   pub text : List ℕ
   pub shown : IsChecked input text (Ok Least)
 
--- Some bytes and some text were checked, with another answer.
+-- Some bytes and some text were checked, with another answer that is one about them.
 pub record IsUnshown : Type 0 where
   pub input : List ℕ
   pub text : List ℕ
   pub answer : Result Verdict ToolFault
   pub answers : CheckAnswers input text answer
   pub other : answer ≢ Ok Least
+  pub was_read : answer ≢ Err Read
+  pub had_memory : answer ≢ Err Memory
+
+-- reading one of two files failed, or memory was refused
+abbrev pub IsUnread : ToolFault → Type 0
+IsUnread fault = (fault ≡ Read) ⊎ (fault ≡ Memory)
+
+-- What is told of a day if holding its records against their report stops so. Both were just written, so if one of them
+-- is at fault, nothing is shown.
+abbrev pub fault_of_checking : ToolFault → DayFault
+fault_of_checking (fault.Input found) = NotShown
+fault_of_checking (fault.Report line) = NotShown
+fault_of_checking fault.Read = Tool Read
+fault_of_checking fault.Write = NotShown
+fault_of_checking fault.Memory = Tool Memory
 
 -- why records that were written are not kept
 abbrev pub IsUnkept : DayFault → Type 0
@@ -92,7 +108,7 @@ IsUnkept NotShown = IsUnshown
 IsUnkept Differs = ⊥
 IsUnkept ClaimedByAnother = ⊥
 IsUnkept (Larger repacked) = ⊥
-IsUnkept (Tool fault) = fault ≡ Memory
+IsUnkept (Tool fault) = IsUnread fault
 
 -- what holding records against their report answers
 abbrev pub IsShown : Result (Unit {0}) DayFault → Type 0
@@ -114,10 +130,6 @@ abbrev pub fault_of_comparing : ReadFault → DayFault
 fault_of_comparing (read.Input found) = Differs
 fault_of_comparing read.Read = Tool Read
 fault_of_comparing read.Memory = Tool Memory
-
--- reading one of two files failed, or memory was refused
-abbrev pub IsUnread : ToolFault → Type 0
-IsUnread fault = (fault ≡ Read) ⊎ (fault ≡ Memory)
 
 -- what comparing a day's file with its records answers
 abbrev pub SameAnswers : Choice → (file records : List ℕ) → Result (Unit {0}) DayFault → Type 0

@@ -1,5 +1,5 @@
 -- What a walk prints, and how it ends.
-use Rattle.std.specs.Prelude.{◌≡◌, ℕ, ◌<◌, Bool, true, false, List, [], ◌++◌, map, codes, Result, Ok, Err}
+use Rattle.std.specs.Prelude.{◌≡◌, ◌⊎◌, ℕ, ◌<◌, Bool, false, true, List, [], ◌++◌, map, codes, Result, Ok, Err}
 use Rattle.std.specs.Fmt.{decimal}
 use Rattle.std.specs.List.{AllByRecursion, flat_map, zip}
 use Rattle.msr_devices.specs.Device.{Device, Takes}
@@ -8,6 +8,8 @@ use Rattle.msr_folders.specs.Visits as visits
 use Rattle.msr_folders.specs.Visits.{StopsAt}
 use Rattle.msr_report.specs.Writing.{TakesPrefix}
 use Rattle.msr_folders.specs.declared.totals.Total.{Total}
+use Rattle.msr_folders.specs.declared.found.WalkFound.{WalkFound}
+use Rattle.msr_folders.specs.declared.found.WalkFound.TheVariants.{Well, Unwell, NoDay}
 use Rattle.msr_tool.specs.declared.fault.ToolFault.{ToolFault}
 use Rattle.msr_tool.specs.declared.fault.ToolFault.TheVariants.{Input, Report, Read, Write, Memory}
 use Rattle.msr_options.specs.declared.days.DayOptions.{DayOptions}
@@ -85,10 +87,13 @@ pub record IsWalk (asked : DayOptions) (text : List ℕ) (entries : List Entry) 
   pub are_lines : AreLines asked.bytes entries lines
   pub whole : text ≡ lines ++ summary asked entries
 
--- a walk that came to its end tells whether an entry was refused
-abbrev pub TellsRefusals : List Entry → Bool → Type 0
-TellsRefusals entries refused = (refused ≡ true → 0 < counted is_refused entries)
-    × (refused ≡ false → counted is_refused entries ≡ 0)
+-- a walk that came to its end tells whether an entry was refused, and if none was, whether there was a day
+abbrev pub TellsEnd : List Entry → WalkFound → Type 0
+TellsEnd entries Well = (counted is_refused entries ≡ 0)
+    × ((0 < counted is_done entries) ⊎ (0 < counted is_larger entries))
+TellsEnd entries Unwell = 0 < counted is_refused entries
+TellsEnd entries NoDay = (counted is_refused entries ≡ 0) × (counted is_done entries ≡ 0)
+    × (counted is_larger entries ≡ 0)
 
 -- A prefix of the text of a whole walk.
 pub record IsWalkInPart (asked : DayOptions) (printed : List ℕ) : Type 0 where
@@ -97,9 +102,9 @@ pub record IsWalkInPart (asked : DayOptions) (printed : List ℕ) : Type 0 where
   pub walk : IsWalk asked (printed ++ rest) entries
 
 -- the whole text was printed, or a prefix of it when the walk stopped, which no input and no source can make it do
-abbrev pub WalkEnds : DayOptions → (printed : List ℕ) → Result Bool ToolFault → Type 0
-WalkEnds asked printed (Ok refused) = (entries : List Entry) × IsWalk asked printed entries
-    × TellsRefusals entries refused
+abbrev pub WalkEnds : DayOptions → (printed : List ℕ) → Result WalkFound ToolFault → Type 0
+WalkEnds asked printed (Ok found) = (entries : List Entry) × IsWalk asked printed entries
+    × TellsEnd entries found
 WalkEnds asked printed (Err (Input found)) = ⊥
 WalkEnds asked printed (Err (Report line)) = ⊥
 WalkEnds asked printed (Err Read) = ⊥
@@ -107,7 +112,7 @@ WalkEnds asked printed (Err Write) = IsWalkInPart asked printed
 WalkEnds asked printed (Err Memory) = IsWalkInPart asked printed
 
 -- What a walk printed, and how it ended.
-pub record Walks (asked : DayOptions) (out0 out : Device) (result : Result Bool ToolFault) : Type 0 where
+pub record Walks (asked : DayOptions) (out0 out : Device) (result : Result WalkFound ToolFault) : Type 0 where
   pub printed : List ℕ
   pub prints : Takes out0 out printed
   pub ends : WalkEnds asked printed result

@@ -1,11 +1,11 @@
 //! The walk through the folders of an archive.
-ghost use Rattle.std.specs.Prelude.{◌↔◌, IfErr, IfOk, IsErrOf, OnOk};
+ghost use Rattle.std.specs.Prelude.{◌↔◌, List, IfErr, IfOk, IsErrOf, OnOk};
 ghost use Rattle.msr_devices.specs.Device.{CanCountCall, HasFailed};
 ghost use Rattle.msr_sds.specs.SdsPath.{ReadsAsDay};
 ghost use Rattle.msr_walk.specs.Day.{IsOutcomeOfDay};
 ghost use Rattle.msr_folders.proofs.VisitLemmas.{visitor_laws};
-ghost use Rattle.msr_walk.specs.Entries.{IsEntry, IsEntryLine, IsOutcomeOf, IsTally};
-ghost use Rattle.msr_walk.specs.Walk.{StopsTelling, Tells, Walks};
+ghost use Rattle.msr_walk.specs.Entries.{Entry, IsEntry, IsEntryLine, IsOutcomeOf, IsTally};
+ghost use Rattle.msr_walk.specs.Walk.{StopsTelling, Tells, TellsEnd, Walks};
 
 use crate::claim::LockFile;
 use crate::day::Day;
@@ -15,7 +15,7 @@ use crate::places::stands_apart;
 use crate::summary::write_summary;
 use crate::tally::Tally;
 use msr_devices::{DeviceFault, Sink, write_all};
-use msr_folders::{FileKind, FolderWalk, Visitor, visit_folders};
+use msr_folders::{FileKind, FolderWalk, Visitor, WalkFound, visit_folders};
 use msr_options::DayOptions;
 use msr_sds::SdsName;
 use msr_tool::ToolFault;
@@ -158,13 +158,27 @@ where
     }
 }
 
-/// Walks the archive, or the folders of it that are asked for, and tells whether an entry was refused.
+/// What a walk with these counts found.
+fn end_of(tally: &Tally) -> WalkFound
+    ensures { (entries : List Entry) → IsTally entries tally.now → TellsEnd entries result }
+{
+    if 0 < tally.refused {
+        WalkFound::Unwell
+    } else if tally.done == 0 && tally.larger == 0 {
+        WalkFound::NoDay
+    } else {
+        WalkFound::Well
+    }
+}
+
+/// Walks the archive, or the folders of it that are asked for, and tells whether an entry was refused, and whether
+/// there was a day.
 pub fn walk<R: Files, O: Sink>(
     rt: &R,
     alloc: Global,
     archive: &Archive<'_>,
     out: &mut O,
-) -> Result<bool, ToolFault>
+) -> Result<WalkFound, ToolFault>
 where
     R::File: LockFile,
     requires { CanCountCall (O.device out.old) }
@@ -184,5 +198,5 @@ where
     };
     visit_folders(&walk, out, &mut tally)?;
     write_summary(alloc, out, &archive.days, &tally)?;
-    Ok(0 < tally.refused)
+    Ok(end_of(&tally))
 }

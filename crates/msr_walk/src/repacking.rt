@@ -1,10 +1,10 @@
 //! The part of a day file that is under contract: from a source to two sinks.
-ghost use Rattle.std.specs.Prelude.{◌≡◌, ◌+◌, ◌*◌, IfSome};
-ghost use Rattle.msr_devices.specs.Device.{CanCountCall};
+ghost use Rattle.std.specs.Prelude.{◌≡◌, ◌↔◌, ◌⊎◌, ◌+◌, ◌*◌, IfSome, IsErrOf};
+ghost use Rattle.msr_devices.specs.Device.{CanCountCall, HasFailed};
 ghost use Rattle.msr_options.specs.Choice.{size_of};
 ghost use Rattle.msr_report.specs.Proper.{IsProper, records_of};
 ghost use Rattle.msr_folders.specs.Totals.{saturated};
-ghost use Rattle.msr_walk.specs.Day.{ComparesDay, IsReportKept, IsShown, RepacksDay, fault_of_comparing};
+ghost use Rattle.msr_walk.specs.Day.{ComparesDay, IsReportKept, IsShown, RepacksDay, fault_of_checking, fault_of_comparing};
 
 use crate::outcome::{DayFault, Repacked};
 use msr_compare::{CompareFault, Comparison, compare};
@@ -148,7 +148,18 @@ pub(crate) fn counts_kept<S: Source>(
     })
 }
 
-/// Holds packed records against their report.
+/// What is told of a day whose records or report cannot be read again, or are at fault.
+fn fault_of_checking(fault: ToolFault) -> DayFault
+    ensures { result ≡ fault_of_checking fault }
+{
+    match fault {
+        ToolFault::Read => DayFault::Tool(ToolFault::Read),
+        ToolFault::Memory => DayFault::Tool(ToolFault::Memory),
+        ToolFault::Input(_) | ToolFault::Report(_) | ToolFault::Write => DayFault::NotShown,
+    }
+}
+
+/// Holds packed records against their report. What cannot be read is not told as not shown.
 pub(crate) fn require_shown<P: Source, Q: Source>(
     alloc: Global,
     packed: &mut P,
@@ -156,13 +167,17 @@ pub(crate) fn require_shown<P: Source, Q: Source>(
 ) -> Result<(), DayFault>
     requires packed { CanCountCall (P.device packed.old) }
     requires report { CanCountCall (Q.device report.old) }
-    ensures { IsShown result }
+    ensures answer { IsShown result }
+
+    // A failure of a source is answered as such, and nothing else is.
+    ensures read { IsErrOf result (DayFault.Tool ToolFault.Read)
+        ↔ (HasFailed (P.device packed.old) (P.device packed.new)
+        ⊎ HasFailed (Q.device report.old) (Q.device report.new)) }
 {
     match check_packed(alloc, packed, report) {
         Ok(Verdict::Least) => Ok(()),
         Ok(Verdict::NotShown) => Err(DayFault::NotShown),
-        Err(ToolFault::Memory) => Err(DayFault::Tool(ToolFault::Memory)),
-        Err(_) => Err(DayFault::NotShown),
+        Err(fault) => Err(fault_of_checking(fault)),
     }
 }
 

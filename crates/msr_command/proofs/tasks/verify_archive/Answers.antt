@@ -7,10 +7,11 @@ returns-in_err-require_apart g c =
     let p = err_from_is_err_and c.from_residual.result c.from_residual.ensures.1 in
     rw (p.1, p.2) (verify_unbegun (g.O.Sink.device c.args.output.now) _ c.in_err-require_apart.ensures)
 
-pub returns-in_err-refused : goal.returns-in_err-refused
-returns-in_err-refused g c =
-    let p = err_from_is_err_and c.from_residual-in_err-refused.result c.from_residual-in_err-refused.ensures.1 in
-    rw (p.1, p.2) (verify_stops _ _ _ c.in_err-refused.ensures.answer)
+pub returns-in_err-found : goal.returns-in_err-found
+returns-in_err-found g c =
+    let p = err_from_is_err_and c.from_residual-in_err-found.result c.from_residual-in_err-found.ensures.1 in
+    rw (p.1, p.2) (verify_stops _ _ _ c.in_err-found.ensures.answer)
 
 pub returns : goal.returns
-returns g c = verify_done _ _ _ c.in_ok-refused.ensures.answer
+returns g c =
+    rw c.of_verifying.ensures (verify_done _ _ c.is_empty.result _ c.in_ok-found.ensures.answer)

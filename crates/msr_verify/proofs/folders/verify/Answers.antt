@@ -2,7 +2,7 @@ use Rattle.std.proofs.Common.{[]}
 use Rattle.std.proofs.lemmas.Result.{err_from_is_err_and}
 use Rattle.msr_devices.proofs.Chaining.{calm_calm}
 use Rattle.msr_tool.proofs.StoppedRepacks.{ok_tells}
-use Rattle.msr_verify.proofs.EntriesFound.{stop_tells, stops_entries, stops_more, stops_summary, summary_is, tells_more, unverified_told, walk_ends, walk_stops}
+use Rattle.msr_verify.proofs.EntriesFound.{stop_tells, stops_entries, stops_more, stops_summary, summary_is, tells_more, walk_ends, walk_stops}
 use Rattle.msr_verify.proofs.folders.verify.Goals as goal
 
 pub returns-in_err-walk_tree-clause-answer : goal.returns-in_err-walk_tree-clause-answer
@@ -89,7 +89,7 @@ returns-clause-answer g c =
     let line = summary_is told.entries tally counts in
     walk_ends out0 out2 out c.new-tally.result tally _ told
     (rw line at c.in_ok-write.ensures.all)
-    (unverified_told told.entries tally.unverified counts.unverified)
+    (c.end_of.ensures told.entries counts)
 
 pub returns-clause-write : goal.returns-clause-write
 returns-clause-write g c =

@@ -3,7 +3,7 @@ use Rattle.std.proofs.lemmas.Result.{err_from_is_err_and}
 use Rattle.msr_devices.proofs.Chaining.{calm_calm}
 use Rattle.msr_tool.proofs.StoppedRepacks.{ok_tells}
 use Rattle.msr_walk.specs.Walk.{Tells}
-use Rattle.msr_walk.proofs.EntriesTold.{refusals_told, stop_tells, stops_entries, stops_summary, walk_ends, walk_stops}
+use Rattle.msr_walk.proofs.EntriesTold.{stop_tells, stops_entries, stops_summary, walk_ends, walk_stops}
 use Rattle.msr_walk.proofs.folders.walk.Goals as goal
 
 pub returns-in_err-visit_folders-clause-answer : goal.returns-in_err-visit_folders-clause-answer
@@ -62,7 +62,7 @@ returns-clause-answer g c =
     let counts = told.counts [] c.new-tally.ensures in
     walk_ends asked out0 out1 (g.O.Sink.device c.write_summary.new.out) c.new-tally.result c.visit_folders.new.tally _ told
     (c.in_ok-write_summary.ensures.all told.entries counts)
-    (refusals_told told.entries c.visit_folders.new.tally.refused counts.refused)
+    (c.end_of.ensures told.entries counts)
 
 pub returns-clause-write : goal.returns-clause-write
 returns-clause-write g c =
