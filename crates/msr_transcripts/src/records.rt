@@ -1,8 +1,9 @@
 //! Records, and changes of their fields by name.
 
 use crate::files;
-use crate::numbers::{count, no_step, number};
-use msr_fixtures::{int32_record, record, steim_record};
+use crate::numbers::{count, no_step};
+use msr_base::Order;
+use msr_fixtures::{edit_by_name, int32_record, record, steim_record};
 use std::{fs, io};
 
 /// Writes the record of that name.
@@ -16,45 +17,6 @@ pub fn write(rt: &HostRuntime, name: &str, path: &str) -> io::Result<()> {
     files::write(rt, path, &bytes)
 }
 
-/// The places of a field's numbers, each with its number of bytes; none if that is no name of numbers.
-fn places_of(name: &str) -> &'static [(usize, usize)] {
-    match name {
-        "day" => &[(20, 2), (22, 2)],
-        "clock" => &[(24, 1), (25, 1), (26, 1), (28, 2)],
-        "samples" => &[(30, 2)],
-        "rate" => &[(32, 2), (34, 2)],
-        "activity" => &[(36, 1)],
-        "clocking" => &[(37, 1)],
-        "flags" => &[(38, 1)],
-        "correction" => &[(40, 4)],
-        "data" => &[(44, 2)],
-        "first" => &[(46, 2)],
-        "after1000" => &[(50, 2)],
-        "encoding" => &[(52, 1)],
-        "order" => &[(53, 1)],
-        "exponent" => &[(54, 1)],
-        "second" => &[(56, 2)],
-        "after1001" => &[(58, 2)],
-        "timing" => &[(60, 1)],
-        "micros" => &[(61, 1)],
-        "frames" => &[(63, 1)],
-        _ => &[],
-    }
-}
-
-/// The place of a field of text.
-fn place_of_text(name: &str) -> Option<usize> {
-    match name {
-        "sequence" => Some(0),
-        "quality" => Some(6),
-        "station" => Some(8),
-        "location" => Some(13),
-        "channel" => Some(15),
-        "network" => Some(18),
-        _ => None,
-    }
-}
-
 /// Writes bytes from a place on.
 fn put(bytes: &mut [u8], place: usize, part: &[u8]) -> io::Result<()> {
     for (number, value) in part.iter().enumerate() {
@@ -64,22 +26,6 @@ fn put(bytes: &mut [u8], place: usize, part: &[u8]) -> io::Result<()> {
         }
     }
     Ok(())
-}
-
-/// Writes the numbers of a field, which stand between signs of any kind, as `2020,001` or `23:59:29.9500`.
-fn put_numbers(bytes: &mut [u8], places: &[(usize, usize)], value: &str) -> io::Result<()> {
-    let mut texts = value.split([',', ':', '.', '/']);
-    for (place, width) in places {
-        let number = number(texts.next().unwrap_or(""))?;
-        let digits = number.to_be_bytes();
-        put(bytes, *place, &digits[8 - (*width).min(8)..])?;
-    }
-    let is_whole = texts.next().is_none();
-    if is_whole && !places.is_empty() {
-        Ok(())
-    } else {
-        Err(no_step())
-    }
 }
 
 /// A byte of two hexadecimal digits.
@@ -109,10 +55,7 @@ fn change(bytes: &mut [u8], name: &str, value: &str) -> io::Result<()> {
     if let Ok(place) = count(name) {
         return put_hex(bytes, place, value);
     }
-    match place_of_text(name) {
-        Some(place) => put(bytes, place, value.as_bytes()),
-        None => put_numbers(bytes, places_of(name), value),
-    }
+    edit_by_name(Order::Big, bytes, name, value).ok_or_else(no_step)
 }
 
 /// Changes fields of the record at a file's begin, `NAME=VALUE ..`. A `_` stands for a space.
@@ -122,8 +65,7 @@ pub fn set(rt: &HostRuntime, path: &str, changes: &str) -> io::Result<()> {
         let Some((name, value)) = word.split_once('=') else {
             return Err(no_step());
         };
-        let value = value.replace(rt.alloc(), "_", " ")?;
-        change(bytes.as_mut_slice(), name, value.as_str())?;
+        change(bytes.as_mut_slice(), name, value)?;
     }
     files::write(rt, path, bytes.as_slice())
 }
