@@ -27,7 +27,7 @@ def other_program(script):
     with tempfile.TemporaryDirectory() as folder:
         path = os.path.join(folder, "msrepack")
         with open(path, "w", encoding="utf-8") as file:
-            file.write(f'#!/bin/sh\nif [ "$1" = --version ]; then echo "msrepack 1.0.0"; exit; fi\n{script}\n')
+            file.write(f'#!/bin/sh\nif [ "$1" = --version ]; then echo "msrepack 1.1.0"; exit; fi\n{script}\n')
         os.chmod(path, 0o755)
         with unittest.mock.patch.dict(os.environ, MSREPACK=path):
             yield path

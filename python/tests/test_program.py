@@ -62,7 +62,7 @@ class Finding(Tidy):
         os.environ.pop("MSREPACK", None)
         self.addCleanup(found._of_wheel.cache_clear)
 
-    def program(self, name, told="msrepack 1.0.0"):
+    def program(self, name, told="msrepack 1.1.0"):
         path = self.path(name, f"#!/bin/sh\necho '{told}'\n".encode())
         os.chmod(path, 0o755)
         return path
@@ -110,9 +110,9 @@ class Finding(Tidy):
 
     def wheel(self, place):
         """What pip notes of a wheel that it installed."""
-        record = f"{place},,\nmsrepack/__init__.py,,\nmsrepack-1.0.0.dist-info/RECORD,,\n"
-        self.path("site/msrepack-1.0.0.dist-info/RECORD", record.encode())
-        self.path("site/msrepack-1.0.0.dist-info/METADATA", b"Metadata-Version: 2.1\nName: msrepack\nVersion: 1.0.0\n")
+        record = f"{place},,\nmsrepack/__init__.py,,\nmsrepack-1.1.0.dist-info/RECORD,,\n"
+        self.path("site/msrepack-1.1.0.dist-info/RECORD", record.encode())
+        self.path("site/msrepack-1.1.0.dist-info/METADATA", b"Metadata-Version: 2.1\nName: msrepack\nVersion: 1.1.0\n")
 
     def test_that_of_the_clone(self):
         path, other = self.program("clone/out/msrepack"), self.program("path/msrepack")

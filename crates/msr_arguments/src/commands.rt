@@ -272,7 +272,7 @@ fn program<'a>(alloc: Global) -> Result<Command<'a>, AllocError> {
         after: texts::AFTER,
     };
     described(alloc, "msrepack", about)
-        .version("1.0.0")
+        .version("1.1.0")
         .subcommand_required(true)
         .bin_name("msrepack")
 }
