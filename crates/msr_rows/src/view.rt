@@ -82,7 +82,7 @@ impl<'a> RecordView<'a> {
         ensures agrees { result.agrees ≡ self.now.found.reverse_agrees }
     {
         match &self.row {
-            Some(row) => row.samples.copy(),
+            Some(row) => row.samples.clone().unwrap(),
             None => Samples::none(),
         }
     }
