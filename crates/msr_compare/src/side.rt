@@ -40,7 +40,7 @@ impl Side {
     {
         Side {
             reader: RowReader::new(alloc, settings),
-            tally: RowTally::new(),
+            tally: RowTally::default(),
             ahead: Ahead::new(),
             ended: false,
         }
