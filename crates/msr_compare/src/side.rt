@@ -40,7 +40,7 @@ impl Side {
     {
         Side {
             reader: RowReader::new(alloc, settings),
-            tally: RowTally::default(),
+            tally: RowTally::new(),
             ahead: Ahead::new(),
             ended: false,
         }

@@ -6,7 +6,7 @@ use msr_segments::Step;
 use msr_time::Rate;
 
 /// What was counted of the rows so far.
-#[derive(Clone, Copy, Debug, Default)]
+#[derive(Clone, Copy, Debug)]
 pub(crate) struct RowTally {
     /// Where the segment begins that was begun last.
     pub start: i64,
@@ -33,6 +33,21 @@ fn distance(rate: Rate, t0: i64, n: u64, t: i64) -> u64
 }
 
 impl RowTally {
+    ghost use Rattle.std.specs.Prelude.{◌≡◌, pos};
+
+    /// Nothing was counted.
+    pub(crate) fn new() -> RowTally
+        ensures { result ≡ record { start = pos 0; count = 0; segments = 0; samples = 0; moved = 0 } }
+    {
+        RowTally {
+            start: 0,
+            count: 0,
+            segments: 0,
+            samples: 0,
+            moved: 0,
+        }
+    }
+
     /// Counts the next row, which does that. What is counted is less than the bytes of an input let it be, so nothing
     /// saturates.
     pub(crate) fn with(self, step: Step, row: &Row) -> RowTally
