@@ -66,13 +66,9 @@ impl Ahead {
     pub(crate) fn of_row(step: Step, row: Row) -> Ahead
         ensures { result ≡ row_symbols step row }
     {
-        let begins = match step {
-            Step::Begins => true,
-            Step::Joins => false,
-        };
         Ahead {
             row: Some(row),
-            begins,
+            begins: step == Step::Begins,
             passed: 0,
             spent: None,
         }
@@ -109,10 +105,7 @@ impl Ahead {
     pub(crate) fn is_empty(&self) -> bool
         ensures { IsTrue result ↔ (self.now ≡ []) }
     {
-        match self.next() {
-            Next::Nothing => true,
-            _ => false,
-        }
+        matches!(self.next(), Next::Nothing)
     }
 
     /// Passes the beginning of a segment, if it is ahead.

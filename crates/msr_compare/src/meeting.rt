@@ -1,5 +1,5 @@
 //! Comparing what is ahead of two inputs.
-ghost use Rattle.std.specs.Prelude.{◌≡◌, [], min, length, take, IsTrue, MatchOption};
+ghost use Rattle.std.specs.Prelude.{◌≡◌, min, length, take, IsTrue, MatchOption};
 ghost use Rattle.msr_compare.specs.Meetings.{BeginsNext, HoldsNext, Meets, UnequalIn, place_of};
 
 use crate::ahead::Next;
@@ -87,18 +87,6 @@ fn holds_more(side: &Side, which: Which) -> Met
     )
 }
 
-/// Nothing is ahead of the first side.
-fn meet_nothing(one: &Side, other: &Side) -> Met
-    requires { one.now.ahead ≡ [] }
-    ensures { Meets one.now other.now result one.now other.now }
-{
-    match other.next() {
-        Next::Begins(_, _) => differs(other, DifferenceKind::SegmentOnlyIn(Which::Other)),
-        Next::Samples => holds_more(other, Which::Other),
-        Next::Nothing => Met::End,
-    }
-}
-
 /// Samples are ahead of both sides.
 fn meet_samples(one: &mut Side, other: &mut Side) -> Met
     requires one { HoldsNext one.old.ahead }
@@ -121,17 +109,6 @@ fn meet_samples(one: &mut Side, other: &mut Side) -> Met
     Met::Agree
 }
 
-/// Samples are ahead of the first side.
-fn meet_held(one: &mut Side, other: &mut Side) -> Met
-    requires { HoldsNext one.old.ahead }
-    ensures { Meets one.old other.old result one.new other.new }
-{
-    match other.next() {
-        Next::Samples => meet_samples(one, other),
-        _ => holds_more(one, Which::One),
-    }
-}
-
 /// Both sides begin a segment.
 fn meet_beginnings(one: &mut Side, other: &mut Side, keys: (Key, Key), starts: (i64, i64)) -> Met
     requires one { BeginsNext keys.0 starts.0 one.old.ahead }
@@ -149,27 +126,26 @@ fn meet_beginnings(one: &mut Side, other: &mut Side, keys: (Key, Key), starts: (
     Met::Agree
 }
 
-/// The first side begins a segment.
-fn meet_beginning(one: &mut Side, other: &mut Side, key: Key, start: i64) -> Met
-    requires { BeginsNext key start one.old.ahead }
-    ensures { Meets one.old other.old result one.new other.new }
-{
-    match other.next() {
-        Next::Begins(other_key, other_start) => {
-            meet_beginnings(one, other, (key, other_key), (start, other_start))
-        }
-        Next::Samples => holds_more(other, Which::Other),
-        Next::Nothing => differs(one, DifferenceKind::SegmentOnlyIn(Which::One)),
-    }
-}
-
 /// Compares what is ahead of both sides, as far as it can be, and passes what is the same.
 pub(crate) fn meet(one: &mut Side, other: &mut Side) -> Met
     ensures { Meets one.old other.old result one.new other.new }
 {
     match one.next() {
-        Next::Begins(key, start) => meet_beginning(one, other, key, start),
-        Next::Samples => meet_held(one, other),
-        Next::Nothing => meet_nothing(one, other),
+        Next::Begins(key, start) => match other.next() {
+            Next::Begins(other_key, other_start) => {
+                meet_beginnings(one, other, (key, other_key), (start, other_start))
+            }
+            Next::Samples => holds_more(other, Which::Other),
+            Next::Nothing => differs(one, DifferenceKind::SegmentOnlyIn(Which::One)),
+        },
+        Next::Samples => match other.next() {
+            Next::Samples => meet_samples(one, other),
+            _ => holds_more(one, Which::One),
+        },
+        Next::Nothing => match other.next() {
+            Next::Begins(_, _) => differs(other, DifferenceKind::SegmentOnlyIn(Which::Other)),
+            Next::Samples => holds_more(other, Which::Other),
+            Next::Nothing => Met::End,
+        },
     }
 }

@@ -1,5 +1,5 @@
 //! The loops over a source and a sink: 64 interruptions in a row are a failure.
-ghost use Rattle.std.specs.Prelude.{◌≡◌, ◌+◌, ◌<◌, ◌≤◌, ◌^◌, ℕ, [], length, take, IfOk, IfErr, OnOk, OnErr, MatchResult, true, false};
+ghost use Rattle.std.specs.Prelude.{◌≡◌, ◌+◌, ◌<◌, ◌≤◌, ◌^◌, ℕ, [], length, take, IfOk, OnOk, OnErr, true, false};
 ghost use Rattle.msr_devices.specs.Device.{CanCountCall, HasLeft, Gives, GivesOnto, Takes, Moves, HasFailed, IsCalm, IsSteady, CountsFew};
 
 use crate::device::{Sink, Source};
@@ -107,38 +107,29 @@ pub fn write_all<W: Sink>(sink: &mut W, buf: &[u8]) -> Result<(), DeviceFailed>
     ensures part { OnErr result ((n : ℕ) × Takes (W.device sink.old) (W.device sink.new) (take n buf.now)) }
     ensures few { CountsFew (W.device sink.old) (W.device sink.new) }
 {
-    match write_counted(sink, buf) {
-        Ok(()) => Ok(()),
-        Err(PartialFault { written: _ }) => Err(DeviceFailed),
+    if write_counted(sink, buf) < buf.len() {
+        return Err(DeviceFailed);
     }
+    Ok(())
 }
 
-/// The sink failed after it took `written` bytes.
-pub(crate) struct PartialFault {
-    pub written: usize,
-}
-
-/// Writes all of `buf`, and tells at an `Err` how much of it was written.
-pub(crate) fn write_counted<W: Sink>(sink: &mut W, buf: &[u8]) -> Result<(), PartialFault>
+/// Writes all of `buf`, or as much as the sink takes before it fails, and tells how much that is.
+pub(crate) fn write_counted<W: Sink>(sink: &mut W, buf: &[u8]) -> usize
     requires { CanCountCall (W.device sink.old) }
-    ensures all { OnOk result (Takes (W.device sink.old) (W.device sink.new) buf.now) }
-    ensures calm { OnOk result (IsCalm (W.device sink.old) (W.device sink.new)) }
-    ensures failed { OnErr result (HasFailed (W.device sink.old) (W.device sink.new)) }
-    ensures part { IfErr result (λ e. (e.written ≤ length buf.now)
-        × Takes (W.device sink.old) (W.device sink.new) (take e.written buf.now)) }
-    ensures moved { MatchResult result (λ _. (W.device sink.new).moved
-        ≡ (W.device sink.old).moved + length buf.now) (λ e. (W.device sink.new).moved ≡ (W.device
-        sink.old).moved + e.written) }
-    ensures short { MatchResult result (λ _. 0 < length buf.now → (W.device sink.new).moved < 2 ^ 64)
-        (λ e. 0 < e.written → (W.device sink.new).moved < 2 ^ 64) }
+    ensures within { result ≤ length buf.now }
+    ensures bytes { Takes (W.device sink.old) (W.device sink.new) (take result buf.now) }
+    ensures calm { result ≡ length buf.now → IsCalm (W.device sink.old) (W.device sink.new) }
+    ensures failed { result < length buf.now → HasFailed (W.device sink.old) (W.device sink.new) }
+    ensures moved { (W.device sink.new).moved ≡ (W.device sink.old).moved + result }
+    ensures short { 0 < result → (W.device sink.new).moved < 2 ^ 64 }
     ensures few { CountsFew (W.device sink.old) (W.device sink.new) }
 {
     let mut written = 0;
     while written < buf.len() {
         match write_some(sink, &buf[written..]) {
             Ok(n) => written += n,
-            Err(DeviceFailed) => return Err(PartialFault { written }),
+            Err(DeviceFailed) => return written,
         }
     }
-    Ok(())
+    written
 }

@@ -166,27 +166,23 @@ impl TestSink {
     pub fn new(bytes: Vec<u8>, behavior: Behavior) -> TestSink
         ensures { ⟦<TestSink as Sink>⟧.device result ≡ unused (Some bytes.items) }
     {
-        TestSink::with(bytes, behavior, false)
-    }
-
-    /// A sink that holds these bytes, with all counts 0. At the call that fails it accepts 0 bytes.
-    pub fn accepting_nothing(bytes: Vec<u8>, behavior: Behavior) -> TestSink
-        ensures { ⟦<TestSink as Sink>⟧.device result ≡ unused (Some bytes.items) }
-    {
-        TestSink::with(bytes, behavior, true)
-    }
-
-    fn with(bytes: Vec<u8>, behavior: Behavior, accepts_nothing: bool) -> TestSink
-        ensures { ⟦<TestSink as Sink>⟧.device result ≡ unused (Some bytes.items) }
-    {
         TestSink {
             begun: bytes.len(),
             bytes,
             failures: 0,
             interruptions: 0,
             script: Script::new(behavior),
-            accepts_nothing,
+            accepts_nothing: false,
         }
+    }
+
+    /// A sink that holds these bytes, with all counts 0. At the call that fails it accepts 0 bytes.
+    pub fn accepting_nothing(bytes: Vec<u8>, behavior: Behavior) -> TestSink
+        ensures { ⟦<TestSink as Sink>⟧.device result ≡ unused (Some bytes.items) }
+    {
+        let mut sink = TestSink::new(bytes, behavior);
+        sink.accepts_nothing = true;
+        sink
     }
 
     /// The bytes that it holds.

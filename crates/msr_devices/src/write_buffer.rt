@@ -5,7 +5,7 @@ ghost use Rattle.msr_devices.specs.WriteBuffer.{Passes};
 
 use crate::device::Sink;
 use crate::fault::DeviceFailed;
-use crate::loops::{PartialFault, write_counted};
+use crate::loops::write_counted;
 use std::alloc::Global;
 
 /// Fewer bytes than this wait after `flush_full` has ended well.
@@ -54,17 +54,13 @@ impl WriteBuffer {
         ensures failed { OnErr result (HasFailed (W.device sink.old) (W.device sink.new)) }
         ensures few { CountsFew (W.device sink.old) (W.device sink.new) }
     {
-        match write_counted(sink, self.bytes.as_slice()) {
-            Ok(()) => {
-                self.bytes.clear();
-                Ok(())
-            }
-            Err(PartialFault { written }) => {
-                let left = self.bytes.len() - written;
-                self.bytes.copy_within(written.., 0);
-                self.bytes.truncate(left);
-                Err(DeviceFailed)
-            }
+        let written = write_counted(sink, self.bytes.as_slice());
+        let left = self.bytes.len() - written;
+        self.bytes.copy_within(written.., 0);
+        self.bytes.truncate(left);
+        if left > 0 {
+            return Err(DeviceFailed);
         }
+        Ok(())
     }
 }

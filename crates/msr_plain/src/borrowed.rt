@@ -1,17 +1,17 @@
 //! The samples of an area of plain integers, one after the other, without memory.
 
-ghost use Rattle.std.specs.Prelude.{◌≡◌, ◌<◌, ◌*◌, ◌↔◌, ℤ, List, ⊤, IfSome, IsNone, length};
+ghost use Rattle.std.specs.Prelude.{◌≡◌, ◌<◌, ◌*◌, ◌↔◌, ℤ, List, IfSome, IsNone, length};
 ghost use Rattle.std.specs.Iterator.{YieldsFirst, item_count};
 ghost use Rattle.msr_kinds.specs.Storage.{size_of};
 ghost use Rattle.msr_plain.specs.Plain.{CarriesPlain};
 
 use crate::{Width, read_number};
 use msr_base::Order;
-use std::alloc::AllocError;
 use std::marker::Model;
 
 /// The samples of an area, read from its bytes one by one. Contracts see the list of those that are left.
-#[derive(Debug, Drop)]
+/// A clone takes no memory.
+#[derive(Clone, Debug, Drop)]
 pub struct PlainSamples<'a> {
     width: Width,
     order: Order,
@@ -46,22 +46,6 @@ impl<'a> Iterator for PlainSamples<'a> {
         self.bytes = &self.bytes[self.width.bytes()..];
         self.left -= 1;
         Some(sample)
-    }
-}
-
-/// A copy takes no memory.
-impl<'a> Clone for PlainSamples<'a> {
-    ghost is_clone = { λ samples copy. copy ≡ samples };
-
-    ghost is_infallible = { λ _. ⊤ };
-
-    fn clone(&self) -> Result<PlainSamples<'a>, AllocError> {
-        Ok(PlainSamples {
-            width: self.width,
-            order: self.order,
-            bytes: self.bytes,
-            left: self.left,
-        })
     }
 }
 

@@ -205,46 +205,6 @@ pub(crate) fn place_in_time(header: &Header, rate: Rate) -> Result<(Key, i64), F
     Ok((key_of(header, rate), start))
 }
 
-/// The record that the bytes begin with, with its samples in the memory of `spare`.
-fn decode(spare: SampleVec, rest: &[u8]) -> Result<Record, FaultKind>
-    ensures found { IfOk result (IsRecordOf rest.now) }
-    ensures refused { IfErr result (λ fault. fault ≢ FaultKind.Memory → IsRefused rest.now fault) }
-    ensures count { IfOk result (λ found. IfSome found.row (λ row. length row.samples ≤ 65_535)) }
-    ensures memory { IsErrOf result FaultKind.Memory → TakesMemory rest.now }
-    ensures first_bytes { header_of (take 1_048_576 rest.now) ≡ header_of rest.now }
-{
-    let opened = open_record(rest)?;
-    let header = opened.header;
-    let length = opened.length;
-    let Some((rate, kind)) = opened.fields else {
-        return Ok(Record {
-            length,
-            row: None,
-            reverse_agrees: true,
-        });
-    };
-    let area = area_of(&opened, rest);
-    let decoded = decode_area(
-        spare,
-        kind.storage(),
-        header.data_order,
-        area,
-        header.samples,
-    )?;
-    let (key, start) = place_in_time(&header, rate)?;
-    let row = Row {
-        key,
-        start,
-        kind,
-        samples: decoded.samples,
-    };
-    Ok(Record {
-        length,
-        row: Some(row),
-        reverse_agrees: decoded.reverse_agrees,
-    })
-}
-
 /// The record that the bytes begin with, or why it is refused, by `decode_record_in` with samples in memory of their own.
 pub fn decode_record(alloc: Global, rest: &[u8]) -> Result<Record, FaultKind>
     ensures found { IfOk result (IsRecordOf rest.now) }
@@ -276,5 +236,34 @@ pub fn decode_record_in(spare: SampleVec, rest: &[u8]) -> Result<Record, FaultKi
     ensures refused_in_first { IfErr result (λ fault. fault ≢ FaultKind.Memory
         → IsRefused (first_bytes rest.now) fault) }
 {
-    decode(spare, rest)
+    let opened = open_record(rest)?;
+    let header = opened.header;
+    let length = opened.length;
+    let Some((rate, kind)) = opened.fields else {
+        return Ok(Record {
+            length,
+            row: None,
+            reverse_agrees: true,
+        });
+    };
+    let area = area_of(&opened, rest);
+    let decoded = decode_area(
+        spare,
+        kind.storage(),
+        header.data_order,
+        area,
+        header.samples,
+    )?;
+    let (key, start) = place_in_time(&header, rate)?;
+    let row = Row {
+        key,
+        start,
+        kind,
+        samples: decoded.samples,
+    };
+    Ok(Record {
+        length,
+        row: Some(row),
+        reverse_agrees: decoded.reverse_agrees,
+    })
 }

@@ -1,21 +1,19 @@
 //! The samples of a data area, one after the other, read from its bytes.
-ghost use Rattle.std.specs.Prelude.{◌≡◌, ◌≤◌, ◌↔◌, ℤ, ⊤, [], length, IfOk, IfErr, IsTrue};
+ghost use Rattle.std.specs.Prelude.{◌≡◌, ◌≤◌, ◌↔◌, ℤ, [], length, IfOk, IfErr, IsTrue};
 ghost use Rattle.std.specs.Iterator.{item_count};
 ghost use Rattle.msr_steim.specs.Left.{GivesFirst};
-ghost use Rattle.msr_plain.specs.Plain.{CarriesPlain};
 ghost use Rattle.msr_steim.specs.Area.{CarriesSteim, ReverseAgrees as FramesAgree};
-ghost use Rattle.msr_rows.specs.Area.{Carries, AreaHasFault, IntegersHaveFault, FramesHaveFault, ReverseAgrees};
+ghost use Rattle.msr_rows.specs.Area.{Carries, AreaHasFault, FramesHaveFault, ReverseAgrees};
 
 use crate::fault::FaultKind;
 use msr_header::Order;
-use msr_kinds::{Storage, Version, Width};
+use msr_kinds::{Storage, Version};
 use msr_plain::{PlainSamples, plain_samples};
 use msr_steim::{SteimFault, SteimSamples, steim_samples};
-use std::alloc::AllocError;
 use std::marker::Model;
 
 /// The samples that are left, by how they are stored.
-#[derive(Debug, Drop)]
+#[derive(Clone, Debug, Drop)]
 enum Numbers<'a> {
     Plain(PlainSamples<'a>),
     Steim(SteimSamples<'a>),
@@ -23,8 +21,8 @@ enum Numbers<'a> {
 }
 
 /// The samples of a record, read from its bytes one by one. Contracts see those that are left, and whether
-/// the last of all is the reverse constant.
-#[derive(Debug, Drop)]
+/// the last of all is the reverse constant. A clone takes no memory.
+#[derive(Clone, Debug, Drop)]
 pub struct Samples<'a> {
     numbers: Numbers<'a>,
 }
@@ -48,18 +46,6 @@ impl<'a> Samples<'a> {
         Samples {
             numbers: Numbers::Empty,
         }
-    }
-
-    /// A copy, with the same samples left.
-    pub(crate) fn copy(&self) -> Samples<'a>
-        ensures { result ≡ self.now }
-    {
-        let numbers = match &self.numbers {
-            Numbers::Plain(samples) => Numbers::Plain(samples.clone().unwrap()),
-            Numbers::Steim(samples) => Numbers::Steim(samples.clone().unwrap()),
-            Numbers::Empty => Numbers::Empty,
-        };
-        Samples { numbers }
     }
 
     /// Whether the last sample is the reverse constant; true for integers, which have none.
@@ -86,37 +72,6 @@ impl<'a> Iterator for Samples<'a> {
             Numbers::Steim(samples) => samples.next(),
             Numbers::Empty => None,
         }
-    }
-}
-
-/// A copy takes no memory.
-impl<'a> Clone for Samples<'a> {
-    ghost is_clone = { λ samples copy. copy ≡ samples };
-
-    ghost is_infallible = { λ _. ⊤ };
-
-    fn clone(&self) -> Result<Samples<'a>, AllocError> {
-        Ok(self.copy())
-    }
-}
-
-/// The samples of an area of integers.
-fn view_integers<'a>(
-    width: Width,
-    order: Order,
-    area: &'a [u8],
-    count: u16,
-) -> Result<Samples<'a>, FaultKind>
-    ensures samples { IfOk result (λ s. CarriesPlain width order area.now s.samples) }
-    ensures count { IfOk result (λ s. length s.samples ≡ count) }
-    ensures reverse { IfOk result (λ s. IsTrue s.agrees) }
-    ensures fault { IfErr result (IntegersHaveFault width area.now count) }
-{
-    match plain_samples(width, order, area, count) {
-        Some(samples) => Ok(Samples {
-            numbers: Numbers::Plain(samples),
-        }),
-        None => Err(FaultKind::DataShort),
     }
 }
 
@@ -160,7 +115,12 @@ pub(crate) fn view_area<'a>(
     ensures fault { IfErr result (AreaHasFault storage order area.now count) }
 {
     match storage {
-        Storage::Integers(width) => view_integers(width, order, area, count),
+        Storage::Integers(width) => match plain_samples(width, order, area, count) {
+            Some(samples) => Ok(Samples {
+                numbers: Numbers::Plain(samples),
+            }),
+            None => Err(FaultKind::DataShort),
+        },
         Storage::Frames(version) => view_frames(version, order, area, count),
     }
 }

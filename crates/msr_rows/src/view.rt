@@ -1,5 +1,5 @@
 //! A record that is read where it stands.
-ghost use Rattle.std.specs.Prelude.{◌≡◌, Ok, IfOk, IfErr, IsErrOf, take};
+ghost use Rattle.std.specs.Prelude.{◌≡◌, Ok, IfOk, IfErr, IsErrOf};
 ghost use Rattle.msr_header.specs.Reading.{header_of};
 ghost use Rattle.msr_rows.specs.Records.{first_bytes, IsRecordOf, IsRefused};
 ghost use Rattle.msr_rows.specs.Views.{place_of, samples_of, viewed_area};
@@ -82,7 +82,7 @@ impl<'a> RecordView<'a> {
         ensures agrees { result.agrees ≡ self.now.found.reverse_agrees }
     {
         match &self.row {
-            Some(row) => row.samples.copy(),
+            Some(row) => row.samples.clone().unwrap(),
             None => Samples::none(),
         }
     }
@@ -99,13 +99,18 @@ impl<'a> RecordView<'a> {
     }
 }
 
-/// The record that the bytes begin with, read where it stands.
-fn view<'a>(rest: &'a [u8]) -> Result<RecordView<'a>, FaultKind>
+/// The record that the bytes begin with, read where it stands, or why it is refused: as `decode_record`
+/// says, and with no memory.
+pub fn view_record<'a>(rest: &'a [u8]) -> Result<RecordView<'a>, FaultKind>
     ensures found { IfOk result (λ view. IsRecordOf rest.now view.found) }
     ensures header { IfOk result (λ view. header_of rest.now ≡ Ok view.header) }
     ensures area { IfOk result (λ view. view.area ≡ viewed_area view.header rest.now) }
     ensures refused { IfErr result (IsRefused rest.now) }
-    ensures first_bytes { header_of (take 1_048_576 rest.now) ≡ header_of rest.now }
+    ensures never_memory { IsErrOf result FaultKind.Memory → ⊥ }
+
+    // The first bytes decide.
+    ensures found_in_first { IfOk result (λ view. IsRecordOf (first_bytes rest.now) view.found) }
+    ensures refused_in_first { IfErr result (IsRefused (first_bytes rest.now)) }
 {
     let opened = open_record(rest)?;
     let header = opened.header;
@@ -132,20 +137,4 @@ fn view<'a>(rest: &'a [u8]) -> Result<RecordView<'a>, FaultKind>
         length,
         row: Some(row),
     })
-}
-
-/// The record that the bytes begin with, read where it stands, or why it is refused: as `decode_record`
-/// says, and with no memory.
-pub fn view_record<'a>(rest: &'a [u8]) -> Result<RecordView<'a>, FaultKind>
-    ensures found { IfOk result (λ view. IsRecordOf rest.now view.found) }
-    ensures header { IfOk result (λ view. header_of rest.now ≡ Ok view.header) }
-    ensures area { IfOk result (λ view. view.area ≡ viewed_area view.header rest.now) }
-    ensures refused { IfErr result (IsRefused rest.now) }
-    ensures never_memory { IsErrOf result FaultKind.Memory → ⊥ }
-
-    // The first bytes decide.
-    ensures found_in_first { IfOk result (λ view. IsRecordOf (first_bytes rest.now) view.found) }
-    ensures refused_in_first { IfErr result (IsRefused (first_bytes rest.now)) }
-{
-    view(rest)
 }

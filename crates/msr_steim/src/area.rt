@@ -162,6 +162,24 @@ pub(crate) fn reading_for(version: Version, order: Order, area: &[u8]) -> Readin
     }
 }
 
+/// Calls a function of `MIXED` and `FOURS` as the area is to be read, with literals for version and order.
+macro_rules! by_reading {
+    ($words:ident, $version:expr, $order:expr, $area:expr, $out:expr) => {
+        match (reading_for($version, $order, $area), $version, $order) {
+            (Reading::ByFours, Version::One, _) => $words::<true, true>(Version::One, Order::Big, $area, $out),
+            (Reading::ByFours, Version::Two, _) => $words::<true, true>(Version::Two, Order::Big, $area, $out),
+            (Reading::ByLanes, Version::One, _) => $words::<true, false>(Version::One, Order::Big, $area, $out),
+            (Reading::ByLanes, Version::Two, _) => $words::<true, false>(Version::Two, Order::Big, $area, $out),
+            (Reading::ByJumps, Version::One, Order::Big) => $words::<false, false>(Version::One, Order::Big, $area, $out),
+            (Reading::ByJumps, Version::One, Order::Little) => $words::<false, false>(Version::One, Order::Little, $area, $out),
+            (Reading::ByJumps, Version::Two, Order::Big) => $words::<false, false>(Version::Two, Order::Big, $area, $out),
+            (Reading::ByJumps, Version::Two, Order::Little) => $words::<false, false>(Version::Two, Order::Little, $area, $out),
+        }
+    };
+}
+
+pub(crate) use by_reading;
+
 /// Reads word after word until `out` is full. `MIXED` is as of `write_next_word`, and `FOURS` takes four words of code 1 at
 /// once. Inlined with literals for version and order, each word is read without a test of them.
 #[inline(always)]
@@ -236,56 +254,7 @@ pub fn decode_steim_into(
         → IsUndefinedBefore version order area.now (length out.old) number }
     ensures never_memory { IsErrOf result SteimFault.Memory → ⊥ }
 {
-    match (reading_for(version, order, area), version, order) {
-        (Reading::ByFours, Version::One, _) => decode_words::<true, true>(
-            Version::One,
-            Order::Big,
-            area,
-            out,
-        ),
-        (Reading::ByFours, Version::Two, _) => decode_words::<true, true>(
-            Version::Two,
-            Order::Big,
-            area,
-            out,
-        ),
-        (Reading::ByLanes, Version::One, _) => decode_words::<true, false>(
-            Version::One,
-            Order::Big,
-            area,
-            out,
-        ),
-        (Reading::ByLanes, Version::Two, _) => decode_words::<true, false>(
-            Version::Two,
-            Order::Big,
-            area,
-            out,
-        ),
-        (Reading::ByJumps, Version::One, Order::Big) => decode_words::<false, false>(
-            Version::One,
-            Order::Big,
-            area,
-            out,
-        ),
-        (Reading::ByJumps, Version::One, Order::Little) => decode_words::<false, false>(
-            Version::One,
-            Order::Little,
-            area,
-            out,
-        ),
-        (Reading::ByJumps, Version::Two, Order::Big) => decode_words::<false, false>(
-            Version::Two,
-            Order::Big,
-            area,
-            out,
-        ),
-        (Reading::ByJumps, Version::Two, Order::Little) => decode_words::<false, false>(
-            Version::Two,
-            Order::Little,
-            area,
-            out,
-        ),
-    }
+    by_reading!(decode_words, version, order, area, out)
 }
 
 /// The first `count` samples that the area carries, by `decode_steim_in` in memory of their own.

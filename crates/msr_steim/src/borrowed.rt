@@ -1,6 +1,6 @@
 //! The samples of a data area of Steim frames, one after the other, without memory.
 
-ghost use Rattle.std.specs.Prelude.{◌≡◌, ◌<◌, ◌≤◌, ◌↔◌, ◌++◌, ◌-◌, ◌*◌, ◌/◌, ◌%◌, ◌^◌, ℕ, ℤ, List, ⊤, IfOk, IfSome, IsErrOf, IsNone, IsTrue, [], length};
+ghost use Rattle.std.specs.Prelude.{◌≡◌, ◌<◌, ◌≤◌, ◌↔◌, ◌++◌, ◌-◌, ◌*◌, ◌/◌, ◌%◌, ◌^◌, ℕ, ℤ, List, IfOk, IfSome, IsErrOf, IsNone, IsTrue, [], length};
 ghost use Rattle.std.specs.Iterator.{YieldsFirst, item_count};
 ghost use Rattle.msr_steim.specs.Area.{CarriesSteim, EndsBefore, IsUndefined, IsUndefinedBefore, ReverseAgrees, code_of, word_count};
 ghost use Rattle.msr_steim.specs.InOrder.{BeginsAfter, HasFields, differences_from};
@@ -12,7 +12,6 @@ use crate::carried::check_area;
 use crate::word::{difference_at, layout_for};
 use msr_base::Order;
 use msr_kinds::Version;
-use std::alloc::AllocError;
 use std::marker::Model;
 
 /// The fields of `word` that are left: `count` fields of `width` bits each, in its lowest bits.
@@ -24,7 +23,7 @@ struct Fields {
 }
 
 /// The differences of an area, word after word. Contracts see the list of those that are left.
-#[derive(Debug, Drop)]
+#[derive(Clone, Debug, Drop)]
 struct Differences<'a> {
     version: Version,
     order: Order,
@@ -52,8 +51,8 @@ impl<'a> Model for Differences<'a> {
 }
 
 /// The samples of an area, read from its words one by one. Contracts see those that are left, and whether
-/// the last of all is the reverse constant.
-#[derive(Debug, Drop)]
+/// the last of all is the reverse constant. A clone takes no memory.
+#[derive(Clone, Debug, Drop)]
 pub struct SteimSamples<'a> {
     differences: Differences<'a>,
     /// The sample before, to which the next difference is added.
@@ -152,20 +151,6 @@ pub(crate) fn before_first(version: Version, order: Order, area: &[u8]) -> i32
     }
 }
 
-impl<'a> Differences<'a> {
-    fn copy(&self) -> Differences<'a>
-        ensures { result ≡ self.now }
-    {
-        Differences {
-            version: self.version,
-            order: self.order,
-            area: self.area,
-            number: self.number,
-            fields: self.fields,
-        }
-    }
-}
-
 impl<'a> Iterator for Differences<'a> {
     type Item = i32;
 
@@ -203,33 +188,11 @@ impl<'a> Iterator for SteimSamples<'a> {
 }
 
 impl<'a> SteimSamples<'a> {
-    fn copy(&self) -> SteimSamples<'a>
-        ensures { result ≡ self.now }
-    {
-        SteimSamples {
-            differences: self.differences.copy(),
-            last: self.last,
-            left: self.left,
-            agrees: self.agrees,
-        }
-    }
-
     /// Whether the last sample of the area is the reverse constant.
     pub fn reverse_agrees(&self) -> bool
         ensures { result ≡ self.now.agrees }
     {
         self.agrees
-    }
-}
-
-/// A copy takes no memory.
-impl<'a> Clone for SteimSamples<'a> {
-    ghost is_clone = { λ samples copy. copy ≡ samples };
-
-    ghost is_infallible = { λ _. ⊤ };
-
-    fn clone(&self) -> Result<SteimSamples<'a>, AllocError> {
-        Ok(self.copy())
     }
 }
 

@@ -6,8 +6,8 @@ ghost use Rattle.msr_steim.specs.Area.{EndsBefore, IsUndefinedBefore};
 ghost use Rattle.msr_steim.specs.InOrder.{HasSamples};
 
 use crate::area::{
-    Reading, SteimFault, arranged_word_at, constant_at, first_slot, is_last, reading_for,
-    whole_word_at,
+    Reading, SteimFault, arranged_word_at, by_reading, constant_at, first_slot, is_last,
+    reading_for, whole_word_at,
 };
 use crate::borrowed::before_first;
 use crate::fours::write_sixteen;
@@ -88,54 +88,5 @@ pub(crate) fn check_area(
         → IsUndefinedBefore version order area.now count number }
     ensures never_memory { IsErrOf result SteimFault.Memory → ⊥ }
 {
-    match (reading_for(version, order, area), version, order) {
-        (Reading::ByFours, Version::One, _) => check_words::<true, true>(
-            Version::One,
-            Order::Big,
-            area,
-            count,
-        ),
-        (Reading::ByFours, Version::Two, _) => check_words::<true, true>(
-            Version::Two,
-            Order::Big,
-            area,
-            count,
-        ),
-        (Reading::ByLanes, Version::One, _) => check_words::<true, false>(
-            Version::One,
-            Order::Big,
-            area,
-            count,
-        ),
-        (Reading::ByLanes, Version::Two, _) => check_words::<true, false>(
-            Version::Two,
-            Order::Big,
-            area,
-            count,
-        ),
-        (Reading::ByJumps, Version::One, Order::Big) => check_words::<false, false>(
-            Version::One,
-            Order::Big,
-            area,
-            count,
-        ),
-        (Reading::ByJumps, Version::One, Order::Little) => check_words::<false, false>(
-            Version::One,
-            Order::Little,
-            area,
-            count,
-        ),
-        (Reading::ByJumps, Version::Two, Order::Big) => check_words::<false, false>(
-            Version::Two,
-            Order::Big,
-            area,
-            count,
-        ),
-        (Reading::ByJumps, Version::Two, Order::Little) => check_words::<false, false>(
-            Version::Two,
-            Order::Little,
-            area,
-            count,
-        ),
-    }
+    by_reading!(check_words, version, order, area, count)
 }

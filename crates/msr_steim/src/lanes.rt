@@ -13,24 +13,21 @@ ghost use Rattle.msr_kinds.specs.declared.storage.Version.TheVariants.{Two};
 use crate::sums::Progress;
 use std::simd::prelude::*;
 
+// As of `BYTES`, of a word of code 1, whose top two bits are of its first field.
+const FOUR: [u8; 16] = [
+    2, 3, 2, 3, 1, 2, 0, 1, 128, 128, 128, 128, 128, 128, 128, 128,
+];
+
 // The two bytes of the word, counted from the lowest, in which the field of a lane lies. 128 gives a byte of 0.
 static BYTES: [[u8; 16]; 16] = [
     [128; 16],
     [128; 16],
     [128; 16],
     [128; 16],
-    [
-        2, 3, 2, 3, 1, 2, 0, 1, 128, 128, 128, 128, 128, 128, 128, 128,
-    ],
-    [
-        2, 3, 2, 3, 1, 2, 0, 1, 128, 128, 128, 128, 128, 128, 128, 128,
-    ],
-    [
-        2, 3, 2, 3, 1, 2, 0, 1, 128, 128, 128, 128, 128, 128, 128, 128,
-    ],
-    [
-        2, 3, 2, 3, 1, 2, 0, 1, 128, 128, 128, 128, 128, 128, 128, 128,
-    ],
+    FOUR,
+    FOUR,
+    FOUR,
+    FOUR,
     [128; 16],
     [128; 16],
     [128; 16],

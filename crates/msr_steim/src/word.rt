@@ -43,34 +43,20 @@ pub struct BadCode;
 pub(crate) fn layout_for(version: Version, code: u8, top: u32) -> Option<WordLayout>
     ensures { result ≡ layout_of version code top }
 {
-    match (version, code, top) {
-        (_, 0, _) => Some(WordLayout { count: 0, width: 0 }),
-        (_, 1, _) => Some(WordLayout { count: 4, width: 8 }),
-        (Version::One, 2, _) => Some(WordLayout {
-            count: 2,
-            width: 16,
-        }),
-        (Version::One, 3, _) => Some(WordLayout {
-            count: 1,
-            width: 32,
-        }),
-        (Version::Two, 2, 1) => Some(WordLayout {
-            count: 1,
-            width: 30,
-        }),
-        (Version::Two, 2, 2) => Some(WordLayout {
-            count: 2,
-            width: 15,
-        }),
-        (Version::Two, 2, 3) => Some(WordLayout {
-            count: 3,
-            width: 10,
-        }),
-        (Version::Two, 3, 0) => Some(WordLayout { count: 5, width: 6 }),
-        (Version::Two, 3, 1) => Some(WordLayout { count: 6, width: 5 }),
-        (Version::Two, 3, 2) => Some(WordLayout { count: 7, width: 4 }),
-        _ => None,
-    }
+    let (count, width) = match (version, code, top) {
+        (_, 0, _) => (0, 0),
+        (_, 1, _) => (4, 8),
+        (Version::One, 2, _) => (2, 16),
+        (Version::One, 3, _) => (1, 32),
+        (Version::Two, 2, 1) => (1, 30),
+        (Version::Two, 2, 2) => (2, 15),
+        (Version::Two, 2, 3) => (3, 10),
+        (Version::Two, 3, 0) => (5, 6),
+        (Version::Two, 3, 1) => (6, 5),
+        (Version::Two, 3, 2) => (7, 4),
+        _ => return None,
+    };
+    Some(WordLayout { count, width })
 }
 
 /// The number in the field of `width` bits with `below` fields below it: the field is shifted up to the

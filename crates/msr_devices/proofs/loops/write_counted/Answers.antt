@@ -2,12 +2,9 @@ use Rattle.std.proofs.Common.{◌-◌, length, drop, arith, length-take, length-
 use Rattle.msr_devices.proofs.Chaining.{takes_append, calm_moves, take_more}
 use Rattle.msr_devices.proofs.loops.write_counted.Goals as goal
 
-pub returns-in-Err-clause-part : goal.returns-in-Err-clause-part
-returns-in-Err-clause-part g c = (
-  c.loop-written.invariant.within,
-  rw append-nil at
-      (takes_append _ _ _ _ _ c.loop-written.invariant.bytes c.in-Err.ensures.none),
-)
+pub returns-in-Err-clause-bytes : goal.returns-in-Err-clause-bytes
+returns-in-Err-clause-bytes g c =
+    rw append-nil at (takes_append _ _ _ _ _ c.loop-written.invariant.bytes c.in-Err.ensures.none)
 
 pub loop-written-preserved : goal.loop-written-preserved
 loop-written-preserved g c = record {

@@ -1,18 +1,48 @@
--- The first bytes decide.
-use Rattle.std.proofs.lemmas.Result.{IfErr-weaker, IfOk-weaker}
-use Rattle.msr_rows.specs.Records.{IsRecordOf, IsRefused, first_bytes}
+-- A row that is not in time, and that the first bytes decide.
+use Rattle.std.proofs.Common.{rules}
+use Rattle.std.proofs.lemmas.Result.{IfErr-weaker, err_from_is_err_and}
+use Rattle.msr_rows.specs.Records.{IsRefused, first_bytes}
 use Rattle.msr_rows.proofs.FirstBytes.{first_same, record_same, refused_same}
+use Rattle.msr_rows.proofs.RowLemmas.{out_of_range}
 use Rattle.msr_rows.proofs.view.view_record.Goals as goal
+
+pub returns-in_err-opened-clause-refused_in_first : goal.returns-in_err-opened-clause-refused_in_first
+returns-in_err-opened-clause-refused_in_first c =
+    let bytes = c.args.rest.now in
+    IfErr-weaker c.from_residual.result (IsRefused bytes) (IsRefused (first_bytes bytes))
+    (λ fault p. refused_same bytes (first_bytes bytes) fault (first_same bytes c.open_record.ensures.first_bytes) p)
+    (search rules)
+
+pub returns-in_default-clause-found_in_first : goal.returns-in_default-clause-found_in_first
+returns-in_default-clause-found_in_first c =
+    let bytes = c.args.rest.now in
+    record_same bytes (first_bytes bytes) _ (first_same bytes c.open_record.ensures.first_bytes) (search rules)
+
+pub returns-in_err-samples-clause-refused_in_first : goal.returns-in_err-samples-clause-refused_in_first
+returns-in_err-samples-clause-refused_in_first c =
+    let bytes = c.args.rest.now in
+    IfErr-weaker c.from_residual-in_err-samples.result (IsRefused bytes) (IsRefused (first_bytes bytes))
+    (λ fault p. refused_same bytes (first_bytes bytes) fault (first_same bytes c.open_record.ensures.first_bytes) p)
+    (search rules)
+
+pub returns-in_err-key-clause-refused : goal.returns-in_err-key-clause-refused
+returns-in_err-key-clause-refused c =
+    let opened = c.in_ok-opened.opened in
+    let fields = rw c.in-Some.is at c.in_ok-opened.ensures.opened.fields_are in
+    let carried = rw (c.area_of-area.ensures.area, c.storage.ensures) at c.in_ok-samples.ensures.samples in
+    let p = err_from_is_err_and c.from_residual-in_err-key.result c.from_residual-in_err-key.ensures.1 in
+    rw (p.1, p.2, c.in_err-key.ensures.fault)
+    (out_of_range c.args.rest.now opened.header c.in-Some.kind c.in_ok-samples.samples.samples fields.has_area
+    c.in_ok-samples.ensures.count carried c.in_err-key.ensures.out)
+
+pub returns-in_err-key-clause-refused_in_first : goal.returns-in_err-key-clause-refused_in_first
+returns-in_err-key-clause-refused_in_first c =
+    let bytes = c.args.rest.now in
+    IfErr-weaker c.from_residual-in_err-key.result (IsRefused bytes) (IsRefused (first_bytes bytes))
+    (λ fault p. refused_same bytes (first_bytes bytes) fault (first_same bytes c.open_record.ensures.first_bytes) p)
+    (returns-in_err-key-clause-refused c)
 
 pub returns-clause-found_in_first : goal.returns-clause-found_in_first
 returns-clause-found_in_first c =
-    let same = first_same c.args.rest.now c.view.ensures.first_bytes in
-    IfOk-weaker c.view.result (λ view. IsRecordOf c.args.rest.now view.found)
-    (λ view. IsRecordOf (first_bytes c.args.rest.now) view.found)
-    (λ view p. record_same c.args.rest.now (first_bytes c.args.rest.now) view.found same p) c.view.ensures.found
-
-pub returns-clause-refused_in_first : goal.returns-clause-refused_in_first
-returns-clause-refused_in_first c =
-    let same = first_same c.args.rest.now c.view.ensures.first_bytes in
-    IfErr-weaker c.view.result (IsRefused c.args.rest.now) (IsRefused (first_bytes c.args.rest.now))
-    (λ fault p. refused_same c.args.rest.now (first_bytes c.args.rest.now) fault same p) c.view.ensures.refused
+    let bytes = c.args.rest.now in
+    record_same bytes (first_bytes bytes) _ (first_same bytes c.open_record.ensures.first_bytes) (search rules)
