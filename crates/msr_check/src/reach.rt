@@ -43,7 +43,7 @@ fn steim2_from(samples: &[i32], record_length: Length, start: usize) -> Reach
     requires { start ≤ length samples.now }
     ensures { IsReached (bytes_of record_length) samples.now result }
 {
-    let to = steim2_reach(samples, record_length, start, &mut []);
+    let to = steim2_reach(samples, record_length, start);
     Reach {
         kind: Kind::Steim2,
         start,

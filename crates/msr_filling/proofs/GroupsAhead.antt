@@ -2,13 +2,12 @@
 use Rattle.std.proofs.Common.{◌≡◌, ℕ, ◌+◌, ◌-◌, ◌<◌, ◌≤◌, ◌≢◌, ℤ, List, length, map, take, drop, get_or, None, arith, sym, ap, ◌∙◌, subst, inl, inr}
 use Rattle.std.specs.Prelude.{set, slice_set, slice_index, sum}
 use Rattle.std.proofs.lemmas.Bool.{cases_lt}
-use Rattle.std.proofs.lemmas.List.{drop-drop, drop-map, drop-take, get_or-set_other, get_or-set_same, get_or-take, length-take-le, take-map, take-set-le, take-take}
+use Rattle.std.proofs.lemmas.List.{drop-drop, drop-take, get_or-set_other, get_or-set_same, get_or-take, length-take-le, take-set-le, take-take}
 use Rattle.std.proofs.lemmas.List.Sums.{sum_by_more_le}
 use Rattle.msr_kinds.specs.declared.storage.Version.TheVariants.{Two}
 use Rattle.msr_steim.specs.Word.{group_word}
-use Rattle.msr_words.specs.Segment.{differences, points, run_points}
-use Rattle.msr_words.proofs.Steim2Runs.{run_points_seen}
-use Rattle.msr_words.proofs.Steim2Sizes.{AreTold}
+use Rattle.msr_words.specs.Segment.{differences, run_points}
+use Rattle.msr_filling.proofs.SizesAhead.{AreTold, differences_of_run}
 use Rattle.msr_filling.specs.GroupWords.{AreGroupWords}
 
 -- the first `number` places have the words of the groups of these sizes
@@ -88,14 +87,6 @@ words_written ds reach number sizes words room room' told written =
           ∙ take-take (get_or sizes n 0) (reach - s) (drop s ds) (omega arith) in
           rw (before, here, here', group) (written.each n (omega arith));
     }
-
--- the differences of a run, of the first samples alone
-differences_of_run : (samples : List ℤ) (a b latest : ℕ) → a ≤ b → b ≤ latest → latest ≤ length samples
-    → map (λ p. p.1) (run_points samples a b) ≡ take (b - a) (drop a (differences None (take latest samples)))
-differences_of_run samples a b latest order within inside =
-    ap (map (λ (p : ℤ × ℤ). p.1)) (run_points_seen samples a b latest order within inside)
-    ∙ sym (take-map (λ (p : ℤ × ℤ). p.1) (b - a) (drop a (points None (take latest samples))))
-    ∙ ap (take (b - a)) (sym (drop-map (λ (p : ℤ × ℤ). p.1) a (points None (take latest samples))))
 
 -- what a walk over the first samples wrote are the words of the groups of the run to where it ended
 pub walked_words : (samples : List ℤ) (start at latest number : ℕ) (sizes words : List ℕ) → start ≤ at → at ≤ latest

@@ -3,7 +3,7 @@ use Rattle.std.proofs.Common.{◌≡◌, ◌<◌, ◌≤◌, min, ℕ, ◌+◌, 
 use Rattle.std.specs.Int.{cast_unsigned}
 use Rattle.std.proofs.lemmas.Bool.{cases_lt}
 use Rattle.std.proofs.lemmas.List.{length-drop, length-take-le, take_all}
-use Rattle.std.proofs.lemmas.List.Sums.{sum_by_more, sum_by-take-le}
+use Rattle.std.proofs.lemmas.List.Sums.{sum_by-take-le}
 use Rattle.byteorder.specs.Endian.{big_bytes}
 use Rattle.msr_kinds.specs.declared.storage.Version.{Version}
 use Rattle.msr_kinds.specs.declared.storage.Version.TheVariants.{Two}
@@ -42,9 +42,6 @@ pub record IsGroupThere (before : Option ℤ) (run : List ℤ) (at size : ℕ) :
   pub group : IsGroup Two (take size (drop at (differences before run)))
   pub longest : IsLongestGroup (drop at (differences before run)) size
 
-pub after_none : (sizes : List ℕ) → IsAfterGroups sizes 0 0
-after_none sizes = record { few = omega arith; at_is = refl }
-
 module _ (before : Option ℤ) (run : List ℤ) (sizes : List ℕ) (number at : ℕ)
     (are : AreGroupSizes (differences before run) sizes) (is : IsAfterGroups sizes number at) where
   after_within : at ≤ length run
@@ -75,12 +72,6 @@ module _ (before : Option ℤ) (run : List ℤ) (sizes : List ℕ) (number at : 
         group = group;
         longest = here;
       }
-
-  pub after_more : number < length sizes → (size : ℕ) → size ≡ get_or sizes number 0
-      → IsAfterGroups sizes (number + 1) (at + size)
-  after_more less size size_is =
-      let more = sum_by_more (λ x. x) sizes number 0 less in
-      record { few = omega arith; at_is = omega (arith, is.at_is) }
 
   -- after all of them no difference is left
   pub after_all : number ≡ length sizes → length (drop at (differences before run)) ≡ 0

@@ -6,5 +6,6 @@ pub mod GroupsAhead
 pub mod GroupsFilled
 pub mod NextGroups
 pub mod Offsets
+pub mod SizesAhead
 pub mod Steim1Next
 pub mod ToldFilled

@@ -24,10 +24,10 @@ pub(crate) struct SteimWord {
 
 /// How a group of a given number of differences is written.
 #[derive(Clone, Copy, Debug)]
-pub(crate) struct Steim2Form {
-    pub code: u32,
-    pub top: u32,
-    pub width: u32,
+struct Steim2Form {
+    code: u32,
+    top: u32,
+    width: u32,
 }
 
 /// The field of `width` bits that a difference of that many bits is in two's complement.
@@ -66,7 +66,7 @@ pub(crate) fn fields_from(
 }
 
 /// Gives the form of a group of `size` differences.
-pub(crate) fn form_of(size: usize) -> Steim2Form
+fn form_of(size: usize) -> Steim2Form
     requires some { 1 ≤ size }
     requires most { size ≤ 7 }
     ensures width { group_width Two size ≡ Some result.width }

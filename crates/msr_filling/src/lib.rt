@@ -3,13 +3,11 @@
 
 mod filling;
 mod frames;
-mod groups_filling;
 mod steim1_filling;
 mod told_filling;
 mod words_ahead;
 
 pub use filling::fill_steim2;
-pub use groups_filling::fill_steim2_groups;
 pub use steim1_filling::fill_steim1;
 pub use told_filling::fill_steim2_told;
 pub use words_ahead::steim2_words;

@@ -3,7 +3,7 @@
 ghost use Rattle.std.specs.Prelude.{◌≡◌, ◌<◌, ◌≤◌, ◌+◌, ◌-◌, ◌*◌, ◌/◌, ◌%◌, ℤ, List, Option, IfOk, IfSome, IsNone, Some, length, drop, take};
 ghost use Rattle.std.specs.List.{AllByRecursion};
 ghost use Rattle.msr_kinds.specs.declared.storage.Version.TheVariants.{One};
-ghost use Rattle.msr_steim.specs.Word.{FitsBits, IsGroup, group_code, group_width, group_word, padding_of};
+ghost use Rattle.msr_steim.specs.Word.{FitsBits, IsGroup, group_code, group_width, group_word, joined_fields, padding_of};
 ghost use Rattle.msr_words.specs.Bounds.{BeginsWithFour};
 ghost use Rattle.msr_words.specs.Division.{CanDivide};
 ghost use Rattle.msr_filling.specs.Filled.{IsFilledArea};
@@ -14,7 +14,6 @@ ghost use Rattle.msr_words.specs.Window.{IsWindow, Shows};
 
 use crate::filling::{SteimWord, fields_from, fields_seen};
 use crate::frames::{Sizing, fill_frames};
-use crate::groups_filling::fields_at;
 use msr_words::{Window, difference_after, magnitude, size_after, sizes_of};
 use std::alloc::{AllocError, Global};
 
@@ -282,6 +281,29 @@ fn first_group_inside(run: &[i32], at: usize) -> Option<usize>
     } else {
         Some(2)
     }
+}
+
+/// Gives the fields of `size` differences of the run, from `at` on, side by side, in the way of `fields_seen`.
+#[inline(always)]
+fn fields_at(run: &[i32], at: usize, size: usize, width: u32) -> u32
+    requires positive { 0 < width }
+    requires within { size * width ≤ 32 }
+    requires later { 0 < at }
+    requires room { at + size ≤ length run.now }
+    ensures same { (before : Option ℤ)
+        → AllByRecursion (FitsBits width) (take size (drop at (differences before run.now)))
+        → result ≡ joined_fields width (take size (drop at (differences before run.now))) }
+{
+    let mut fields: u64 = 0;
+    let mut halves: u64 = 0;
+    for next in 0..size {
+        let before = run[at + next - 1];
+        let sample = run[at + next];
+        let difference = i64::from(sample.wrapping_sub(before));
+        fields = (fields << width).wrapping_add(difference.cast_unsigned());
+        halves = (halves << width) | (1 << (width - 1));
+    }
+    ((fields.wrapping_add(halves) ^ halves) & u64::from(u32::MAX)) as u32
 }
 
 /// The word of this group, of this form, of the differences from `at` on.

@@ -82,10 +82,5 @@ pub fn steim2_words(
     if sizes.len() >= number && words.len() >= number {
         return walk_with_words(samples, record_length, start, sizes, words);
     }
-    let reach = steim2_reach(samples, record_length, start, &mut []);
-    Steim2Reach {
-        end: reach.end,
-        groups: 0,
-        narrow: reach.narrow,
-    }
+    steim2_reach(samples, record_length, start)
 }

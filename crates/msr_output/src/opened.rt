@@ -20,7 +20,7 @@ ghost use Rattle.msr_output.specs.Writing.{AppendsRecordOfRun};
 
 use msr_kinds::Form;
 use msr_packer::{BlockPacker, Piece};
-use msr_record::{Key, WrittenRun, encode_words};
+use msr_record::{Key, WrittenRun, encode_run};
 use msr_report::SegmentLine;
 use msr_words::Run;
 use std::alloc::{AllocError, Global};
@@ -156,14 +156,9 @@ impl OpenSegment {
             samples: self.packer.run_samples(),
             kind: run.kind,
             group_sizes: self.packer.group_sizes(),
+            group_words: self.packer.group_words(),
         };
-        encode_words(
-            alloc,
-            &written,
-            self.packer.group_words(),
-            self.form.length,
-            out,
-        )
+        encode_run(alloc, &written, self.form.length, out)
     }
 
     /// Appends the record of the next run, if there is one, and says whether there was.

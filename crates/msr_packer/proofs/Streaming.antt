@@ -1,23 +1,20 @@
 -- What a packer of a stream knows after each piece and each sample.
-use Rattle.std.proofs.Common.{◌≡◌, ℕ, zero, suc, ◌+◌, ◌-◌, ◌<◌, ◌≤◌, ◌⊎◌, ℤ, List, [], ◌∷◌, ◌++◌, length, drop, take, Option, Some, None, sym, ap, ◌∙◌, subst, arith, inl, inr, length-append, length-drop, length-take}
+use Rattle.std.proofs.Common.{◌≡◌, ℕ, ◌+◌, ◌-◌, ◌<◌, ◌≤◌, ◌⊎◌, ℤ, List, [], ◌++◌, length, drop, Option, Some, None, ap, ◌∙◌, arith, inl, inr, length-drop}
 use Rattle.std.proofs.lemmas.Bool.{cases_lt}
-use Rattle.std.proofs.lemmas.List.{take-append-drop, take-take}
-use Rattle.msr_words.specs.Fit.{Records, Fits, FitsIn, FitsAny, IsRun}
+use Rattle.msr_words.specs.Fit.{Records, FitsAny, IsRun}
 use Rattle.msr_kinds.specs.Kinds.{IsChosen}
 use Rattle.msr_words.specs.Segment.{run_points}
 use Rattle.msr_words.specs.Laws.{most_any}
-use Rattle.msr_words.specs.Lemmas.KindLaws.{back_step_any, empty_any, empty_kind}
+use Rattle.msr_words.specs.Lemmas.KindLaws.{back_step_any, empty_kind}
 use Rattle.msr_words.specs.Packing.{IsStep}
 use Rattle.msr_words.proofs.Runs.{run_points_none, run_points_stay}
-use Rattle.msr_packer.specs.Growing.{Follows, IsDecided, IsGrowing, IsTracked, kind_of_tracker}
+use Rattle.msr_packer.specs.Growing.{Follows, IsGrowing, IsTracked, kind_of_tracker}
 use Rattle.msr_packer.specs.HeldSamples.{InsideIfAny, frontier_of, start_of}
-use Rattle.msr_packer.specs.Steps.{end_of}
 use Rattle.msr_packer.specs.declared.growing.KindTracker.{KindTracker}
 use Rattle.msr_packer.specs.declared.growing.GrowingRun.{GrowingRun}
 use Rattle.msr_packer.specs.declared.held.RunToCut.{RunToCut}
-use Rattle.msr_packer.specs.declared.step.StepWithEnds.{StepWithEnds}
 use Rattle.msr_packer.proofs.Holding.{run_size}
-use Rattle.msr_words.proofs.LastSamples.{run_points_window, run_stays, run_was}
+use Rattle.msr_words.proofs.LastSamples.{run_points_window}
 use Rattle.msr_packer.proofs.Windows.{near_by_one}
 
 -- ---- the run that takes the samples after the frontier
@@ -138,65 +135,3 @@ may_forget records number (Some c) from inside near = elim (cases_lt 1 c.start) 
   | inl some ↦ let before = inside.before in let on = inside.on in inr (omega arith)
   | inr none ↦ inl (omega arith)
 ]
-
--- ---- the step that some samples decide
-
--- the samples after the one that decides it change nothing
-pub decided_sooner : (records : Records) → 256 ≤ records.bytes → (front more : List ℤ) (g n : ℕ) (found : StepWithEnds)
-    → found.step.end < length front → IsDecided records (front ++ more) g n found → IsDecided records front g n found
-decided_sooner records enough front more g n found inside is = record {
-  step = record {
-    before = is.step.before;
-    reached = run_was (FitsAny records) front more found.step.start found.step.end (omega arith) is.step.reached;
-    furthest = λ s b le r. is.step.furthest s b le (run_stays (FitsAny records) front more s b r);
-    last = λ s le r. is.step.last s le (run_stays (FitsAny records) front more s found.step.end r);
-  };
-  kind = run_was (FitsIn found.step.kind records) front more found.step.start found.step.end (omega arith) is.kind;
-  ends = record {
-    fit = λ kind among.
-        let fit = is.ends.fit kind among in
-        let far : end_of found.ends kind ≤ found.step.end = elim (cases_lt g (end_of found.ends kind)) [
-          | inl on ↦ is.step.furthest g (end_of found.ends kind) (omega arith)
-              (fit.0, fit.1, (kind, (is.ends.chosen kind among on, fit.2)))
-          | inr not ↦
-              let here = is.step.furthest g g (omega arith) (
-                omega arith,
-                omega arith,
-                rw run_points_none (empty_any records (omega arith)),
-              ) in
-              omega arith
-        ] in
-        run_was (Fits kind records.bytes) front more g (end_of found.ends kind) (omega arith) fit;
-    chosen = is.ends.chosen;
-    past = λ kind among c near r. is.ends.past kind among c near (run_stays (FitsIn kind records) front more g c r);
-  };
-  before_last = inside;
-  past = is.past;
-}
-
--- a step that is decided is decided by the samples up to the one after its end
-pub decided_there : (records : Records) → 256 ≤ records.bytes → (held : List ℤ) (g n : ℕ) (found : StepWithEnds)
-    → IsDecided records held g n found
-    → IsDecided records (take (found.step.end + 1) held) g n found
-decided_there records enough held g n found is =
-    let end = found.step.end + 1 in
-    let last = is.before_last in
-    let long = length-take end held in
-    decided_sooner records enough (take end held) (drop end held) g n found (omega arith)
-    (subst (λ xs. IsDecided records xs g n found) (sym (take-append-drop end held)) is)
-
-take_behind : (xs ys : List ℤ) (m n : ℕ) → m ≡ length xs + n → take m (xs ++ ys) ≡ xs ++ take n ys
-take_behind [] ys m n e = let same : m ≡ n = omega arith in ap (λ k. take k ys) same
-take_behind (x ∷ xs) ys zero n e = absurd (omega arith)
-take_behind (x ∷ xs) ys (suc m) n e = ap (λ l. x ∷ l) (take_behind xs ys m n (omega arith))
-
--- the first `end - from` of the samples are held then
-pub held_there : (held samples whole cut : List ℤ) (count from end : ℕ) → whole ≡ held ++ take count samples
-    → cut ≡ take end whole → from ≡ length held → from ≤ end → end ≤ length whole
-    → cut ≡ held ++ take (end - from) samples
-held_there held samples whole cut count from end all cut_is is past within =
-    let number = ap length all in
-    let long = length-append held (take count samples) in
-    let some = length-take count samples in
-    cut_is ∙ ap (take end) all ∙ take_behind held (take count samples) end (end - from) (omega arith)
-    ∙ ap (λ l. held ++ l) (take-take (end - from) count samples (omega arith))

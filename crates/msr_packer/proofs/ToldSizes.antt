@@ -27,8 +27,9 @@ pub none_sized : (samples : List ℤ) (a b count : ℕ) (sizes words : List ℕ)
 none_sized samples a b count sizes words is = subst (λ n. HaveSizes samples a b n sizes words) (sym is)
     (record {
       room = omega arith;
+      room_of_words = omega arith;
       are = record { known = λ some. absurd (some refl) };
-      written = λ room. none_written (map (λ p. p.1) (run_points samples a b)) 0 sizes words refl;
+      written = none_written (map (λ p. p.1) (run_points samples a b)) 0 sizes words refl;
     })
 
 -- of the same samples in a longer list
@@ -37,9 +38,10 @@ pub sized_in : (samples others : List ℤ) (a b c d count : ℕ) (sizes words : 
     → HaveSizes others c d count sizes words
 sized_in samples others a b c d count sizes words same is = record {
   room = is.room;
+  room_of_words = is.room_of_words;
   are = subst (λ run. AreGroupSizesIfKnown (map (λ (p : ℤ × ℤ). p.1) run) (take count sizes)) (sym same) is.are;
-  written = λ room. subst (λ run. AreGroupWords (map (λ (p : ℤ × ℤ). p.1) run) (take count sizes) (take count words))
-      (sym same) (is.written room);
+  written = subst (λ run. AreGroupWords (map (λ (p : ℤ × ℤ). p.1) run) (take count sizes) (take count words))
+      (sym same) is.written;
 }
 
 -- if more samples follow
@@ -80,7 +82,7 @@ start_within records None number inside = omega arith
 start_within records (Some c) number inside = let before = inside.before in let on = inside.on in omega arith
 
 -- the samples of a run with their differences are those of the segment at its place
-points_of_run : (samples : List ℤ) (a b : ℕ) → a ≤ length samples
+pub points_of_run : (samples : List ℤ) (a b : ℕ) → a ≤ length samples
     → points (before_place samples a) (slice_range samples a b) ≡ run_points samples a b
 points_of_run samples zero b within = let e : b - 0 ≡ b = omega arith in
     rw e (run_from_start samples b ∙ ap (λ n. take n (points None samples)) e)
@@ -106,12 +108,11 @@ shows_sizes held samples (Some piece) sound knows shows = record {
 
 -- and the words of these groups
 pub shows_words : (held : HeldSamples) → IsSound held → KnowsSizes held
-    → held.sizes.shown.count ≤ length held.sizes.shown.words.items
     → AreGroupWords (differences (before_shown held) (shown_by held)) (sizes_shown held)
     (take held.sizes.shown.count held.sizes.shown.words.items)
-shows_words held sound knows room =
+shows_words held sound knows =
     let order = sound.order in
     let within = sound.within in
     subst (λ run. AreGroupWords (map (λ (p : ℤ × ℤ). p.1) run) (sizes_shown held)
     (take held.sizes.shown.count held.sizes.shown.words.items))
-    (sym (points_of_run held.samples.items held.from held.to (omega arith))) (knows.shown.written room)
+    (sym (points_of_run held.samples.items held.from held.to (omega arith))) knows.shown.written

@@ -10,7 +10,7 @@ use Rattle.msr_packer.specs.declared.held.HeldSamples.{HeldSamples}
 
 -- What a packer of blocks shows: its records, the samples that it holds and how many stand before them,
 -- the step whose piece comes next, the samples of the piece that was given last with the one before them, the sizes and
--- the words of its groups, each if they are known, and whether all pieces were given.
+-- the words of its groups, if they are known, and whether all pieces were given.
 pub record Holding : Type 0 where
   pub records : Records
   pub held : List ℤ

@@ -1,5 +1,5 @@
 -- What a packer holds of a segment: its last samples, and the step after the runs that were given.
-use Rattle.std.specs.Prelude.{◌≡◌, ℕ, zero, suc, ◌+◌, ◌-◌, ◌*◌, ◌<◌, ◌≤◌, ◌^◌, ◌⊎◌, ℤ, List, [], ◌∷◌, ◌++◌, length, drop, take, map, slice_get, slice_range, Option, Some, None, IfSome, if◌then◌else◌, ◌==◌, nat_le, ⊤}
+use Rattle.std.specs.Prelude.{◌≡◌, ℕ, zero, suc, ◌+◌, ◌-◌, ◌*◌, ◌<◌, ◌≤◌, ◌^◌, ◌⊎◌, ℤ, List, [], ◌∷◌, ◌++◌, length, drop, take, map, slice_get, slice_range, Option, Some, None, IfSome, if◌then◌else◌, ◌==◌, ⊤}
 use Rattle.msr_words.specs.Fit.{Records, records_of, FitsAny, IsFirstKind}
 use Rattle.msr_words.specs.declared.kinds.Run.{Run}
 use Rattle.msr_words.specs.Laws.{most_any}
@@ -154,10 +154,8 @@ pub record KnowsSizes (held : HeldSamples) : Type 0 where
 abbrev pub sizes_shown : HeldSamples → List ℕ
 sizes_shown held = take held.sizes.shown.count held.sizes.shown.places.items
 
--- the words of these groups, or none if there is no room for all of them
 abbrev pub words_shown : HeldSamples → List ℕ
-words_shown held = if nat_le held.sizes.shown.count (length held.sizes.shown.words.items)
-    then take held.sizes.shown.count held.sizes.shown.words.items else []
+words_shown held = take held.sizes.shown.count held.sizes.shown.words.items
 
 -- What giving a piece does: the piece, if there is one, was given and is shown, and the samples that are held are the
 -- same.

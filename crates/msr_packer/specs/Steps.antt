@@ -83,10 +83,10 @@ every_kind = Int32 ∷ Int24 ∷ longer_kinds
 abbrev pub AreEnds : Records → List ℤ → ℕ → ℕ → Ends → Type 0
 AreEnds records samples g end ends = AreEndsAmong every_kind records samples g end ends
 
--- the first `count` of these are the sizes of the groups of the samples a to b-1; they are not known if it is 0; if there
--- is room for as many words, these are told too
+-- the first `count` of these are the sizes and the words of the groups of the samples a to b-1; they are not known if it
+-- is 0
 pub record HaveSizes (samples : List ℤ) (a b count : ℕ) (sizes words : List ℕ) : Type 0 where
   pub room : count ≤ length sizes
+  pub room_of_words : count ≤ length words
   pub are : AreGroupSizesIfKnown (map (λ p. p.1) (run_points samples a b)) (take count sizes)
-  pub written : count ≤ length words
-      → AreGroupWords (map (λ p. p.1) (run_points samples a b)) (take count sizes) (take count words)
+  pub written : AreGroupWords (map (λ p. p.1) (run_points samples a b)) (take count sizes) (take count words)

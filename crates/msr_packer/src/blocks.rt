@@ -6,7 +6,7 @@ ghost use Rattle.msr_words.specs.declared.kinds.Run.{Run};
 ghost use Rattle.msr_words.specs.Laws.{most_any};
 ghost use Rattle.msr_words.specs.Packing.{IsCanonical};
 ghost use Rattle.msr_words.specs.Segment.{differences};
-ghost use Rattle.msr_filling.specs.GroupWords.{AreGroupWordsIfKnown};
+ghost use Rattle.msr_filling.specs.GroupWords.{AreGroupWords};
 ghost use Rattle.msr_packer.specs.Blocks.{BlocksBeginAll, BlocksEnd, BlocksLeaveFew, HoldsFew, LastBlocksBegin, Packs, PacksLast, left_of, pushed};
 ghost use Rattle.msr_packer.specs.HeldSamples.{Shows, pieces_of, runs_of, separators_of};
 
@@ -131,16 +131,15 @@ impl BlockPacker {
     pub fn group_sizes(&self) -> &[u8]
         ensures { result.now ≡ self.now.groups }
     {
-        self.held.group_sizes()
+        &self.held.sizes.shown.places.as_slice()[..self.held.sizes.shown.count]
     }
 
-    /// The words of these groups, one after another, as they stand in a big-endian record: as many as `group_sizes` has, or
-    /// none if they are not known.
+    /// The words of these groups, one after another, as they stand in a big-endian record.
     pub fn group_words(&self) -> &[u32]
         ensures shown { result.now ≡ self.now.words }
-        ensures words { AreGroupWordsIfKnown (differences self.now.before self.now.shown) self.now.groups result.now }
+        ensures words { AreGroupWords (differences self.now.before self.now.shown) self.now.groups result.now }
     {
-        self.held.group_words()
+        &self.held.sizes.shown.words.as_slice()[..self.held.sizes.shown.count]
     }
 
     /// The sample before those of the piece that was given last, if there is one.

@@ -1,15 +1,15 @@
 //! A run that all samples so far fit, with its tracker: while the tracker does not refuse, the step from the frontier
 //! is not decided, and need not be looked for.
 
-ghost use Rattle.std.specs.Prelude.{◌≡◌, ℕ, ◌+◌, ◌<◌, ◌≤◌, ◌-ℤ◌, [], length, pos, slice_index_or, IfSome, IsNone};
+ghost use Rattle.std.specs.Prelude.{◌≡◌, ℕ, ◌+◌, ◌≤◌, [], length, IfSome, IsNone};
 ghost use Rattle.msr_kinds.specs.Lengths.{bytes_of};
 ghost use Rattle.msr_words.specs.Fit.{Fits, FitsIn, IsRun, Records, records_of};
-ghost use Rattle.msr_words.specs.Segment.{difference_at, run_points};
+ghost use Rattle.msr_words.specs.Segment.{run_points};
 ghost use Rattle.msr_packer.specs.Growing.{Follows, IsDecided, IsGrowing, IsTracked, kind_of_tracker};
 
 use crate::step::{StepWithEnds, next_step, tried_first};
 use msr_kinds::{Form, Kind, Length};
-use msr_words::{Int16, Int24, Int32, Steim1, Steim2, Tracker};
+use msr_words::{Codec, Int16, Int24, Int32, Steim1, Steim2, difference};
 
 /// A tracker of one of the kinds.
 #[derive(Clone, Copy, Debug)]
@@ -21,44 +21,23 @@ pub(crate) enum KindTracker {
     Int32(Int32),
 }
 
-/// The sample from which the difference of this one is taken: the one before it, or the first itself.
-fn sample_before(samples: &[i32], at: usize) -> i32
-    requires { at ≤ length samples.now }
-    ensures { at < length samples.now → difference_at samples.now at ≡ slice_index_or samples.now at (pos 0) -ℤ result }
-{
-    if at > 0 {
-        return samples[at - 1];
-    }
-    if samples.is_empty() { 0 } else { samples[0] }
-}
-
-/// The difference of a sample from the one before it.
-fn difference_between(before: i32, sample: i32) -> i64
-    ensures { result ≡ sample -ℤ before }
-{
-    sample as i64 - before as i64
-}
-
 /// The tracker after the samples from one on, if it takes them all.
-fn all_taken<C: Tracker + Drop>(mut tracker: C, samples: &[i32], from: usize) -> Option<C>
+fn all_taken<C: Codec + Drop>(mut tracker: C, samples: &[i32], from: usize) -> Option<C>
     requires { from ≤ length samples.now }
     ensures all { (records : Records) (start : ℕ) → start ≤ from
         → C.follows records (run_points samples.now start from) tracker
-        → C.fits records (run_points samples.now start from)
+        → Fits C.kind records.bytes (run_points samples.now start from)
         → IfSome result (λ t. C.follows records (run_points samples.now start (length samples.now)) t
-        × C.fits records (run_points samples.now start (length samples.now))) }
+        × Fits C.kind records.bytes (run_points samples.now start (length samples.now))) }
     ensures none { (records : Records) (start : ℕ) → start ≤ from
         → C.follows records (run_points samples.now start from) tracker
-        → C.fits records (run_points samples.now start from)
-        → IsNone result → C.fits records (run_points samples.now start (length samples.now)) → ⊥ }
+        → Fits C.kind records.bytes (run_points samples.now start from)
+        → IsNone result → Fits C.kind records.bytes (run_points samples.now start (length samples.now)) → ⊥ }
 {
-    let mut last = sample_before(samples, from);
     for at in from..samples.len() {
-        let sample = samples[at];
-        if !tracker.push(sample, difference_between(last, sample)) {
+        if !tracker.push(samples[at], difference(samples, at)) {
             return None;
         }
-        last = sample;
     }
     Some(tracker)
 }

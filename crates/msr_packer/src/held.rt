@@ -5,9 +5,7 @@ ghost use Rattle.msr_words.specs.declared.kinds.Run.{Run};
 ghost use Rattle.msr_words.specs.Fit.{FitsAny, FitsIn, IsRun, records_of};
 ghost use Rattle.msr_words.specs.Laws.{most_any};
 ghost use Rattle.msr_words.specs.Packing.{IsCanonical, IsStep};
-ghost use Rattle.msr_words.specs.Segment.{differences};
-ghost use Rattle.msr_filling.specs.GroupWords.{AreGroupWordsIfKnown};
-ghost use Rattle.msr_packer.specs.HeldSamples.{GivesPiece, HasPlaces, HoldsRest, IsNext, IsSound, KnowsNext, KnowsSizes, ShowsRun, Stays, before_shown, frontier_of, piece_of, pieces_of, runs_of, separators_of, shown_by, sizes_shown, start_of, words_shown};
+ghost use Rattle.msr_packer.specs.HeldSamples.{GivesPiece, HasPlaces, HoldsRest, IsNext, IsSound, KnowsNext, KnowsSizes, ShowsRun, Stays, before_shown, frontier_of, piece_of, pieces_of, runs_of, separators_of, shown_by, start_of};
 ghost use Rattle.msr_packer.specs.Steps.{AreEnds, HaveSizes};
 
 use crate::kind_of;
@@ -47,7 +45,7 @@ pub(crate) struct RunToCut {
     pub end: usize,
     pub whole: Kind,
     pub short: Kind,
-    /// How many groups the whole run has, if it is of Steim-2 and their sizes were told, else 0.
+    /// How many groups the whole run has, if it is of Steim-2 and they were told, else 0.
     pub groups: usize,
 }
 
@@ -99,7 +97,7 @@ pub(crate) fn piece_of(offset: u64, current: Option<RunToCut>, next: usize) -> O
     })
 }
 
-/// How many groups the run of a step has, if it is the one of Steim-2 from the frontier and their sizes were told.
+/// How many groups the run of a step has, if it is the one of Steim-2 from the frontier and they were told.
 fn groups_of(frontier: usize, found: StepWithEnds) -> usize
     ensures { (samples : List ℤ) (sizes words : List ℕ)
         → HaveSizes samples frontier found.ends.steim2 found.ends.groups sizes words
@@ -143,7 +141,7 @@ impl RunToCut {
         }
     }
 
-    /// The next step. If it is of Steim-2, it tells the sizes of its groups and their words, each if there is room.
+    /// The next step. If it is of Steim-2, it tells the sizes of its groups and their words, if there is room.
     pub(crate) fn next(
         samples: &[i32],
         form: Form,
@@ -385,8 +383,7 @@ impl HeldSamples {
         }
     }
 
-    /// Takes places for the sizes of the groups of a record, and after a step of Steim-2 for their words, if that was not
-    /// done: a short segment, or one of records of another kind, takes none for words.
+    /// Takes places for the groups of a record, if that was not done.
     pub(crate) fn take_places(&mut self) -> Result<(), AllocError>
         requires { IsSound self.old }
         ensures sound { IsSound self.new }
@@ -397,34 +394,7 @@ impl HeldSamples {
         ensures sizes { KnowsSizes self.old → KnowsSizes self.new }
     {
         let places = self.form.length.data_words() as usize;
-        let with_words = match self.current {
-            Some(current) => current.whole == Kind::Steim2,
-            None => false,
-        };
-        self.sizes.take_places(places, with_words)
-    }
-
-    /// The sizes of the groups of the piece that is shown, if they are known.
-    pub(crate) fn group_sizes(&self) -> &[u8]
-        requires { KnowsSizes self.now }
-        ensures { result.now ≡ sizes_shown self.now }
-    {
-        &self.sizes.shown.places.as_slice()[..self.sizes.shown.count]
-    }
-
-    /// The words of these groups, as many as their sizes, if they are known.
-    pub(crate) fn group_words(&self) -> &[u32]
-        requires sound { IsSound self.now }
-        requires knows { KnowsSizes self.now }
-        ensures shown { result.now ≡ words_shown self.now }
-        ensures words { AreGroupWordsIfKnown (differences (before_shown self.now) (shown_by self.now))
-            (sizes_shown self.now) result.now }
-    {
-        let shown = &self.sizes.shown;
-        if shown.words.len() < shown.count {
-            return &[];
-        }
-        &shown.words.as_slice()[..shown.count]
+        self.sizes.take_places(places)
     }
 
     /// The samples that are shown.

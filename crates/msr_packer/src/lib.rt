@@ -28,7 +28,7 @@ pub use msr_words::Run;
 use msr_words::first_kind;
 use std::alloc::{AllocError, Global};
 use step::StepWithEnds;
-pub use stream::{Last, Pushed, StreamPacker, pieces_begin_all, stream_leaves_few};
+pub use stream::{Last, StreamPacker, pieces_begin_all, stream_leaves_few};
 
 /// Runs that join to a segment, and samples that show that no packing has fewer.
 #[derive(Debug, Drop, PartialEq, Eq)]

@@ -6,8 +6,7 @@ ghost use Rattle.msr_packer.specs.Steps.{HaveSizes};
 use std::alloc::{AllocError, Global};
 use std::mem;
 
-/// Places for the sizes of the groups of a run, of which the first `count` are told: all, or none. If there are as many for
-/// words, these are told too.
+/// Places for the sizes and the words of the groups of a run, of which the first `count` are told: all, or none.
 #[derive(Drop)]
 pub(crate) struct GroupSizes {
     pub places: Vec<u8>,
@@ -27,18 +26,15 @@ impl GroupSizes {
         }
     }
 
-    /// Takes so many places, if there are fewer, and if `with_words` says so as many for words, while no sizes are told:
-    /// these are not forgotten.
-    fn take_places(&mut self, places: usize, with_words: bool) -> Result<(), AllocError>
+    /// Takes so many places, if there are fewer. Then none is told.
+    fn take_places(&mut self, places: usize) -> Result<(), AllocError>
         ensures { (samples : List ℤ) (a b : ℕ)
             → HaveSizes samples a b self.old.count self.old.places.items self.old.words.items
             → HaveSizes samples a b self.new.count self.new.places.items self.new.words.items }
     {
-        if self.places.len() < places {
+        if self.words.len() < places {
             self.count = 0;
             self.places.resize(places, 0)?;
-        }
-        if with_words && self.count == 0 && self.words.len() < places {
             self.words.resize(places, 0)?;
         }
         Ok(())
@@ -65,8 +61,8 @@ impl StepSizes {
         }
     }
 
-    /// Takes so many places for each, and for words if `with_words` says so, if that was not done.
-    pub(crate) fn take_places(&mut self, places: usize, with_words: bool) -> Result<(), AllocError>
+    /// Takes so many places for each, if that was not done.
+    pub(crate) fn take_places(&mut self, places: usize) -> Result<(), AllocError>
         ensures next { (samples : List ℤ) (a b : ℕ)
             → HaveSizes samples a b self.old.next.count self.old.next.places.items self.old.next.words.items
             → HaveSizes samples a b self.new.next.count self.new.next.places.items self.new.next.words.items }
@@ -74,11 +70,11 @@ impl StepSizes {
             → HaveSizes samples a b self.old.shown.count self.old.shown.places.items self.old.shown.words.items
             → HaveSizes samples a b self.new.shown.count self.new.shown.places.items self.new.shown.words.items }
     {
-        self.next.take_places(places, with_words)?;
-        self.shown.take_places(places, with_words)
+        self.next.take_places(places)?;
+        self.shown.take_places(places)
     }
 
-    /// Goes on to a step that told the sizes of so many groups. Those of the step before it are shown, if its run is
+    /// Goes on to a step that told so many groups. Those of the step before it are shown, if its run is
     /// `whole`; one that is cut has other groups.
     pub(crate) fn go_on(&mut self, groups: usize, whole: bool)
         ensures next_places { self.new.next.places ≡ self.old.shown.places }

@@ -13,8 +13,8 @@ ghost use Rattle.msr_packer.specs.Steps.{AreEnds, AreEndsAmong, HaveSizes, IsBet
 use msr_filling::steim2_words;
 use msr_kinds::{Form, Kind, Length};
 use msr_words::{
-    Fitting, Int32, Steim2Reach, Tracker, begins_with_four, count_halves, count_wide,
-    leading_of_bits, steim1_reach, steim2_reach,
+    Codec, Fitting, Int32, Steim2Reach, begins_with_four, count_halves, count_wide,
+    leading_of_bits, steim1_reach,
 };
 
 /// One record more: it starts at `start`, reaches to `end`, and is of that kind.
@@ -41,7 +41,7 @@ impl StepRun {
 }
 
 /// Ends of runs from a frontier, by their kind. One that is not needed is the frontier itself. The run of Steim-2 has so
-/// many `groups`, if their sizes were told, else 0.
+/// many `groups`, if they were told, else 0.
 #[derive(Clone, Copy, Debug, PartialEq, Eq)]
 pub(crate) struct Ends {
     pub steim2: usize,
@@ -66,27 +66,8 @@ pub(crate) struct StepWithEnds {
     pub ends: Ends,
 }
 
-/// How far Steim-2 reaches from the frontier on. The sizes of its groups are told, and their words, where there is room.
-#[inline(always)]
-fn told_reach(
-    samples: &[i32],
-    form: Form,
-    frontier: usize,
-    sizes: &mut [u8],
-    words: &mut [u32],
-) -> Steim2Reach
-    requires { frontier ≤ length samples.now }
-    ensures end { IsEnd SecondSteim (bytes_of form.length) samples.now frontier result.end }
-    ensures narrow { IsTrue result.narrow → AreNarrowThrough samples.now frontier result.end }
-    ensures sizes { HaveSizes samples.now frontier result.end result.groups sizes.new words.new }
-{
-    if words.is_empty() {
-        return steim2_reach(samples, form.length, frontier, sizes);
-    }
-    steim2_words(samples, form.length, frontier, sizes, words)
-}
-
-/// The greatest end of a run of Steim-2 from the frontier on; the frontier, if the form has no such records.
+/// The greatest end of a run of Steim-2 from the frontier on; the frontier, if the form has no such records. The sizes of
+/// its groups are told, and their words, if there is room.
 #[inline(always)]
 fn steim2_end(
     samples: &[i32],
@@ -102,7 +83,7 @@ fn steim2_end(
     ensures sizes { HaveSizes samples.now frontier result.end result.groups sizes.new words.new }
 {
     if form.kinds.contains(Kind::Steim2) {
-        return told_reach(samples, form, frontier, sizes, words);
+        return steim2_words(samples, form.length, frontier, sizes, words);
     }
     Steim2Reach {
         end: frontier,

@@ -1,6 +1,6 @@
-//! The packing of a segment whose samples come one after another, or some at a time.
+//! The packing of a segment whose samples come one after another.
 
-ghost use Rattle.std.specs.Prelude.{◌≡◌, ℕ, ℤ, List, [], ◌∷◌, ◌++◌, ◌+◌, ◌<◌, ◌≤◌, ◌⊎◌, ◌^◌, length, take, MatchResult, IfOk, IsNone};
+ghost use Rattle.std.specs.Prelude.{◌≡◌, ℕ, ℤ, List, [], ◌∷◌, ◌++◌, ◌+◌, ◌<◌, ◌≤◌, ◌^◌, length, MatchResult};
 ghost use Rattle.msr_words.specs.Fit.{Records, records_of};
 ghost use Rattle.msr_kinds.specs.Forms.{all_kinds};
 ghost use Rattle.msr_words.specs.declared.kinds.Run.{Run};
@@ -13,16 +13,8 @@ use crate::growing::GrowingRun;
 use crate::held::{HeldSamples, Piece, RunToCut, frontier_of, likely_of, remove_front, start_of};
 use arrayvec::ArrayVec;
 use msr_kinds::{Form, Length};
-use msr_words::longest_run;
 use std::alloc::{AllocError, Global};
 use std::marker::Model;
-
-/// How many of the pushed samples were taken, and the piece that the last of them decided, if it did.
-#[derive(Clone, Copy, Debug, PartialEq, Eq)]
-pub struct Pushed {
-    pub count: usize,
-    pub piece: Option<Piece>,
-}
 
 /// The pieces that were not given when the samples ended, and the samples from the first of them on.
 #[derive(Debug, Drop)]
@@ -59,14 +51,12 @@ fn forget(held: &mut HeldSamples, growing: &mut GrowingRun)
         (records_of held.new.form) }
     ensures from { held.new.from ≡ 0 }
     ensures to { held.new.to ≡ 0 }
-    ensures first { IsNone held.new.current → IsNone held.old.current }
 {
     growing.start -= held.unneeded();
     held.forget();
 }
 
-/// Takes the samples of a segment one after another, or some at a time, and gives each run of the packing when it is
-/// decided.
+/// Takes the samples of a segment one after another, and gives each run of the packing when it is decided.
 #[derive(Drop)]
 pub struct StreamPacker {
     held: HeldSamples,
@@ -126,57 +116,20 @@ impl StreamPacker {
         ensures count { MatchResult result (λ _. pushed self.new ≡ pushed self.old + 1)
             (λ _. pushed self.new ≡ pushed self.old) }
     {
-        let taken = self.push_some(&[sample])?;
-        Ok(taken.piece)
-    }
-
-    /// Takes samples up to the one that decides the next step, or all of them if none does, as if
-    /// each was pushed alone; at most the last of these pushes gives a piece. If memory is refused
-    /// none was taken, and no samples are shown.
-    pub fn push_some(&mut self, samples: &[i32]) -> Result<Pushed, AllocError>
-        requires { pushed self.old + length samples.now < 2 ^ 64 }
-        ensures given { (records : Records) (before : List ℤ) (runs : List Run) (separators : List ℕ)
-            → Streams records before runs separators self.old
-            → MatchResult result
-            (λ taken. Streams records (before ++ take taken.count samples.now) (runs ++ runs_of (pieces_of taken.piece))
-            (separators ++ separators_of (pieces_of taken.piece)) self.new)
-            (λ _. Streams records before runs separators self.new) }
-        ensures shown { (records : Records) (before : List ℤ) (runs : List Run) (separators : List ℕ)
-            → Streams records before runs separators self.old
-            → MatchResult result
-            (λ taken. self.new.shown ≡ samples_of (before ++ take taken.count samples.now) taken.piece)
-            (λ _. self.new.shown ≡ []) }
-        ensures within { IfOk result (λ taken. taken.count ≤ length samples.now) }
-        ensures some { IfOk result (λ taken. 0 < length samples.now → 0 < taken.count) }
-
-        // At the first step there is no piece yet.
-        ensures all { IfOk result (λ taken. IsNone taken.piece
-            → (taken.count ≡ length samples.now) ⊎ IsNone self.old.current) }
-        ensures count { MatchResult result (λ taken. pushed self.new ≡ pushed self.old + taken.count)
-            (λ _. pushed self.new ≡ pushed self.old) }
-    {
         forget(&mut self.held, &mut self.growing);
         let form = self.held.form;
         let frontier = frontier_of(self.held.current);
         let from = self.held.samples.len();
-        // with one sample more than a longest run after the frontier the step is decided
-        let room = frontier + longest_run(form) + 1 - from;
-        let count = room.min(samples.len());
-        self.held.samples.extend_from_slice(&samples[..count])?;
+        self.held.samples.extend_from_slice(&[sample])?;
         let likely = likely_of(self.held.current);
         let seen = self.held.samples.as_slice();
         let Some(found) = self.growing.decide(seen, form, frontier, from, likely) else {
-            return Ok(Pushed { count, piece: None });
+            return Ok(None);
         };
-        // the sample after the step is the one that decides it
-        let end = found.step.end + 1;
-        self.held.samples.truncate(end);
-        let seen = self.held.samples.as_slice();
+        // The sample after the step is the one that decides it.
         let next = RunToCut::of(seen, form, self.held.current, found);
         self.growing = GrowingRun::first(seen, form, next.end);
-        let piece = self.held.go_on(next);
-        let count = end - from;
-        Ok(Pushed { count, piece })
+        Ok(self.held.go_on(next))
     }
 
     /// The samples of the piece that the last push gave, none if it gave none.

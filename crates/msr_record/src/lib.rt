@@ -12,6 +12,6 @@ pub use msr_rows::{
     FaultKind, Key, Record, RecordView, Row, Samples, decode_record, one_answer, one_reverse,
     own_bytes_decide, reverse_in, rows_are_writable, view_record,
 };
-pub use writing::{encode_record, encode_run, encode_words};
+pub use writing::{encode_record, encode_run};
 pub use written_area::samples_have_32_bits;
 pub use written_run::WrittenRun;

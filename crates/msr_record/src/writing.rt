@@ -99,7 +99,6 @@ fn put_header(bytes: &mut [u8], header: &[u8; 64])
 fn fill_record(
     alloc: Global,
     run: &WrittenRun<'_>,
-    words: &[u32],
     record_length: Length,
     bytes: &mut [u8],
 ) -> Result<(), AllocError>
@@ -111,14 +110,14 @@ fn fill_record(
     requires fits { Fits run.now.kind (bytes_of record_length) (points run.now.before run.now.samples.now) }
     requires sizes { AreGroupSizesIfKnown (differences run.now.before run.now.samples.now) run.now.group_sizes.now }
     requires words { AreGroupWordsIfKnown (differences run.now.before run.now.samples.now) run.now.group_sizes.now
-        words.now }
+        run.now.group_words.now }
     requires size { length bytes.old ≡ bytes_of record_length }
     ensures { OnOk result (AppendsRecord [] bytes.new run.now.key.now run.now.start run.now.sequence run.now.before
         run.now.samples.now run.now.kind (bytes_of record_length)) }
 {
     let (time, micros) = split(run.start).unwrap();
     let area = &mut bytes[64..];
-    let frames = fill_area(alloc, run, words, run.kind.storage(), record_length, area)?;
+    let frames = fill_area(alloc, run, run.kind.storage(), record_length, area)?;
     let count = run.samples.len() as u16;
     let exponent = record_length.exponent();
     let header = header_for(
@@ -151,31 +150,8 @@ pub fn encode_run(
     requires some { 1 ≤ length run.now.samples.now }
     requires fits { Fits run.now.kind (bytes_of record_length) (points run.now.before run.now.samples.now) }
     requires sizes { AreGroupSizesIfKnown (differences run.now.before run.now.samples.now) run.now.group_sizes.now }
-    ensures appended { OnOk result
-        (AppendsRecord out.old.items out.new.items run.now.key.now run.now.start run.now.sequence run.now.before
-        run.now.samples.now run.now.kind (bytes_of record_length)) }
-    ensures unchanged { OnErr result (out.new.items ≡ out.old.items) }
-{
-    encode_words(alloc, run, &[], record_length, out)
-}
-
-/// As `encode_run`, with the words of the groups of which `run.group_sizes` has the sizes, or none if they are not known.
-pub fn encode_words(
-    alloc: Global,
-    run: &WrittenRun<'_>,
-    words: &[u32],
-    record_length: Length,
-    out: &mut Vec<u8>,
-) -> Result<(), AllocError>
-    requires quality { IsTrue (is_quality run.now.key.now.quality) }
-    requires normal { is_pending run.now.key.now.activity run.now.key.now.correction ≡ false }
-    requires start { IsInstant run.now.start }
-    requires sequence { (1 ≤ run.now.sequence) × (run.now.sequence ≤ 999999) }
-    requires some { 1 ≤ length run.now.samples.now }
-    requires fits { Fits run.now.kind (bytes_of record_length) (points run.now.before run.now.samples.now) }
-    requires sizes { AreGroupSizesIfKnown (differences run.now.before run.now.samples.now) run.now.group_sizes.now }
     requires words { AreGroupWordsIfKnown (differences run.now.before run.now.samples.now) run.now.group_sizes.now
-        words.now }
+        run.now.group_words.now }
     ensures appended { OnOk result
         (AppendsRecord out.old.items out.new.items run.now.key.now run.now.start run.now.sequence run.now.before
         run.now.samples.now run.now.kind (bytes_of record_length)) }
@@ -183,14 +159,14 @@ pub fn encode_words(
 {
     let end = out.len();
     out.resize(end + record_length.bytes() as usize, 0)?;
-    let filled = fill_record(alloc, run, words, record_length, &mut out[end..]);
+    let filled = fill_record(alloc, run, record_length, &mut out[end..]);
     if filled.is_err() {
         out.truncate(end);
     }
     filled
 }
 
-/// As `encode_run`, if the sizes of groups are not known. `start` is the instant of the first sample in microseconds
+/// As `encode_run`, if the groups are not known. `start` is the instant of the first sample in microseconds
 /// from 1970-01-01 00:00:00, `before` is the sample before the run, or none at the start of a segment.
 pub fn encode_record(
     alloc: Global,
@@ -222,6 +198,7 @@ pub fn encode_record(
         samples: run,
         kind,
         group_sizes: &[],
+        group_words: &[],
     };
     encode_run(alloc, &written, record_length, out)
 }

@@ -15,7 +15,7 @@ ghost use Rattle.msr_filling.specs.GroupWords.{AreGroupWordsIfKnown};
 ghost use Rattle.msr_record.specs.Written.{AreFrames, IsWrittenArea, frame_count};
 
 use crate::written_run::WrittenRun;
-use msr_filling::{fill_steim1, fill_steim2, fill_steim2_groups, fill_steim2_told};
+use msr_filling::{fill_steim1, fill_steim2, fill_steim2_told};
 use msr_header::Order;
 use msr_kinds::{Length, Storage, Version};
 use msr_plain::fill_plain;
@@ -39,24 +39,22 @@ fn frame_count(groups: usize) -> u8
     if frames <= 255 { frames as u8 } else { 0 }
 }
 
-/// Fills the area, of whole frames, with the Steim-2 words of the differences of the run, by the sizes of its groups
-/// and their words as far as they are known, and gives the number of groups.
-fn fill_steim2_words(run: &WrittenRun<'_>, words: &[u32], area: &mut [u8]) -> usize
+/// Fills the area, of whole frames, with the Steim-2 words of the differences of the run, which may be known, and gives
+/// the number of groups.
+fn fill_steim2_words(run: &WrittenRun<'_>, area: &mut [u8]) -> usize
     requires some { 1 ≤ length run.now.samples.now }
     requires frames { length area.old % 64 ≡ 0 }
     requires fits { CanDivide Two (15 * (length area.old / 64) - 2) (differences run.now.before run.now.samples.now) }
     requires sizes { AreGroupSizesIfKnown (differences run.now.before run.now.samples.now) run.now.group_sizes.now }
     requires words { AreGroupWordsIfKnown (differences run.now.before run.now.samples.now) run.now.group_sizes.now
-        words.now }
+        run.now.group_words.now }
     ensures { IsFilledArea Two run.now.before run.now.samples.now (length area.old / 64) area.new result }
 {
-    if run.group_sizes.is_empty() {
-        fill_steim2(run.before, run.samples, area)
-    } else if words.is_empty() {
-        fill_steim2_groups(run.before, run.samples, run.group_sizes, area)
-    } else {
-        fill_steim2_told(run.before, run.samples, run.group_sizes, words, area)
+    if run.group_words.is_empty() {
+        return fill_steim2(run.before, run.samples, area);
     }
+    let (sizes, words) = (run.group_sizes, run.group_words);
+    fill_steim2_told(run.before, run.samples, sizes, words, area)
 }
 
 /// Fills the area, of whole frames, with the words of the differences of the run, and gives the number of groups.
@@ -64,7 +62,6 @@ fn fill_words(
     alloc: Global,
     version: Version,
     run: &WrittenRun<'_>,
-    words: &[u32],
     area: &mut [u8],
 ) -> Result<usize, AllocError>
     requires some { 1 ≤ length run.now.samples.now }
@@ -72,12 +69,12 @@ fn fill_words(
     requires fits { CanDivide version (15 * (length area.old / 64) - 2) (differences run.now.before run.now.samples.now) }
     requires sizes { AreGroupSizesIfKnown (differences run.now.before run.now.samples.now) run.now.group_sizes.now }
     requires words { AreGroupWordsIfKnown (differences run.now.before run.now.samples.now) run.now.group_sizes.now
-        words.now }
+        run.now.group_words.now }
     ensures { IfOk result (IsFilledArea version run.now.before run.now.samples.now (length area.old / 64) area.new) }
 {
     match version {
         Version::One => fill_steim1(alloc, run.before, run.samples, area),
-        Version::Two => Ok(fill_steim2_words(run, words, area)),
+        Version::Two => Ok(fill_steim2_words(run, area)),
     }
 }
 
@@ -86,7 +83,6 @@ fn fill_steim_area(
     alloc: Global,
     version: Version,
     run: &WrittenRun<'_>,
-    words: &[u32],
     record_length: Length,
     area: &mut [u8],
 ) -> Result<u8, AllocError>
@@ -95,7 +91,7 @@ fn fill_steim_area(
     requires fits { CanDivide version (words_of (bytes_of record_length)) (differences run.now.before run.now.samples.now) }
     requires sizes { AreGroupSizesIfKnown (differences run.now.before run.now.samples.now) run.now.group_sizes.now }
     requires words { AreGroupWordsIfKnown (differences run.now.before run.now.samples.now) run.now.group_sizes.now
-        words.now }
+        run.now.group_words.now }
     requires size { length area.old ≡ bytes_of record_length - 64 }
     ensures written { IfOk result (λ frames. AreFrames version run.now.before run.now.samples.now
         (bytes_of record_length - 64) frames area.new) }
@@ -103,7 +99,7 @@ fn fill_steim_area(
     ensures reverse { OnOk result (FramesAgree Order.Big area.new run.now.samples.now) }
 {
     let _bytes = record_length.bytes();
-    let groups = fill_words(alloc, version, run, words, area)?;
+    let groups = fill_words(alloc, version, run, area)?;
     Ok(frame_count(groups))
 }
 
@@ -112,7 +108,6 @@ fn fill_steim_area(
 pub(crate) fn fill_area(
     alloc: Global,
     run: &WrittenRun<'_>,
-    words: &[u32],
     storage: Storage,
     record_length: Length,
     area: &mut [u8],
@@ -121,7 +116,7 @@ pub(crate) fn fill_area(
     requires fits { HasRoom storage (bytes_of record_length) (points run.now.before run.now.samples.now) }
     requires sizes { AreGroupSizesIfKnown (differences run.now.before run.now.samples.now) run.now.group_sizes.now }
     requires words { AreGroupWordsIfKnown (differences run.now.before run.now.samples.now) run.now.group_sizes.now
-        words.now }
+        run.now.group_words.now }
     requires size { length area.old ≡ bytes_of record_length - 64 }
     ensures written { IfOk result (λ frames. IsWrittenArea storage run.now.before run.now.samples.now
         (bytes_of record_length - 64) frames area.new) }
@@ -134,13 +129,6 @@ pub(crate) fn fill_area(
             fill_plain(width, run.samples, area);
             Ok(0)
         }
-        Storage::Frames(version) => fill_steim_area(
-            alloc,
-            version,
-            run,
-            words,
-            record_length,
-            area,
-        ),
+        Storage::Frames(version) => fill_steim_area(alloc, version, run, record_length, area),
     }
 }

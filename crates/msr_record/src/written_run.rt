@@ -16,4 +16,6 @@ pub struct WrittenRun<'a> {
     pub kind: Kind,
     /// The sizes of the run's Steim-2 groups, or none if they are not known.
     pub group_sizes: &'a [u8],
+    /// The words of these groups, as they stand in a big-endian record, or none if they are not known.
+    pub group_words: &'a [u32],
 }

@@ -22,7 +22,6 @@ pub mod Steim1Words
 pub mod Steim2Groups
 pub mod Steim2Pushes
 pub mod Steim2Runs
-pub mod Steim2Sizes
 pub mod Stretches
 pub mod WordRoom
 pub mod Windows

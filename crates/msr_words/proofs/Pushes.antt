@@ -1,15 +1,12 @@
 -- What one more sample does to whether a run fits.
-use Rattle.std.proofs.Common.{◌≡◌, ℕ, ◌+◌, ◌-◌, ◌≤◌, ◌<◌, zero, suc, ap, pos, ◌-ℤ◌, ◌||◌, ◌&&◌, slice_index_or, min, Bool, true, false, refl, IsTrue, ◌↔◌, ℤ, List, [], ◌∷◌, ◌++◌, length, arith, length-append}
+use Rattle.std.proofs.Common.{◌≡◌, ℕ, ◌+◌, ◌-◌, ◌≤◌, ◌<◌, zero, suc, ap, pos, ◌-ℤ◌, slice_index_or, min, Bool, true, false, refl, IsTrue, ◌↔◌, ℤ, List, [], ◌∷◌, ◌++◌, length, arith, length-append}
 use Rattle.std.proofs.lemmas.List.Elements.{All-push, Contains-push, All-contains}
-use Rattle.msr_kinds.specs.declared.kinds.Kind.TheVariants.{Int16, Int24, Int32, Steim1, Steim2}
 use Rattle.msr_words.specs.Segment.{difference_at}
 use Rattle.msr_kinds.specs.declared.kinds.Kind.{Kind}
 use Rattle.msr_kinds.specs.declared.storage.Storage.TheVariants.{Integers}
 use Rattle.msr_kinds.specs.declared.storage.Width.{Width}
 use Rattle.msr_kinds.specs.declared.storage.Width.TheVariants.{Two as TwoBytes, Three as ThreeBytes, Four as FourBytes}
-use Rattle.msr_kinds.specs.declared.kinds.Kinds.{Kinds}
-use Rattle.msr_kinds.specs.Kinds.{contains}
-use Rattle.msr_words.specs.Fit.{Records, Fits, FitsAny, FitsIn, FitsIntegers, IsInteger, most_counted}
+use Rattle.msr_words.specs.Fit.{Fits, FitsIntegers, IsInteger, most_counted}
 use Rattle.msr_words.specs.Laws.{most_of, room_of}
 use Rattle.msr_words.specs.Trackers.{FollowsIntegers, integers}
 use Rattle.msr_words.specs.Lemmas.KindLaws.{fit_by_width, prefix_kind, size_kind}
@@ -72,47 +69,6 @@ module _ (kind : Kind) (width : Width) (bytes : ℕ) (are : TakesIntegers kind w
         },
         (λ _. more, λ _. refl),
       )
-
--- what a tracker says, if there are records of its kind
-pub taken_in : (kind : Kind) (records : Records) (run : List (ℤ × ℤ)) (kinds : Kinds) (fits answer : Bool)
-    → kinds ≡ records.kinds → answer ≡ (contains kinds kind && fits)
-    → (IsTrue fits ↔ Fits kind records.bytes run) → (IsTrue answer ↔ FitsIn kind records run)
-taken_in kind records run kinds fits answer same is says = rw (is, same) (both (contains records.kinds kind) fits says)
-  where
-    both : (chosen fits : Bool) → (IsTrue fits ↔ Fits kind records.bytes run)
-        → (IsTrue (chosen && fits) ↔ IsTrue chosen × Fits kind records.bytes run)
-    both true fits says = (λ t. (refl, says.0 t), λ h. says.1 h.1)
-    both false fits says = (λ t. absurd cc, λ h. absurd (let no = h.0 in cc))
-
--- the run fits a record of some kind exactly when one of the trackers says so
-pub any_of : (records : Records) (run : List (ℤ × ℤ)) (int16 int24 int32 steim1 steim2 : Bool)
-    → (IsTrue int16 ↔ FitsIn Int16 records run) → (IsTrue int24 ↔ FitsIn Int24 records run)
-    → (IsTrue int32 ↔ FitsIn Int32 records run) →
-    (IsTrue steim1 ↔ FitsIn Steim1 records run) → (IsTrue steim2 ↔ FitsIn Steim2 records run)
-    → (IsTrue ((((int16 || int24) || int32) || steim1) || steim2) ↔ FitsAny records run)
-any_of records run int16 int24 int32 steim1 steim2 a b c d e =
-    (say int16 int24 int32 steim1 steim2 a.0 b.0 c.0 d.0 e.0, hear)
-  where
-    say : (x y z v w : Bool) → (IsTrue x → FitsIn Int16 records run) → (IsTrue y → FitsIn Int24 records run)
-        → (IsTrue z → FitsIn Int32 records run) → (IsTrue v → FitsIn Steim1 records run)
-        → (IsTrue w → FitsIn Steim2 records run) →
-        IsTrue ((((x || y) || z) || v) || w) → FitsAny records run
-    say true y z v w p q r s u t = (Int16, p refl)
-    say false true z v w p q r s u t = (Int24, q refl)
-    say false false true v w p q r s u t = (Int32, r refl)
-    say false false false true w p q r s u t = (Steim1, s refl)
-    say false false false false w p q r s u t = (Steim2, u t)
-
-    hear : FitsAny records run → IsTrue ((((int16 || int24) || int32) || steim1) || steim2)
-    hear (Int16, f) = rw (a.1 f) refl
-    hear (Int24, f) = elim int16 as (λ x. IsTrue ((((x || int24) || int32) || steim1) || steim2))
-        [ true ↦ refl | false ↦ rw (b.1 f) refl ]
-    hear (Int32, f) = elim (int16 || int24) as (λ x. IsTrue (((x || int32) || steim1) || steim2))
-        [ true ↦ refl | false ↦ rw (c.1 f) refl ]
-    hear (Steim1, f) = elim ((int16 || int24) || int32) as (λ x. IsTrue ((x || steim1) || steim2))
-        [ true ↦ refl | false ↦ rw (d.1 f) refl ]
-    hear (Steim2, f) = elim (((int16 || int24) || int32) || steim1) as (λ x. IsTrue (x || steim2))
-        [ true ↦ refl | false ↦ e.1 f ]
 
 pub difference_at_later : (samples : List ℤ) (i : ℕ) → 0 < i
     → difference_at samples i ≡ slice_index_or samples i (pos 0) -ℤ slice_index_or samples (i - 1) (pos 0)

@@ -13,7 +13,6 @@ pub mod Groups
 pub mod Bounds
 pub mod Steim1Reach
 pub mod Trackers
-pub mod AnyKind
 pub mod Window
 pub mod Pairs
 pub mod Lemmas

@@ -4,6 +4,7 @@ ghost use Rattle.std.specs.Prelude.{◌≡◌, ℕ, ◌+◌, ◌^◌, ◌<◌, �
 ghost use Rattle.msr_kinds.specs.declared.kinds.Kind.{Kind};
 ghost use Rattle.msr_kinds.specs.declared.kinds.Kind.TheVariants.{Steim1, Steim2};
 ghost use Rattle.msr_kinds.specs.Forms.{all_kinds};
+ghost use Rattle.msr_kinds.specs.Lengths.{bytes_of};
 ghost use Rattle.msr_kinds.specs.RecordLength.{words_of};
 ghost use Rattle.msr_words.specs.Fit.{Fits, IsInteger, Records, records_of};
 ghost use Rattle.msr_kinds.specs.Codes.{code_of};
@@ -17,18 +18,15 @@ use msr_kinds::{Kind, Length};
 use msr_steim::fits_bits;
 use std::marker::Model;
 
-/// A tracker says, one sample after another, whether what was pushed so far fits one record.
-pub trait Tracker {
-    /// The run, of samples with their differences, fits one of these records.
-    ghost fits: { Records → List (ℤ × ℤ) → Type 0 };
+/// A tracker of one kind of record says, one sample after another, whether what was pushed so far fits one.
+pub trait Codec {
+    /// The kind of its records.
+    ghost kind: { Kind };
 
-    /// The tracker is as it is after that run was pushed, for these records.
+    /// The tracker is as it is after that run, of samples with their differences, was pushed, for these records.
     ghost follows: { Records → List (ℤ × ℤ) → Self → Type 0 };
 
     ghost LOOK_BACK: { ℕ };
-
-    /// How many samples one of these records has at most.
-    ghost most: { Records → ℕ };
 
     /// How many starts before a cut may be needed: the part after the cut fits with at most
     /// `LOOK_BACK` of the samples before it. If it is 0, each part after a cut fits by itself.
@@ -36,7 +34,7 @@ pub trait Tracker {
 
     /// How many samples a record of that length has at most.
     fn most(record_length: Length) -> usize
-        ensures { result ≡ most (records_of (all_kinds record_length)) };
+        ensures { result ≡ most_of kind (bytes_of record_length) };
 
     /// A tracker that nothing was pushed to.
     fn start(record_length: Length) -> Self
@@ -46,24 +44,16 @@ pub trait Tracker {
     fn push(&mut self, sample: i32, diff: i64) -> bool
         ensures { (records : Records) (run : List (ℤ × ℤ)) → follows records run self.old
             → follows records (run ++ (sample, diff) ∷ []) self.new × (IsTrue result
-            ↔ fits records (run ++ (sample, diff) ∷ [])) };
-
-    /// A prefix of what fits fits, and the part after a cut with at most `LOOK_BACK` samples before it, three at most;
-    /// an empty run fits, and no run of more than `most` samples does.
-    ghost laws: { TrackerLaws LOOK_BACK most fits };
-}
-
-/// The tracker of one kind of record.
-pub trait Codec: Tracker {
-    /// The kind of its records.
-    ghost kind: { Kind };
+            ↔ Fits kind records.bytes (run ++ (sample, diff) ∷ [])) };
 
     /// The number of the encoding of its records.
     fn code(&self) -> u8
         ensures { result ≡ code_of kind };
 
-    /// What it takes is what fits a record of that kind.
-    ghost same: { (records : Records) (run : List (ℤ × ℤ)) → Self.fits records run ↔ Fits kind records.bytes run };
+    /// A prefix of what fits fits, and the part after a cut with at most `LOOK_BACK` samples before it, three at most;
+    /// an empty run fits, and no run of more than `most` samples does.
+    ghost laws: { TrackerLaws LOOK_BACK
+        (λ records. most_of kind records.bytes) (λ records. Fits kind records.bytes) };
 }
 
 /// The tracker of integers of 16 bits, of 24, or else of 32.
@@ -121,14 +111,12 @@ fn is_taken(sample: i32, bits: u32, left: usize, fits: bool) -> bool
     fits && left > 0 && is_integer(sample, bits)
 }
 
-impl<const BITS: u32> Tracker for Integers<BITS> {
-    ghost fits = { λ records. Fits (integers (width_of BITS)) records.bytes };
+impl<const BITS: u32> Codec for Integers<BITS> {
+    ghost kind = { integers (width_of BITS) };
 
     ghost follows = { λ records. FollowsIntegers (integers (width_of BITS)) records.bytes };
 
     ghost LOOK_BACK = { 0 };
-
-    ghost most = { λ records. most_of (integers (width_of BITS)) records.bytes };
 
     const LOOK_BACK: usize = 0;
 
@@ -153,12 +141,6 @@ impl<const BITS: u32> Tracker for Integers<BITS> {
         self.left -= 1;
         true
     }
-}
-
-impl<const BITS: u32> Codec for Integers<BITS> {
-    ghost kind = { integers (width_of BITS) };
-
-    ghost same = { λ records run. (λ h. h, λ h. h) };
 
     fn code(&self) -> u8 {
         integers_of(BITS).code()
@@ -225,14 +207,12 @@ fn most_after(count: u8, most: u8, capacity: u8) -> u8
     if count < most { most } else { capacity }
 }
 
-impl Tracker for Steim2 {
-    ghost fits = { λ records. Fits Steim2 records.bytes };
+impl Codec for Steim2 {
+    ghost kind = { Steim2 };
 
     ghost follows = { λ records. FollowsSteim2 records.bytes };
 
     ghost LOOK_BACK = { 0 };
-
-    ghost most = { λ records. most_of Steim2 records.bytes };
 
     const LOOK_BACK: usize = 0;
 
@@ -269,12 +249,6 @@ impl Tracker for Steim2 {
         self.count = count_after(self.count, most);
         true
     }
-}
-
-impl Codec for Steim2 {
-    ghost kind = { Steim2 };
-
-    ghost same = { λ records run. (λ h. h, λ h. h) };
 
     fn code(&self) -> u8 {
         Kind::Steim2.code()
@@ -302,14 +276,12 @@ impl Model for Steim1 {
     ghost invariant = { λ it. it.words < 2 ^ 31 };
 }
 
-impl Tracker for Steim1 {
-    ghost fits = { λ records. Fits Steim1 records.bytes };
+impl Codec for Steim1 {
+    ghost kind = { Steim1 };
 
     ghost follows = { λ records run. FollowsSteim1 (words_of records.bytes) (map (λ p. p.1) run) };
 
     ghost LOOK_BACK = { 1 };
-
-    ghost most = { λ records. most_of Steim1 records.bytes };
 
     const LOOK_BACK: usize = 1;
 
@@ -335,12 +307,6 @@ impl Tracker for Steim1 {
         self.fits = self.counts.within(self.words);
         self.fits
     }
-}
-
-impl Codec for Steim1 {
-    ghost kind = { Steim1 };
-
-    ghost same = { λ records run. (λ h. h, λ h. h) };
 
     fn code(&self) -> u8 {
         Kind::Steim1.code()

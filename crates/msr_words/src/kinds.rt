@@ -150,7 +150,7 @@ fn fits_steim2(before: Option<i32>, run: &[i32], words: u32) -> bool
     let mut window = Window::new();
     let mut at = 0;
     for _used in 0..words {
-        let count = window.longest_after(before, run, at);
+        let count = window.longest_steim2_group(before, run, at);
         if count == 0 {
             return at == run.len();
         }

@@ -1,7 +1,6 @@
 //! Which runs of samples fit a record, for each kind of record, with a tracker for each kind.
 #![tactic(auto)]
 
-mod any_kind;
 mod bounds;
 mod codecs;
 mod counts;
@@ -16,12 +15,11 @@ mod steim2;
 mod widths;
 mod window;
 
-pub use any_kind::AnyKind;
 pub use bounds::{
     fits_up_to_its_end, steim1_look_back, steim1_word_by_word, steim2_greedy_reach,
     two_halves_in_a_word, two_wide_in_a_word,
 };
-pub use codecs::{Codec, Int16, Int24, Int32, Integers, Steim1, Steim2, Tracker};
+pub use codecs::{Codec, Int16, Int24, Int32, Integers, Steim1, Steim2};
 pub use counts::{is_narrow, magnitude};
 pub use division::{groups, one_division};
 pub use existence::{division_exists, fitting_is_decided};

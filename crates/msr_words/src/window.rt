@@ -218,7 +218,7 @@ impl Window {
 
     /// How many differences of the run, from this one on, stand together in a Steim-2 word, as many as can.
     #[inline(always)]
-    pub(crate) fn longest_after(&mut self, before: Option<i32>, run: &[i32], at: usize) -> usize
+    pub fn longest_steim2_group(&mut self, before: Option<i32>, run: &[i32], at: usize) -> usize
         requires within { at ≤ length run.now }
         requires window { IsWindow run.now at self.old }
         ensures window { IsWindow run.now at self.new }
@@ -228,17 +228,6 @@ impl Window {
             return self.longest_from(place);
         }
         longest_group(before, run, at)
-    }
-
-    /// How many differences of the segment, from this sample's on, stand together in a Steim-2 word, as many as can.
-    #[inline(always)]
-    pub fn longest_steim2_group(&mut self, samples: &[i32], at: usize) -> usize
-        requires within { at ≤ length samples.now }
-        requires window { IsWindow samples.now at self.old }
-        ensures window { IsWindow samples.now at self.new }
-        ensures longest { IsLongestGroup (drop at (differences None samples.now)) result }
-    {
-        self.longest_after(None, samples, at)
     }
 
     /// Goes on over Steim-1 words of two differences or one, until `last` are passed or the window ends. The walk stays

@@ -266,12 +266,3 @@ pub integers_laws : (width : Width) → TrackerLaws 0 (λ records. most_of (inte
 integers_laws TwoBytes = kind_laws Int16
 integers_laws ThreeBytes = kind_laws Int24
 integers_laws FourBytes = kind_laws Int32
-
-pub any_laws : TrackerLaws 1 most_any FitsAny
-any_laws = record {
-  prefix = prefix_any;
-  back_step = back_step_any;
-  near = omega arith;
-  empty = empty_any;
-  size = size_any;
-}

@@ -10,7 +10,7 @@ use Rattle.msr_words.proofs.GreedyReach.{none_reached}
 use Rattle.msr_words.proofs.Windows.{window_on}
 use Rattle.msr_words.proofs.Stretches.{none_narrow}
 use Rattle.msr_words.proofs.Steim2Runs.{IsWalked, group_narrow, walk_begins, walk_more, walked_out}
-use Rattle.msr_words.proofs.Steim2Sizes.{AreTold, none_told, walk_told, walked_sizes}
+use Rattle.msr_filling.proofs.SizesAhead.{AreTold, none_told, walk_told, walked_sizes}
 use Rattle.msr_filling.proofs.GroupsAhead.{AreWritten, none_written, walk_written, walked_words}
 use Rattle.msr_filling.proofs.words_ahead.walk_with_words.Goals as goal
 use Rattle.msr_filling.proofs.words_ahead.walk_with_words.Goals.{then-next-lt2+else-next-eq0, else-next-lt2}

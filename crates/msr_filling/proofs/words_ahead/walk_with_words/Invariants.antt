@@ -4,7 +4,7 @@ use Rattle.msr_words.specs.Window.{IsWindow}
 use Rattle.msr_words.specs.Bounds.{AreNarrow}
 use Rattle.msr_words.specs.Segment.{differences}
 use Rattle.msr_words.proofs.Steim2Runs.{IsWalked}
-use Rattle.msr_words.proofs.Steim2Sizes.{AreTold}
+use Rattle.msr_filling.proofs.SizesAhead.{AreTold}
 use Rattle.msr_filling.proofs.GroupsAhead.{AreWritten}
 use Rattle.msr_filling.proofs.words_ahead.walk_with_words.Given as goal
 

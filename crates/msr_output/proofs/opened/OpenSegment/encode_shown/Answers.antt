@@ -32,8 +32,8 @@ returns c = λ segment separator key_is start_is shown.
     let nominal = nominal_found own.key.rate own.start c.unwrap-first.result c.args.run.start c.nominal.result
     found c.unwrap-first.ensures in
     let first_fits : FitsSigned w64 c.unwrap-first.result = search rules in
-    let appended : OnOk c.encode_words.result
-    (AppendsRecord c.args.out.now.items c.encode_words.new.out.items own.key c.unwrap-first.result
+    let appended : OnOk c.encode_run.result
+    (AppendsRecord c.args.out.now.items c.encode_run.new.out.items own.key c.unwrap-first.result
     c.args.number (sample_before segment.samples c.args.run.start)
     (slice_range segment.samples c.args.run.start c.args.run.end) c.args.run.kind (bytes_of own.form.length)) =
     rw (
@@ -42,7 +42,7 @@ returns c = λ segment separator key_is start_is shown.
           ∙ before_same segment.samples c.args.run.start,
       c.run_samples.ensures
           ∙ shows.run,
-    ) at c.encode_words.ensures.appended in
-    rw (← c.self.view_is) (on_ok c.encode_words.result
+    ) at c.encode_run.ensures.appended in
+    rw (← c.self.view_is) (on_ok c.encode_run.result
     (λ a. record_of_run (bytes_of own.form.length) c.args.number segment c.args.run c.unwrap-first.result _ _
     (rw (key, start) at nominal) (rw key at a)) appended)
