@@ -3,8 +3,8 @@ ghost use Rattle.std.specs.Prelude.{◌≡◌, ◌≢◌, ◌<◌, ◌↔◌, �
 ghost use Rattle.msr_kinds.specs.Lengths.{bytes_of};
 ghost use Rattle.msr_kinds.specs.RecordLength.{IsRecordLength};
 ghost use Rattle.clap.specs.Words.{first_value, found_of, kind_of, one_text, subcommand_name_of};
-ghost use Rattle.msr_arguments.specs.Found.{AsksArchive, AsksBelow, AsksCheck, AsksDays, AsksFlags, AsksFolders, AsksOptions, AsksTask, AsksVerify, EndsFor, EndsWith, HoldsOptions, IsBadLine, IsFlagOf, IsKindsOf, IsLengthOf, IsNumberOf, IsWrong, length_in, without_slash};
-ghost use Rattle.msr_options.specs.Tasks.{AreApart, AreBothStandard, AreOptions, HasStatus, HasTolerance, IsBelow, IsDefault, IsTolerance, KeepsInput, Overlap, StandApart, verb_of, word_of};
+ghost use Rattle.msr_arguments.specs.Found.{AsksArchive, AsksBelow, AsksCheck, AsksDays, AsksFolders, AsksOptions, AsksTask, AsksVerify, EndsFor, EndsWith, HoldsOptions, IsBadLine, IsFlagOf, IsKindsOf, IsLengthOf, IsNumberOf, IsWrong, without_slash};
+ghost use Rattle.msr_options.specs.Tasks.{AreApart, AreBothStandard, HasStatus, HasTolerance, IsDefault, IsTolerance, KeepsInput, Overlap, StandApart, verb_of, word_of};
 ghost use Rattle.msr_options.specs.declared.task.NoTask.TheVariants.{NotALength};
 ghost use Rattle.msr_options.specs.declared.task.Task.TheVariants.{Compare, Feed, Repack};
 
@@ -15,7 +15,7 @@ use clap::error::ErrorKind;
 use msr_kinds::{Kinds, Length};
 use msr_options::{
     Archiving, Checking, Comparing, DayOptions, Ending, Feeding, Folders, Listing, NoTask, Options,
-    Repacking, Task, Verb, Verifying,
+    Repacking, Task, Verb, Verifying, overlap,
 };
 use msr_sds::levels_below;
 use std::alloc::{AllocError, Global};
@@ -202,31 +202,6 @@ fn checking_in<'a>(alloc: Global, found: &ArgMatches<'a>) -> Result<Checking<'a>
     Ok(Checking { packed, report })
 }
 
-/// Whether one folder is the other, or stands below it, by their names.
-fn overlap(a: &str, b: &str) -> bool
-    ensures { IsTrue result ↔ Overlap a.now b.now }
-{
-    a == b || is_below(a, b) || is_below(b, a)
-}
-
-/// Whether the second stands below the first, by their names.
-fn is_below(folder: &str, path: &str) -> bool
-    ensures { IsTrue result ↔ IsBelow folder.now path.now }
-{
-    match path.strip_prefix(folder) {
-        Some(rest) => rest.starts_with('/'),
-        None => false,
-    }
-}
-
-/// Whether no two of the folders overlap.
-fn stand_apart(folders: Folders<'_>) -> bool
-    ensures { IsTrue result ↔ StandApart folders.entry }
-{
-    let Folders { root, out, reports } = folders;
-    !(overlap(root, out) || overlap(root, reports) || overlap(out, reports))
-}
-
 fn folders_in<'a>(alloc: Global, found: &ArgMatches<'a>) -> Result<Folders<'a>, NoTask>
     ensures asked { IfOk result (AsksFolders (found_of found.now)) }
     ensures given { IsSome (first_value (found_of found.now) (codes "ROOT"))
@@ -321,7 +296,7 @@ fn archiving_in<'a>(alloc: Global, found: &ArgMatches<'a>) -> Result<Archiving<'
     let days = days_in(alloc, found)?;
     let below = below_in(alloc, found)?;
     let folders = folders_in(alloc, found)?;
-    refuse_if(alloc, !stand_apart(folders), texts::OVERLAP)?;
+    refuse_if(alloc, !folders.stand_apart(), texts::OVERLAP)?;
     Ok(Archiving {
         folders,
         below,
@@ -337,7 +312,7 @@ fn verifying_in<'a>(alloc: Global, found: &ArgMatches<'a>) -> Result<Verifying<'
 {
     let below = below_in(alloc, found)?;
     let folders = folders_in(alloc, found)?;
-    refuse_if(alloc, !stand_apart(folders), texts::OVERLAP)?;
+    refuse_if(alloc, !folders.stand_apart(), texts::OVERLAP)?;
     Ok(Verifying { folders, below })
 }
 
