@@ -1,10 +1,10 @@
-//! The texts of help, and of faults that clap does not find.
+//! The texts of help, by command, and those of faults that clap does not find.
+use crate::commands::{About, Argument};
 
-/// What the program does, in a line.
-pub(crate) const ABOUT: &str = "Repacks miniSEED into the fewest records of one length";
-
-/// What the program does.
-pub(crate) const LONG_ABOUT: &str = "Repacks miniSEED into the fewest records of one length.
+/// The program.
+pub(crate) const PROGRAM: About = About {
+    about: "Repacks miniSEED into the fewest records of one length",
+    long_about: "Repacks miniSEED into the fewest records of one length.
 
 msrepack joins the neighbouring records of a file into segments and writes each
 segment again in records of one length, as few as can hold it. Samples stay as they
@@ -15,10 +15,8 @@ before the data, the first difference taken from the sample before, none wrapped
 
 It reads records with blockette 1000, with or without blockette 1001, in either byte
 order: 16-bit, 24-bit and 32-bit integers, Steim-1 and Steim-2. A file with anything
-else is refused with the place and the reason. No record that has samples is skipped.";
-
-/// The end of the program's help: statuses and examples.
-pub(crate) const AFTER: &str = "With no words msrepack does what `msrepack repack -` does.
+else is refused with the place and the reason. No record that has samples is skipped.",
+    after: "With no words msrepack does what `msrepack repack -` does.
 
 Statuses:
   0  done
@@ -33,15 +31,14 @@ Examples:
   msrepack check packed.mseed packed.txt
   msrepack compare day.mseed packed.mseed
   msrepack archive sds packed reports
-  msrepack verify sds packed reports";
+  msrepack verify sds packed reports",
+    arguments: &[],
+};
 
-/// What `repack` does, in a line.
-pub(crate) const REPACK_ABOUT: &str =
-    "Writes the segments of a file in the fewest records, and a report";
-
-/// What `repack` does.
-pub(crate) const REPACK_LONG_ABOUT: &str =
-    "Writes the segments of a file in the fewest records, and a report.
+/// `repack`
+pub(crate) const REPACK: About = About {
+    about: "Writes the segments of a file in the fewest records, and a report",
+    long_about: "Writes the segments of a file in the fewest records, and a report.
 
 The records go to OUT, the report to standard output. The records are big-endian,
 have blockettes 1000 and 1001 and 64 bytes before the data, and hold their samples as
@@ -58,37 +55,43 @@ of which fit one record.
 If IN is refused, one line on standard error says at which byte and why, and OUT
 has only a prefix of the records: do not keep it.
 
-Status 0 if all was written, 1 after a fault, 2 if the command line is wrong.";
-
-/// Examples of `repack`.
-pub(crate) const REPACK_AFTER: &str = "Examples:
+Status 0 if all was written, 1 after a fault, 2 if the command line is wrong.",
+    after: "Examples:
   msrepack repack day.mseed                     how few records of 512 bytes would do
   msrepack repack --length 4096 day.mseed packed.mseed > packed.txt
-  cat day.mseed | msrepack repack - packed.mseed";
+  cat day.mseed | msrepack repack - packed.mseed",
+    arguments: &[
+        Argument::Length,
+        NO_INT24,
+        Argument::Tolerance,
+        STRICT,
+        INPUT,
+        Argument::FileIfAny(
+            "OUT",
+            "The file to write the records to. Without it they are not kept",
+        ),
+    ],
+};
 
-/// What `list` does, in a line.
-pub(crate) const LIST_ABOUT: &str = "Lists the segments of a file";
-
-/// What `list` does.
-pub(crate) const LIST_LONG_ABOUT: &str = "Lists the segments of a file.
+/// `list`
+pub(crate) const LIST: About = About {
+    about: "Lists the segments of a file",
+    long_about: "Lists the segments of a file.
 
 Prints a line for each segment, with its name, quality, rate, flags, start and number
 of samples, and a last line that counts the records: all of them, those without
 samples, and those whose last sample is not the reverse constant.
 
-Status 0 if the list is whole, 1 after a fault, 2 if the command line is wrong.";
+Status 0 if the list is whole, 1 after a fault, 2 if the command line is wrong.",
+    after: "Example:
+  msrepack list --tolerance 5000 day.mseed",
+    arguments: &[Argument::Tolerance, STRICT, INPUT],
+};
 
-/// An example of `list`.
-pub(crate) const LIST_AFTER: &str = "Example:
-  msrepack list --tolerance 5000 day.mseed";
-
-/// What `check` does, in a line.
-pub(crate) const CHECK_ABOUT: &str =
-    "Says whether a report shows that packed records are the fewest";
-
-/// What `check` does.
-pub(crate) const CHECK_LONG_ABOUT: &str =
-    "Says whether a report shows that packed records are the fewest.
+/// `check`
+pub(crate) const CHECK: About = About {
+    about: "Says whether a report shows that packed records are the fewest",
+    long_about: "Says whether a report shows that packed records are the fewest.
 
 Reads the report and then the records, and prints one of two verdicts:
 
@@ -108,18 +111,20 @@ it has the same segments.
 The report is read with the form that `msrepack repack` writes. If it has another, one
 line on standard error names its first wrong line, counted from 1; if PACKED has a
 fault, one line says at which byte and why. Both have status 1, and no verdict; it is 2
-if the command line is wrong.";
-
-/// An example of `check`.
-pub(crate) const CHECK_AFTER: &str = "Example:
+if the command line is wrong.",
+    after: "Example:
   msrepack repack --length 4096 day.mseed packed.mseed > packed.txt
-  msrepack check packed.mseed packed.txt";
+  msrepack check packed.mseed packed.txt",
+    arguments: &[
+        Argument::File("PACKED", "The file with the packed records"),
+        Argument::File("REPORT", "The file with their report"),
+    ],
+};
 
-/// What `compare` does, in a line.
-pub(crate) const COMPARE_ABOUT: &str = "Says whether two files have the same segments";
-
-/// What `compare` does.
-pub(crate) const COMPARE_LONG_ABOUT: &str = "Says whether two files have the same segments.
+/// `compare`
+pub(crate) const COMPARE: About = About {
+    about: "Says whether two files have the same segments",
+    long_about: "Says whether two files have the same segments.
 
 Reads both files, joins their records into segments as `repack` does, and compares
 these one after another: name, quality, rate and flags, start, and every sample. How the
@@ -143,25 +148,24 @@ Neither file is trusted, and it does not matter what wrote them. If one has a fa
 line on standard error names the file, at which byte and why, and there is no answer.
 
 Status 0 if they are the same, 3 if they differ, 1 after a fault, 2 if the command line
-is wrong.";
-
-/// An example of `compare`.
-pub(crate) const COMPARE_AFTER: &str = "Example:
+is wrong.",
+    after: "Example:
   msrepack repack --length 4096 day.mseed packed.mseed > packed.txt
-  msrepack compare day.mseed packed.mseed";
+  msrepack compare day.mseed packed.mseed",
+    arguments: &[
+        Argument::Tolerance,
+        Argument::File("ONE", "The file to compare, or - for standard input"),
+        Argument::File(
+            "OTHER",
+            "The file to compare it with, or - for standard input",
+        ),
+    ],
+};
 
-/// The first file of `compare`.
-pub(crate) const ONE: &str = "The file to compare, or - for standard input";
-
-/// The second file of `compare`.
-pub(crate) const OTHER: &str = "The file to compare it with, or - for standard input";
-
-/// What `archive` does, in a line.
-pub(crate) const ARCHIVE_ABOUT: &str = "Repacks every day file of an SDS archive";
-
-/// What `archive` does.
-pub(crate) const ARCHIVE_LONG_ABOUT: &str =
-    "Repacks every day file of an archive that is kept as a SeisComP Data Structure.
+/// `archive`
+pub(crate) const ARCHIVE: About = About {
+    about: "Repacks every day file of an SDS archive",
+    long_about: "Repacks every day file of an archive that is kept as a SeisComP Data Structure.
 
 Walks the folders below ROOT, names in the order of their bytes, and repacks each file
 of waveform data, YEAR/NET/STA/CHAN.D/NET.STA.LOC.CHAN.D.YEAR.DAY, as `repack` does: its
@@ -192,21 +196,37 @@ removed, also if they were there before. While a walk does a file, PATH.claim st
 beside its records, locked, and other walks leave the file alone. Nothing in ROOT is
 changed, also if links lead there. The walk goes on after a refused file.
 
-Status 0 if all was walked and nothing refused, else 1; 2 if the command line is wrong.";
-
-/// Examples of `archive`.
-pub(crate) const ARCHIVE_AFTER: &str = "Examples:
+Status 0 if all was walked and nothing refused, else 1; 2 if the command line is wrong.",
+    after: "Examples:
   msrepack archive --resume --no-int24 --length 4096 --check sds packed reports > log.txt
   msrepack archive --resume --no-int24 --length 4096 --check --below 2020/XX \\
-    sds packed reports > log.txt";
+    sds packed reports > log.txt",
+    arguments: &[
+        Argument::DayLength,
+        NO_INT24,
+        Argument::Tolerance,
+        STRICT,
+        Argument::Below,
+        RESUME,
+        CHECKED,
+        ONLY_SMALLER,
+        BYTES,
+        ROOT,
+        Argument::File(
+            "OUT",
+            "The folder of the records. It is made if it is missing",
+        ),
+        Argument::File(
+            "REPORTS",
+            "The folder of the reports. It is made if it is missing",
+        ),
+    ],
+};
 
-/// What `verify` does, in a line.
-pub(crate) const VERIFY_ABOUT: &str =
-    "Says of every day file of an SDS archive whether its repack holds";
-
-/// What `verify` does.
-pub(crate) const VERIFY_LONG_ABOUT: &str =
-    "Says of every day file of an archive whether its records, as `archive` made them, have
+/// `verify`
+pub(crate) const VERIFY: About = About {
+    about: "Says of every day file of an SDS archive whether its repack holds",
+    long_about: "Says of every day file of an archive whether its records, as `archive` made them, have
 the same data and are the fewest. No file is made, changed or locked.
 
 Walks the folders below ROOT as `archive` does, and prints one line for each entry:
@@ -234,24 +254,22 @@ and last the counts, of days that are verified first:
 files N skipped N refused N missing N notshown N differs N orphan N
 
 Status 0 if all is verified or skipped, else 1, also if all of ROOT is walked and has no
-day of waveform data; 2 if the command line is wrong.";
-
-/// Examples of `verify`.
-pub(crate) const VERIFY_AFTER: &str = "Examples:
+day of waveform data; 2 if the command line is wrong.",
+    after: "Examples:
   msrepack verify sds packed reports > log.txt
-  msrepack verify --below 2020/XX sds packed reports | grep -v ^verified";
+  msrepack verify --below 2020/XX sds packed reports | grep -v ^verified",
+    arguments: &[
+        Argument::Below,
+        ROOT,
+        Argument::File("OUT", "The folder of the records"),
+        Argument::File("REPORTS", "The folder of the reports"),
+    ],
+};
 
-/// The second folder of `verify`.
-pub(crate) const VERIFIED_OUT: &str = "The folder of the records";
-
-/// The third folder of `verify`.
-pub(crate) const VERIFIED_REPORTS: &str = "The folder of the reports";
-
-/// What `feed` does, in a line.
-pub(crate) const FEED_ABOUT: &str = "Repacks standard input to standard output while it comes";
-
-/// What `feed` does.
-pub(crate) const FEED_LONG_ABOUT: &str = "Repacks standard input to standard output while it comes.
+/// `feed`
+pub(crate) const FEED: About = About {
+    about: "Repacks standard input to standard output while it comes",
+    long_about: "Repacks standard input to standard output while it comes.
 
 The records go to standard output, as `repack` writes them, while the samples come:
 whenever msrepack waits for more input, all but the last samples have been written, at
@@ -263,15 +281,72 @@ The report goes to the file REPORT at the end. It is made, or cut to nothing, be
 anything is read, and it stands empty if standard input is refused, or a call fails:
 then one line on standard error says why, and the records are only the first ones.
 
-Status 0 if all was written, 1 after a fault, 2 if the command line is wrong.";
-
-/// An example of `feed`.
-pub(crate) const FEED_AFTER: &str = "Example:
+Status 0 if all was written, 1 after a fault, 2 if the command line is wrong.",
+    after: "Example:
   slinktool -S XX_TEST:00BHZ.D -o - station:18000 |
-    msrepack feed --no-int24 --length 4096 report.txt > packed.mseed";
+    msrepack feed --no-int24 --length 4096 report.txt > packed.mseed",
+    arguments: &[
+        Argument::Length,
+        NO_INT24,
+        Argument::Tolerance,
+        STRICT,
+        Argument::File("REPORT", "The file to write the report to, at the end"),
+    ],
+};
 
-/// The report of `feed`.
-pub(crate) const FEED_REPORT: &str = "The file to write the report to, at the end";
+const INPUT: Argument = Argument::File("IN", "The file to read, or - for standard input");
+
+const ROOT: Argument = Argument::File("ROOT", "The folder of the archive");
+
+const RESUME: Argument = Argument::Flag(
+    "resume",
+    "Leave files alone that an earlier walk with this option did",
+    "Leave files alone that an earlier walk with this option did: their records and their
+report are whole, of this length, tolerance and choice of kinds, and made from an input
+of the same size and time of change. For them one line is printed, which counts as one
+of those done: `same PATH read N written M`",
+);
+
+const CHECKED: Argument = Argument::Flag(
+    "check",
+    "Hold records against their report and their file before they get their name",
+    "Read records and report again before they get their names, hold one against the other,
+as `check` does, and compare the records with the file itself, as `compare` does. If the
+report does not show that they are the fewest, or if they are not the same data, neither
+is kept, and `notshown PATH` or `differs PATH` is printed, which counts as one of those
+refused",
+);
+
+const ONLY_SMALLER: Argument = Argument::Flag(
+    "only-smaller",
+    "Keep only what gets smaller in bytes",
+    "Keep only what gets smaller: if the records of a file are not fewer bytes than the file
+has, neither they nor the report are kept, nor what an earlier walk made of it, and
+`larger PATH read N written M` is printed. It is neither done nor refused, and the last
+line counts it: `files N skipped N refused N larger N`",
+);
+
+const BYTES: Argument = Argument::Flag(
+    "bytes",
+    "Tell bytes read and written too",
+    "Tell bytes too: the lines `done`, `same`, `larger`, `channel` and `files` go on with
+` bytes N M`, those read and those written; the last line sums up what is done or same",
+);
+
+const NO_INT24: Argument = Argument::Flag(
+    "no-int24",
+    "Pack without 24-bit integers: records that libmseed 2 and the tools built on it can read",
+    "Pack without 24-bit integers (encoding 2): records that libmseed 2 and the tools built
+on it can read. They are the fewest of the other four kinds, and the report says so, by
+a line `kinds steim2 steim1 int16 int32` after that of the tolerance",
+);
+
+const STRICT: Argument = Argument::Flag(
+    "strict",
+    "Refuse a record whose last sample is not its reverse constant",
+    "Refuse a record whose last sample is not its reverse constant, as `18 ReverseMismatch`.
+Without it such records are read, and counted as mismatched",
+);
 
 /// `--below`, in a line.
 pub(crate) const BELOW: &str = "Walk only this folder of the archive. May be repeated";
@@ -281,61 +356,6 @@ pub(crate) const LONG_BELOW: &str =
     "Walk only this folder of the archive, given by its path from ROOT, as 2020/XX/TEST/BHZ.D.
 May be repeated, for folders of which none is another or stands below it: they are
 walked in the order in which they are given. All paths are still counted from ROOT";
-
-/// `--resume`, in a line.
-pub(crate) const RESUME: &str = "Leave files alone that an earlier walk with this option did";
-
-/// `--resume`.
-pub(crate) const LONG_RESUME: &str =
-    "Leave files alone that an earlier walk with this option did: their records and their
-report are whole, of this length, tolerance and choice of kinds, and made from an input
-of the same size and time of change. For them one line is printed, which counts as one
-of those done: `same PATH read N written M`";
-
-/// `--check`, in a line.
-pub(crate) const CHECKED: &str =
-    "Hold records against their report and their file before they get their name";
-
-/// `--check`.
-pub(crate) const LONG_CHECKED: &str =
-    "Read records and report again before they get their names, hold one against the other,
-as `check` does, and compare the records with the file itself, as `compare` does. If the
-report does not show that they are the fewest, or if they are not the same data, neither
-is kept, and `notshown PATH` or `differs PATH` is printed, which counts as one of those
-refused";
-
-/// `--only-smaller`, in a line.
-pub(crate) const ONLY_SMALLER: &str = "Keep only what gets smaller in bytes";
-
-/// `--only-smaller`.
-pub(crate) const LONG_ONLY_SMALLER: &str =
-    "Keep only what gets smaller: if the records of a file are not fewer bytes than the file
-has, neither they nor the report are kept, nor what an earlier walk made of it, and
-`larger PATH read N written M` is printed. It is neither done nor refused, and the last
-line counts it: `files N skipped N refused N larger N`";
-
-/// `--bytes`, in a line.
-pub(crate) const BYTES: &str = "Tell bytes read and written too";
-
-/// `--bytes`.
-pub(crate) const LONG_BYTES: &str =
-    "Tell bytes too: the lines `done`, `same`, `larger`, `channel` and `files` go on with
-` bytes N M`, those read and those written; the last line sums up what is done or same";
-
-/// The first folder of `archive`.
-pub(crate) const ROOT: &str = "The folder of the archive";
-
-/// The second folder of `archive`.
-pub(crate) const OUT_FOLDER: &str = "The folder of the records. It is made if it is missing";
-
-/// The third folder of `archive`.
-pub(crate) const REPORTS: &str = "The folder of the reports. It is made if it is missing";
-
-/// The first file of `check`.
-pub(crate) const PACKED: &str = "The file with the packed records";
-
-/// The second file of `check`.
-pub(crate) const REPORT: &str = "The file with their report";
 
 /// `--length`.
 pub(crate) const LENGTH: &str =
@@ -351,16 +371,6 @@ pub(crate) const LONG_DAY_LENGTH: &str =
 or `same`, for each file the length of its first record, if it is one of these, and
 else 512";
 
-/// `--no-int24`, in a line.
-pub(crate) const NO_INT24: &str =
-    "Pack without 24-bit integers: records that libmseed 2 and the tools built on it can read";
-
-/// `--no-int24`.
-pub(crate) const LONG_NO_INT24: &str =
-    "Pack without 24-bit integers (encoding 2): records that libmseed 2 and the tools built
-on it can read. They are the fewest of the other four kinds, and the report says so, by
-a line `kinds steim2 steim1 int16 int32` after that of the tolerance";
-
 /// `--tolerance`, in a line.
 pub(crate) const TOLERANCE: &str =
     "Microseconds by which a record may be early or late and still join a segment: 1 to 1000000";
@@ -370,20 +380,6 @@ pub(crate) const LONG_TOLERANCE: &str =
     "Microseconds by which a record may be early or late and still join a segment: 1 to
 1000000. The expected time is counted from the start of the segment, so that small
 errors do not add up";
-
-/// `--strict`, in a line.
-pub(crate) const STRICT: &str = "Refuse a record whose last sample is not its reverse constant";
-
-/// `--strict`.
-pub(crate) const LONG_STRICT: &str =
-    "Refuse a record whose last sample is not its reverse constant, as `18 ReverseMismatch`.
-Without it such records are read, and counted as mismatched";
-
-/// The input of `repack` and `list`.
-pub(crate) const IN: &str = "The file to read, or - for standard input";
-
-/// The output of `repack`.
-pub(crate) const OUT: &str = "The file to write the records to. Without it they are not kept";
 
 /// The output and the input have one name.
 pub(crate) const SAME_FILE: &str = "msrepack: the output is the input\n";

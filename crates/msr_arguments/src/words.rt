@@ -3,8 +3,8 @@ ghost use Rattle.std.specs.Prelude.{◌≡◌, ◌≢◌, ◌<◌, ◌↔◌, �
 ghost use Rattle.msr_kinds.specs.Lengths.{bytes_of};
 ghost use Rattle.msr_kinds.specs.RecordLength.{IsRecordLength};
 ghost use Rattle.clap.specs.Words.{first_value, found_of, kind_of, one_text, subcommand_name_of};
-ghost use Rattle.msr_arguments.specs.Found.{AsksArchive, AsksBelow, AsksCheck, AsksDays, AsksFlags, AsksFolders, AsksOptions, AsksTask, AsksVerify, EndsFor, EndsWith, HoldsOptions, IsBadLine, IsFlagOf, IsKindsOf, IsLengthOf, IsNumberOf, IsWrong, length_in, without_slash};
-ghost use Rattle.msr_options.specs.Tasks.{AreApart, AreBothStandard, AreOptions, HasStatus, HasTolerance, IsBelow, IsDefault, IsTolerance, KeepsInput, Overlap, StandApart, verb_of, word_of};
+ghost use Rattle.msr_arguments.specs.Found.{AsksArchive, AsksBelow, AsksCheck, AsksDays, AsksFolders, AsksOptions, AsksTask, AsksVerify, EndsFor, EndsWith, HoldsOptions, IsBadLine, IsFlagOf, IsKindsOf, IsLengthOf, IsNumberOf, IsWrong, without_slash};
+ghost use Rattle.msr_options.specs.Tasks.{AreApart, AreBothStandard, HasStatus, HasTolerance, IsDefault, IsTolerance, KeepsInput, Overlap, StandApart, verb_of, word_of};
 ghost use Rattle.msr_options.specs.declared.task.NoTask.TheVariants.{NotALength};
 ghost use Rattle.msr_options.specs.declared.task.Task.TheVariants.{Compare, Feed, Repack};
 
@@ -15,7 +15,7 @@ use clap::error::ErrorKind;
 use msr_kinds::{Kinds, Length};
 use msr_options::{
     Archiving, Checking, Comparing, DayOptions, Ending, Feeding, Folders, Listing, NoTask, Options,
-    Repacking, Task, Verb, Verifying,
+    Repacking, Task, Verb, Verifying, overlap,
 };
 use msr_sds::levels_below;
 use std::alloc::{AllocError, Global};
@@ -26,22 +26,15 @@ const LENGTH: u32 = 512;
 /// The tolerance in microseconds if none is asked for.
 const TOLERANCE: u32 = 1000;
 
-/// How an input is repacked if nothing else is asked for.
-fn default_options() -> Options
-    ensures { AreOptions 512 1000 false Kinds.All result }
-{
-    let length = Length::new(LENGTH).unwrap();
-    Options::new(length, TOLERANCE).unwrap()
-}
-
 /// What is done if there are no words.
 fn default_task<'a>() -> Task<'a>
     ensures default { IsDefault result }
     ensures tolerance { HasTolerance result }
     ensures keeps_input { KeepsInput result }
 {
+    let length = Length::new(LENGTH).unwrap();
     Task::Repack(Repacking {
-        options: default_options(),
+        options: Options::new(length, TOLERANCE).unwrap(),
         input: "-",
         output: None,
     })
@@ -55,6 +48,18 @@ fn wrong(alloc: Global, text: &str) -> NoTask
         Ok(text) => NoTask::Ending(Ending { text, status: 2 }),
         Err(AllocError) => NoTask::Memory,
     }
+}
+
+/// Refuses a line that asks for what is not done, with this text.
+fn refuse_if(alloc: Global, is_wrong: bool, text: &str) -> Result<(), NoTask>
+    ensures ok { IsOk result ↔ (is_wrong ≡ false) }
+    ensures text { IfErr result (IsWrong text.now) }
+    ensures status { IfErr result IsBadLine }
+{
+    if is_wrong {
+        return Err(wrong(alloc, text));
+    }
+    Ok(())
 }
 
 /// What clap lets no line through without, so that the answer to a line without it is not seen.
@@ -88,22 +93,6 @@ fn ending_with(alloc: Global, error: &clap::Error, status: u8) -> NoTask
         Ok(text) => NoTask::Ending(Ending { text, status }),
         Err(AllocError) => NoTask::Memory,
     }
-}
-
-/// These options, exactly if the tolerance is in its range.
-fn options_of(
-    alloc: Global,
-    length: Length,
-    tolerance: u32,
-    strict: bool,
-    kinds: Kinds,
-) -> Result<Options, NoTask>
-    ensures ok { IsOk result ↔ IsTolerance tolerance }
-    ensures asked { IfOk result (AreOptions (bytes_of length) tolerance strict kinds) }
-    ensures status { IfErr result IsBadLine }
-{
-    let options = required(alloc, Options::new(length, tolerance))?;
-    Ok(options.strict(strict).kinds(kinds))
 }
 
 fn number_in(found: &ArgMatches<'_>, name: &str) -> Option<u32>
@@ -151,16 +140,6 @@ fn length_of(alloc: Global, length: Option<&str>) -> Result<Length, NoTask>
     Length::new(bytes).ok_or(NoTask::NotALength)
 }
 
-/// Whether the length is that of each day's first record.
-fn is_same(length: Option<&str>) -> bool
-    ensures { IsTrue result ↔ (option_map (λ text. text.now) length.entry ≡ Some (codes "same")) }
-{
-    match length {
-        Some(text) => text == "same",
-        None => false,
-    }
-}
-
 fn flag_in(found: &ArgMatches<'_>, name: &str) -> bool
     ensures { IsFlagOf (one_text (found_of found.now) name.now) result }
 {
@@ -194,8 +173,12 @@ fn options_in(
 {
     let length = length_of(alloc, length)?;
     let tolerance = required(alloc, number_in(found, "tolerance"))?;
-    let strict = flag_in(found, "strict");
-    options_of(alloc, length, tolerance, strict, kinds_in(found))
+    let options = required(alloc, Options::new(length, tolerance))?;
+    Ok(
+        options
+            .strict(flag_in(found, "strict"))
+            .kinds(kinds_in(found)),
+    )
 }
 
 /// The value of this name.
@@ -205,30 +188,6 @@ fn given<'a>(alloc: Global, found: &ArgMatches<'a>, name: &str) -> Result<&'a st
     ensures status { IfErr result IsBadLine }
 {
     required(alloc, found.get_str(name))
-}
-
-/// A file to be repacked, exactly if the output is not the input.
-fn repacking_of<'a>(
-    alloc: Global,
-    options: Options,
-    input: &'a str,
-    output: Option<&'a str>,
-) -> Result<Repacking<'a>, NoTask>
-    ensures ok { IsOk result ↔ IfSome output.entry (λ name. name.now ≢ input.now) }
-    ensures asked { IfOk result (λ asked. (asked.options ≡ options) × (asked.input.now ≡ input.now)
-        × (asked.output ≡ output.entry)) }
-    ensures status { IfErr result IsBadLine }
-{
-    if let Some(name) = output {
-        if name == input {
-            return Err(wrong(alloc, texts::SAME_FILE));
-        }
-    }
-    Ok(Repacking {
-        options,
-        input,
-        output,
-    })
 }
 
 /// Packed records to be checked: first the file with the records, then that with the report.
@@ -241,23 +200,6 @@ fn checking_in<'a>(alloc: Global, found: &ArgMatches<'a>) -> Result<Checking<'a>
     let packed = given(alloc, found, "PACKED")?;
     let report = given(alloc, found, "REPORT")?;
     Ok(Checking { packed, report })
-}
-
-/// Whether one folder is the other, or stands below it, by their names.
-fn overlap(a: &str, b: &str) -> bool
-    ensures { IsTrue result ↔ Overlap a.now b.now }
-{
-    a == b || is_below(a, b) || is_below(b, a)
-}
-
-/// Whether the second stands below the first, by their names.
-fn is_below(folder: &str, path: &str) -> bool
-    ensures { IsTrue result ↔ IsBelow folder.now path.now }
-{
-    match path.strip_prefix(folder) {
-        Some(rest) => rest.starts_with('/'),
-        None => false,
-    }
 }
 
 fn folders_in<'a>(alloc: Global, found: &ArgMatches<'a>) -> Result<Folders<'a>, NoTask>
@@ -299,25 +241,6 @@ fn folders_named<'a>(alloc: Global, given: &[&'a str]) -> Result<Vec<&'a str>, A
 }
 
 /// The folders of an archive that are to be walked: paths of names, of which no two overlap.
-fn below_of<'a>(alloc: Global, given: &[&'a str]) -> Result<Vec<&'a str>, NoTask>
-    ensures asked { IfOk result (λ below. map (λ folder. folder.now) below.items
-        ≡ map (λ folder. without_slash folder.now) given.now) }
-    ensures apart { IfOk result (λ below. AreApart (map (λ folder. folder.now) below.items)) }
-    ensures status { IfErr result IsBadLine }
-{
-    let folders = folders_named(alloc, given)?;
-    let below = folders.as_slice();
-    for place in 0..below.len() {
-        if levels_below(below[place]).is_none() {
-            return Err(wrong(alloc, texts::NOT_BELOW));
-        }
-        if overlaps_one(&below[..place], below[place]) {
-            return Err(wrong(alloc, texts::OVERLAP));
-        }
-    }
-    Ok(folders)
-}
-
 fn below_in<'a>(alloc: Global, found: &ArgMatches<'a>) -> Result<Vec<&'a str>, NoTask>
     ensures asked { IfOk result (λ below. AsksBelow (found_of found.now) (map (λ folder. folder.now) below.items)) }
     ensures apart { IfOk result (λ below. AreApart (map (λ folder. folder.now) below.items)) }
@@ -326,23 +249,21 @@ fn below_in<'a>(alloc: Global, found: &ArgMatches<'a>) -> Result<Vec<&'a str>, N
     let Some(given) = found.get_strs("below") else {
         return Ok(Vec::new(alloc));
     };
-    let below = below_of(alloc, given)?;
-    Ok(below)
-}
-
-/// What is asked of the days of an archive, with these options.
-fn days_with(found: &ArgMatches<'_>, options: Options, same_length: bool) -> DayOptions
-    ensures asked { AsksFlags (found_of found.now) result }
-    ensures options { (result.options ≡ options) × (result.same_length ≡ same_length) }
-{
-    DayOptions {
-        options,
-        same_length,
-        resume: flag_in(found, "resume"),
-        check: flag_in(found, "check"),
-        only_smaller: flag_in(found, "only-smaller"),
-        bytes: flag_in(found, "bytes"),
+    let folders = folders_named(alloc, given)?;
+    let below = folders.as_slice();
+    for place in 0..below.len() {
+        refuse_if(
+            alloc,
+            levels_below(below[place]).is_none(),
+            texts::NOT_BELOW,
+        )?;
+        refuse_if(
+            alloc,
+            overlaps_one(&below[..place], below[place]),
+            texts::OVERLAP,
+        )?;
     }
+    Ok(folders)
 }
 
 /// What is asked of the days of an archive. If each is to have the length of its first record, that of the options is
@@ -353,41 +274,15 @@ fn days_in(alloc: Global, found: &ArgMatches<'_>) -> Result<DayOptions, NoTask>
     ensures status { IfErr result IsBadLine }
 {
     let length = found.get_str("length");
-    if is_same(length) {
-        let options = options_in(alloc, found, None)?;
-        return Ok(days_with(found, options, true));
-    }
-    let options = options_in(alloc, found, length)?;
-    Ok(days_with(found, options, false))
-}
-
-/// Whether no two of the folders overlap.
-fn stand_apart(folders: Folders<'_>) -> bool
-    ensures { IsTrue result ↔ StandApart folders.entry }
-{
-    let Folders { root, out, reports } = folders;
-    !(overlap(root, out) || overlap(root, reports) || overlap(out, reports))
-}
-
-/// An archive to be repacked, exactly if no two folders overlap.
-fn archiving_of<'a>(
-    alloc: Global,
-    folders: Folders<'a>,
-    below: Vec<&'a str>,
-    days: DayOptions,
-) -> Result<Archiving<'a>, NoTask>
-    ensures ok { IsOk result ↔ StandApart folders.entry }
-    ensures asked { IfOk result (λ asked. (asked.folders ≡ folders.entry)
-        × (asked.below ≡ below.entry) × (asked.days ≡ days)) }
-    ensures status { IfErr result IsBadLine }
-{
-    if !stand_apart(folders) {
-        return Err(wrong(alloc, texts::OVERLAP));
-    }
-    Ok(Archiving {
-        folders,
-        below,
-        days,
+    let same_length = length == Some("same");
+    let options = options_in(alloc, found, if same_length { None } else { length })?;
+    Ok(DayOptions {
+        options,
+        same_length,
+        resume: flag_in(found, "resume"),
+        check: flag_in(found, "check"),
+        only_smaller: flag_in(found, "only-smaller"),
+        bytes: flag_in(found, "bytes"),
     })
 }
 
@@ -400,23 +295,13 @@ fn archiving_in<'a>(alloc: Global, found: &ArgMatches<'a>) -> Result<Archiving<'
 {
     let days = days_in(alloc, found)?;
     let below = below_in(alloc, found)?;
-    archiving_of(alloc, folders_in(alloc, found)?, below, days)
-}
-
-/// An archive whose repack is to be verified, exactly if no two folders overlap.
-fn verifying_of<'a>(
-    alloc: Global,
-    folders: Folders<'a>,
-    below: Vec<&'a str>,
-) -> Result<Verifying<'a>, NoTask>
-    ensures ok { IsOk result ↔ StandApart folders.entry }
-    ensures asked { IfOk result (λ asked. (asked.folders ≡ folders.entry) × (asked.below ≡ below.entry)) }
-    ensures status { IfErr result IsBadLine }
-{
-    if !stand_apart(folders) {
-        return Err(wrong(alloc, texts::OVERLAP));
-    }
-    Ok(Verifying { folders, below })
+    let folders = folders_in(alloc, found)?;
+    refuse_if(alloc, !folders.stand_apart(), texts::OVERLAP)?;
+    Ok(Archiving {
+        folders,
+        below,
+        days,
+    })
 }
 
 /// The archive that clap found, whose repack is to be verified.
@@ -426,16 +311,9 @@ fn verifying_in<'a>(alloc: Global, found: &ArgMatches<'a>) -> Result<Verifying<'
     ensures status { IfErr result IsBadLine }
 {
     let below = below_in(alloc, found)?;
-    verifying_of(alloc, folders_in(alloc, found)?, below)
-}
-
-/// The options of a command that is no archive's.
-fn options_for(alloc: Global, found: &ArgMatches<'_>) -> Result<Options, NoTask>
-    ensures asked { IfOk result (AsksOptions (found_of found.now) (length_in (found_of found.now))) }
-    ensures tolerance { IfOk result (λ options. IsTolerance options.tolerance) }
-    ensures status { IfErr result IsBadLine }
-{
-    options_in(alloc, found, found.get_str("length"))
+    let folders = folders_in(alloc, found)?;
+    refuse_if(alloc, !folders.stand_apart(), texts::OVERLAP)?;
+    Ok(Verifying { folders, below })
 }
 
 /// The file to be repacked that clap found.
@@ -445,9 +323,15 @@ fn repacking_in<'a>(alloc: Global, found: &ArgMatches<'a>) -> Result<Repacking<'
     ensures keeps_input { IfOk result (λ asked. IfSome asked.output (λ name. name.now ≢ asked.input.now)) }
     ensures status { IfErr result IsBadLine }
 {
-    let options = options_for(alloc, found)?;
+    let options = options_in(alloc, found, found.get_str("length"))?;
     let input = given(alloc, found, "IN")?;
-    repacking_of(alloc, options, input, found.get_str("OUT"))
+    let output = found.get_str("OUT");
+    refuse_if(alloc, output == Some(input), texts::SAME_FILE)?;
+    Ok(Repacking {
+        options,
+        input,
+        output,
+    })
 }
 
 /// The file whose segments are to be listed that clap found.
@@ -456,7 +340,7 @@ fn listing_in<'a>(alloc: Global, found: &ArgMatches<'a>) -> Result<Listing<'a>, 
     ensures tolerance { IfOk result (λ asked. IsTolerance asked.options.tolerance) }
     ensures status { IfErr result IsBadLine }
 {
-    let options = options_for(alloc, found)?;
+    let options = options_in(alloc, found, found.get_str("length"))?;
     let input = given(alloc, found, "IN")?;
     Ok(Listing { options, input })
 }
@@ -467,31 +351,9 @@ fn feeding_in<'a>(alloc: Global, found: &ArgMatches<'a>) -> Result<Feeding<'a>, 
     ensures tolerance { IfOk result (λ asked. IsTolerance asked.options.tolerance) }
     ensures status { IfErr result IsBadLine }
 {
-    let options = options_for(alloc, found)?;
+    let options = options_in(alloc, found, found.get_str("length"))?;
     let report = given(alloc, found, "REPORT")?;
     Ok(Feeding { options, report })
-}
-
-/// Two files to be compared, exactly if not both are standard input.
-fn comparing_of<'a>(
-    alloc: Global,
-    options: Options,
-    one: &'a str,
-    other: &'a str,
-) -> Result<Comparing<'a>, NoTask>
-    ensures ok { IsOk result ↔ ¬ (AreBothStandard one.now other.now) }
-    ensures asked { IfOk result (λ asked. (asked.options ≡ options) × (asked.one.now ≡ one.now)
-        × (asked.other.now ≡ other.now)) }
-    ensures status { IfErr result IsBadLine }
-{
-    if one == "-" && other == "-" {
-        return Err(wrong(alloc, texts::ONE_STANDARD_INPUT));
-    }
-    Ok(Comparing {
-        options,
-        one,
-        other,
-    })
 }
 
 /// The files to be compared that clap found.
@@ -501,10 +363,15 @@ fn comparing_in<'a>(alloc: Global, found: &ArgMatches<'a>) -> Result<Comparing<'
     ensures keeps_input { IfOk result (λ asked. ¬ (AreBothStandard asked.one.now asked.other.now)) }
     ensures status { IfErr result IsBadLine }
 {
-    let options = options_for(alloc, found)?;
+    let options = options_in(alloc, found, found.get_str("length"))?;
     let one = given(alloc, found, "ONE")?;
     let other = given(alloc, found, "OTHER")?;
-    comparing_of(alloc, options, one, other)
+    refuse_if(alloc, one == "-" && other == "-", texts::ONE_STANDARD_INPUT)?;
+    Ok(Comparing {
+        options,
+        one,
+        other,
+    })
 }
 
 /// What clap found.

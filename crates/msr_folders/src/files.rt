@@ -56,13 +56,8 @@ impl Look {
     pub fn at<R: Files>(rt: &R, path: &str) -> Look {
         match fs::metadata(rt, path) {
             Ok(metadata) => Look::Found(metadata),
-            Err(error) => {
-                if tells_none(error.kind()) {
-                    Look::Nothing
-                } else {
-                    Look::Unknown
-                }
-            }
+            Err(error) if tells_none(error.kind()) => Look::Nothing,
+            Err(_) => Look::Unknown,
         }
     }
 
@@ -110,13 +105,8 @@ pub fn settle<F: OpenFile>(file: &F) -> Result<(), DeviceFault>
     ensures { IfErr result (λ fault. fault ≡ DeviceFault.Failed) }
 {
     match file.metadata() {
-        Ok(metadata) => {
-            if metadata.is_file() {
-                settle_regular(file)
-            } else {
-                Ok(())
-            }
-        }
+        Ok(metadata) if metadata.is_file() => settle_regular(file),
+        Ok(_) => Ok(()),
         Err(_) => Err(DeviceFault::Failed),
     }
 }

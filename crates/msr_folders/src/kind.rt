@@ -14,23 +14,12 @@ pub enum FileKind {
 
 /// Links are followed, and one that leads nowhere is an entry. What the system does not tell of may be a folder: then
 /// it is refused if it has no list, and no part of the archive is taken for something else.
-pub fn kind_of<R: Files>(rt: &R, path: &str) -> FileKind {
+pub(crate) fn kind_of<R: Files>(rt: &R, path: &str) -> FileKind {
     match fs::metadata(rt, path) {
-        Ok(metadata) => {
-            if metadata.is_dir() {
-                FileKind::Folder
-            } else {
-                FileKind::Other
-            }
-        }
-        Err(error) => {
-            if error.kind() != ErrorKind::NotFound {
-                FileKind::Folder
-            } else if fs::symlink_metadata(rt, path).is_ok() {
-                FileKind::Other
-            } else {
-                FileKind::Gone
-            }
-        }
+        Ok(metadata) if metadata.is_dir() => FileKind::Folder,
+        Ok(_) => FileKind::Other,
+        Err(error) if error.kind() != ErrorKind::NotFound => FileKind::Folder,
+        Err(_) if fs::symlink_metadata(rt, path).is_ok() => FileKind::Other,
+        Err(_) => FileKind::Gone,
     }
 }

@@ -13,9 +13,8 @@ mod visitor;
 
 pub use files::{FileId, Look, is_gone, may_be_one, open_regular, settle, settle_regular};
 pub use found::WalkFound;
-pub use kind::{FileKind, kind_of};
-pub use listing::{ListFault, names_in};
-pub use paths::{Shown, ended, entry_path, folder_of, join, shown_path};
+pub use kind::FileKind;
+pub use paths::{Shown, ended, folder_of, join, shown_path};
 pub use places::{Place, folders_overlap, place_of};
 pub use totals::{Total, Totals};
 pub use visitor::{FolderWalk, Visitor, visit_folders};

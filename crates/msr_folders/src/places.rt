@@ -57,15 +57,11 @@ fn nearest_folder<'a, R: Files>(rt: &R, path: &'a str) -> Option<Folder<'a>> {
     let mut place = path;
     for _ in 0..=path.len() {
         match Look::at(rt, place) {
-            Look::Found(metadata) => {
-                if metadata.is_dir() {
-                    return Some(Folder {
-                        path: place,
-                        id: FileId::of(&metadata),
-                    });
-                }
-            }
-            Look::Nothing => {}
+            Look::Found(metadata) if metadata.is_dir() => return Some(Folder {
+                path: place,
+                id: FileId::of(&metadata),
+            }),
+            Look::Found(_) | Look::Nothing => {}
             Look::Unknown => return None,
         }
         place = above(place);

@@ -9,7 +9,7 @@ use std::marker::Model;
 
 /// The number of the adds of a name, and the two sums of what was added. Each stops at the greatest
 /// number of 64 bits.
-#[derive(Clone, Copy, Debug, PartialEq, Eq)]
+#[derive(Clone, Copy)]
 pub struct Total {
     pub files: u64,
     pub read: u64,

@@ -5,11 +5,12 @@ ghost use Rattle.msr_devices.specs.declared.fault.DeviceFault.{DeviceFault};
 ghost use Rattle.msr_folders.specs.Visits.{VisitorLaws};
 
 use crate::kind::{FileKind, kind_of};
-use crate::listing::{ListFault, names_in};
+use crate::listing::names_in;
 use crate::paths::{entry_path, join};
 use msr_devices::{DeviceFault, Sink};
 use msr_sds::{FOLDERS, levels_below};
 use std::alloc::{AllocError, Global};
+use std::io::ErrorKind;
 use std::rt::Files;
 
 /// What is done on a walk through folders: each step prints to a sink, and counts.
@@ -86,8 +87,8 @@ fn visit_folder<R: Files, V: Visitor, O: Sink>(
     let place = join(alloc, walk.root, folder)?;
     let names = match names_in(walk.rt, alloc, place.as_str()) {
         Ok(names) => names,
-        Err(ListFault::Memory) => return Err(DeviceFault::Memory),
-        Err(ListFault::Listing) => return walk
+        Err(error) if error.kind() == ErrorKind::OutOfMemory => return Err(DeviceFault::Memory),
+        Err(_) => return walk
             .visitor
             .visit_unlisted(folder, place.as_str(), out, tally),
     };

@@ -15,5 +15,5 @@ pub use hint::{Hint, write_hint};
 pub use options::Options;
 pub use task::{
     Archiving, Checking, Comparing, Ending, Feeding, Folders, Listing, NoTask, Repacking, Task,
-    Verb, Verifying,
+    Verb, Verifying, overlap,
 };

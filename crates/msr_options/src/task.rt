@@ -1,4 +1,7 @@
 //! What the program can be asked to do.
+ghost use Rattle.std.specs.Prelude.{◌↔◌, IsTrue};
+ghost use Rattle.msr_options.specs.Tasks.{IsBelow, Overlap};
+
 use crate::days::DayOptions;
 use crate::options::Options;
 use std::alloc::AllocError;
@@ -56,6 +59,36 @@ pub struct Folders<'a> {
     pub root: &'a str,
     pub out: &'a str,
     pub reports: &'a str,
+}
+
+impl Folders<'_> {
+    ghost use Rattle.std.specs.Prelude.{◌↔◌, IsTrue};
+    ghost use Rattle.msr_options.specs.Tasks.{StandApart};
+
+    /// Whether no two of the folders overlap, by their names.
+    pub fn stand_apart(self) -> bool
+        ensures { IsTrue result ↔ StandApart self.entry }
+    {
+        let Folders { root, out, reports } = self;
+        !(overlap(root, out) || overlap(root, reports) || overlap(out, reports))
+    }
+}
+
+/// Whether one folder is the other, or stands below it, by their names.
+pub fn overlap(a: &str, b: &str) -> bool
+    ensures { IsTrue result ↔ Overlap a.now b.now }
+{
+    a == b || is_below(a, b) || is_below(b, a)
+}
+
+/// Whether the second stands below the first, by their names.
+fn is_below(folder: &str, path: &str) -> bool
+    ensures { IsTrue result ↔ IsBelow folder.now path.now }
+{
+    match path.strip_prefix(folder) {
+        Some(rest) => rest.starts_with('/'),
+        None => false,
+    }
 }
 
 /// An archive whose day files are to be repacked.

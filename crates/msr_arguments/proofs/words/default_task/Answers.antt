@@ -1,5 +1,5 @@
 use Rattle.std.proofs.Common.{arith, refl}
-use Rattle.msr_arguments.proofs.words.default_options.Goals as goal
+use Rattle.msr_arguments.proofs.words.default_task.Goals as goal
 
 pub unwrap-length-requires : goal.unwrap-length-requires
 unwrap-length-requires c = c.new.ensures.some.1
