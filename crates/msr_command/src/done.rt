@@ -7,7 +7,7 @@ use msr_folders::WalkFound;
 use msr_tool::Verdict;
 
 /// What a task that was done ends with.
-#[derive(Clone, Copy, Debug, PartialEq, Eq)]
+#[derive(Clone, Copy)]
 pub(crate) enum Done {
     /// Everything was written.
     Written,

@@ -6,7 +6,7 @@ use msr_tool::ToolFault;
 use std::{fmt, io};
 
 /// Why a task ended before it was done.
-#[derive(Debug, Drop)]
+#[derive(Drop)]
 pub(crate) enum TaskFault<'a> {
     /// The file with this name could not be opened, or not be made, and why.
     CannotOpen(&'a str, io::Error),

@@ -7,7 +7,7 @@ use std::marker::Model;
 use std::mem;
 
 /// What comes next.
-#[derive(Clone, Copy, Debug)]
+#[derive(Clone, Copy)]
 pub(crate) enum Next {
     /// A segment with that key begins at that instant; its samples follow.
     Begins(Key, i64),
@@ -28,7 +28,7 @@ fn rest_of(samples: &[i32], at: usize) -> &[i32]
 }
 
 /// The row at hand, as far as it was not compared. When all of it was, it is spent: its memory can be used again.
-#[derive(Debug, Drop)]
+#[derive(Drop)]
 pub(crate) struct Ahead {
     row: Option<Row>,
     begins: bool,

@@ -8,7 +8,7 @@ use crate::side::Side;
 use msr_rows::Key;
 
 /// What was found.
-#[derive(Clone, Copy, Debug)]
+#[derive(Clone, Copy)]
 pub(crate) enum Met {
     /// The same was ahead of both, and is passed.
     Agree,
@@ -19,7 +19,7 @@ pub(crate) enum Met {
 }
 
 /// Two samples that differ, and how many before them are the same.
-#[derive(Clone, Copy, Debug)]
+#[derive(Clone, Copy)]
 struct Unequal {
     at: usize,
     one: i32,

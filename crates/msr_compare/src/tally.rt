@@ -6,7 +6,7 @@ use msr_segments::Step;
 use msr_time::Rate;
 
 /// What was counted of the rows so far.
-#[derive(Clone, Copy, Debug)]
+#[derive(Clone, Copy)]
 pub(crate) struct RowTally {
     /// Where the segment begins that was begun last.
     pub start: i64,

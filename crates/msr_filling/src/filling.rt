@@ -15,7 +15,7 @@ use crate::frames::{Sizing, fill_frames};
 use msr_words::{Window, difference_after, longest_group};
 
 /// A word, with its code, and how many differences it holds.
-#[derive(Clone, Copy, Debug)]
+#[derive(Clone, Copy)]
 pub(crate) struct SteimWord {
     pub size: usize,
     pub code: u32,
@@ -23,7 +23,7 @@ pub(crate) struct SteimWord {
 }
 
 /// How a group of a given number of differences is written.
-#[derive(Clone, Copy, Debug)]
+#[derive(Clone, Copy)]
 struct Steim2Form {
     code: u32,
     top: u32,

@@ -18,7 +18,7 @@ use byteorder::{BigEndian, ByteOrder};
 use msr_words::Window;
 
 /// How the size of the next group is found.
-#[derive(Clone, Copy, Debug)]
+#[derive(Clone, Copy)]
 pub(crate) enum Sizing {
     /// A Steim-2 group is the longest that fits a word.
     Longest,

@@ -19,7 +19,7 @@ use std::alloc::{AllocError, Global};
 
 /// How a group of a given number of differences is written: the code of its word, of how many bits
 /// each is, and how many bits below them are left 0.
-#[derive(Clone, Copy, Debug)]
+#[derive(Clone, Copy)]
 struct Steim1Form {
     code: u32,
     width: u32,

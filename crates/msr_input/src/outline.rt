@@ -13,7 +13,7 @@ pub struct RowOutline {
 }
 
 /// A record without its samples.
-#[derive(Clone, Copy, Debug)]
+#[derive(Clone, Copy)]
 pub(crate) struct Outline {
     /// How many bytes the record has.
     pub length: u32,

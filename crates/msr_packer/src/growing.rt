@@ -12,7 +12,7 @@ use msr_kinds::{Form, Kind, Length};
 use msr_words::{Codec, Int16, Int24, Int32, Steim1, Steim2, difference};
 
 /// A tracker of one of the kinds.
-#[derive(Clone, Copy, Debug)]
+#[derive(Clone, Copy)]
 pub(crate) enum KindTracker {
     Steim2(Steim2),
     Steim1(Steim1),
@@ -87,7 +87,7 @@ impl KindTracker {
 }
 
 /// A run from `start` on that all samples fit so far, with its tracker.
-#[derive(Clone, Copy, Debug)]
+#[derive(Clone, Copy)]
 pub(crate) struct GrowingRun {
     pub start: usize,
     pub tracker: KindTracker,

@@ -38,7 +38,7 @@ impl Default for Piece {
 
 /// A step with the kinds of its run. The run is cut where the next one starts: at `end`, and then its kind is `whole`,
 /// or one sample before, and then it is `short`.
-#[derive(Clone, Copy, Debug)]
+#[derive(Clone, Copy)]
 pub(crate) struct RunToCut {
     pub frontier: usize,
     pub start: usize,

@@ -18,7 +18,7 @@ use msr_words::{
 };
 
 /// One record more: it starts at `start`, reaches to `end`, and is of that kind.
-#[derive(Clone, Copy, Debug, PartialEq, Eq)]
+#[derive(Clone, Copy)]
 pub(crate) struct StepRun {
     pub start: usize,
     pub end: usize,
@@ -42,7 +42,7 @@ impl StepRun {
 
 /// Ends of runs from a frontier, by their kind. One that is not needed is the frontier itself. The run of Steim-2 has so
 /// many `groups`, if they were told, else 0.
-#[derive(Clone, Copy, Debug, PartialEq, Eq)]
+#[derive(Clone, Copy)]
 pub(crate) struct Ends {
     pub steim2: usize,
     pub steim1: usize,
@@ -53,14 +53,14 @@ pub(crate) struct Ends {
 }
 
 /// The step with records of Steim-1 alone, and the end of the run of that kind from the frontier itself.
-#[derive(Clone, Copy, Debug, PartialEq, Eq)]
+#[derive(Clone, Copy)]
 pub(crate) struct Steim1Step {
     pub step: StepRun,
     pub end: usize,
 }
 
 /// A step, with the ends that tell the kind of its run when that is cut.
-#[derive(Clone, Copy, Debug, PartialEq, Eq)]
+#[derive(Clone, Copy)]
 pub(crate) struct StepWithEnds {
     pub step: StepRun,
     pub ends: Ends,

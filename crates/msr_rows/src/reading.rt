@@ -143,7 +143,7 @@ fn is_in_time(rate: &Rate, start: i64, count: u16) -> bool
 }
 
 /// A record whose header and fields have no fault.
-#[derive(Clone, Copy, Debug)]
+#[derive(Clone, Copy)]
 pub(crate) struct Opened {
     /// Its header.
     pub header: Header,

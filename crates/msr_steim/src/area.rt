@@ -119,7 +119,7 @@ fn count_codes(codes: u32) -> (u32, u32, u32)
 }
 
 /// How the words of an area are read. No sample depends on it.
-#[derive(Clone, Copy, Debug, PartialEq, Eq)]
+#[derive(Clone, Copy)]
 pub(crate) enum Reading {
     /// With a jump by the size of each group.
     ByJumps,

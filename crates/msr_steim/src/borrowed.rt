@@ -15,7 +15,7 @@ use msr_kinds::Version;
 use std::marker::Model;
 
 /// The fields of `word` that are left: `count` fields of `width` bits each, in its lowest bits.
-#[derive(Clone, Copy, Debug, PartialEq, Eq)]
+#[derive(Clone, Copy, Debug)]
 struct Fields {
     word: u32,
     count: u32,

@@ -10,7 +10,7 @@ use crate::word::{difference_at, layout_for};
 use msr_kinds::Version;
 
 /// How far the samples are written.
-#[derive(Clone, Copy, Debug, PartialEq, Eq)]
+#[derive(Clone, Copy)]
 pub(crate) struct Progress {
     /// The next sample's place.
     pub place: usize,

@@ -13,7 +13,7 @@ use thiserror::Error;
 pub type Group = ArrayVec<i32, 7>;
 
 /// How a word is laid out: `count` fields of `width` bits each, in its lowest bits.
-#[derive(Clone, Copy, Debug, PartialEq, Eq)]
+#[derive(Clone, Copy)]
 pub(crate) struct WordLayout {
     /// The number of fields.
     pub count: u32,
@@ -22,7 +22,7 @@ pub(crate) struct WordLayout {
 }
 
 /// How a group is written.
-#[derive(Clone, Copy, Debug, PartialEq, Eq)]
+#[derive(Clone, Copy)]
 pub(crate) struct GroupLayout {
     /// The code of its word.
     pub code: u8,

@@ -6,7 +6,7 @@ use msr_input::RowOutline;
 use msr_rows::Key;
 
 /// The segment that was begun last, as its line tells it: without its samples.
-#[derive(Clone, Copy, Debug)]
+#[derive(Clone, Copy)]
 pub(crate) struct ListedSegment {
     /// The segment's key.
     pub key: Key,

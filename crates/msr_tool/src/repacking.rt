@@ -17,7 +17,7 @@ use msr_report::Report;
 use std::alloc::Global;
 
 /// When the records that wait are written.
-#[derive(Clone, Copy, Debug, PartialEq, Eq)]
+#[derive(Clone, Copy, PartialEq, Eq)]
 enum Flush {
     /// When they are 64 KiB or more.
     Full,

@@ -8,7 +8,7 @@ use crate::counts::magnitude;
 use std::alloc::{AllocError, Global};
 
 /// How many differences the first group has, and the least number of groups after it.
-#[derive(Clone, Copy, Debug)]
+#[derive(Clone, Copy)]
 struct FirstGroup {
     size: u8,
     after: usize,
@@ -16,7 +16,7 @@ struct FirstGroup {
 
 /// What is known of the differences from some place to the end: how many the first group has, the least numbers of
 /// groups, and how large the first three are, or `u64::MAX` if there are fewer.
-#[derive(Clone, Copy, Debug)]
+#[derive(Clone, Copy)]
 pub(crate) struct Following {
     /// How many differences the first group has.
     pub group: u8,

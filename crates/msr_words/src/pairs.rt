@@ -8,7 +8,7 @@ ghost use Rattle.msr_words.specs.Pairs.{AreBelow, ArePairs};
 use std::simd::prelude::*;
 
 /// Which words hold two differences, where all hold two or one.
-#[derive(Clone, Copy, Debug)]
+#[derive(Clone, Copy)]
 pub(crate) struct Pairs {
     /// The bit of a difference is set if it and the next are of 16 bits.
     pub both: u64,
@@ -18,7 +18,7 @@ pub(crate) struct Pairs {
 
 /// Where a walk over Steim-1 words stands: at that sample, after so many words. `spare` says that the last difference is
 /// of 8 bits and that the words can end before it, so that it may stand in the word after them.
-#[derive(Clone, Copy, Debug)]
+#[derive(Clone, Copy)]
 pub(crate) struct Walk {
     pub at: usize,
     pub words: usize,

@@ -19,7 +19,7 @@ use msr_steim::fits_bits;
 
 /// How many differences the next word adds. `spare` says that the last of them is of 8 bits and that the words can end
 /// before it, so that it may stand in the word after them.
-#[derive(Clone, Copy, Debug)]
+#[derive(Clone, Copy)]
 struct NextWord {
     size: usize,
     spare: bool,
