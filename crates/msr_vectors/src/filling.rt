@@ -1,14 +1,12 @@
 //! Areas of frames that are filled with a run.
 
-ghost use Rattle.std.specs.Prelude.{IfSome};
-ghost use Rattle.msr_words.specs.Groups.{AreGroupSizes};
-ghost use Rattle.msr_words.specs.Segment.{differences};
+ghost use Rattle.std.specs.Prelude.{◌≡◌, ◌<◌, length};
+ghost use Rattle.msr_packer.specs.HeldSamples.{before_place};
 
 use crate::lists::Hexadecimal;
 use crate::words::Words;
-use msr_filling::{fill_steim1, fill_steim2, fill_steim2_groups};
-use msr_words::{Fitting, Kind, Length, longest_group};
-use std::alloc::Global;
+use msr_filling::{fill_steim1, fill_steim2, fill_steim2_told, steim2_words};
+use msr_words::{Fitting, Kind, Length};
 
 /// `area1 BEFORE SAMPLES`: the area of Steim-1 of a record of 256 bytes.
 pub fn steim1(words: &mut Words<'_>) -> Option<String> {
@@ -32,38 +30,46 @@ pub fn steim2(words: &mut Words<'_>) -> Option<String> {
     format!(in words.alloc; "{used} {}", Hexadecimal(&area)).ok()
 }
 
-/// How many data words the area of a record of 4,096 bytes has.
-const WORDS: usize = 943;
-
-/// The sizes of the groups, unless a difference has more than 30 bits or memory ran out.
-fn group_sizes(alloc: Global, before: Option<i32>, run: &[i32]) -> Option<Vec<u8>>
-    ensures { IfSome result (λ sizes. AreGroupSizes (differences before run.now) sizes.items) }
+/// The sample before that one, if there is one.
+fn before_sample(samples: &[i32], start: usize) -> Option<i32>
+    requires { start < length samples.now }
+    ensures { result ≡ before_place samples.now start }
 {
-    let mut sizes = Vec::new(alloc);
-    let mut at = 0;
-    while at < run.len() {
-        let size = longest_group(before, run, at);
-        if size == 0 {
-            return None;
-        }
-        sizes.push(size as u8).ok()?;
-        at += size;
-    }
-    Some(sizes)
-}
-
-/// `sizes BEFORE SAMPLES`: whether the area of a record of 4,096 bytes is filled alike by the sizes of the groups and
-/// without them, whatever stood there.
-pub fn by_sizes(words: &mut Words<'_>) -> Option<String> {
-    let (before, run) = (words.before()?, words.samples()?);
-    let sizes = group_sizes(words.alloc, before, &run)?;
-    if run.is_empty() || sizes.len() > WORDS {
+    if start == 0 {
         return None;
     }
+    Some(samples[start - 1])
+}
+
+/// Whether the area of a record of 4,096 bytes is filled alike with the samples from that one on, by the words of the
+/// groups, as the walk tells them, and without them, whatever stood there; if it has room for them.
+fn are_alike(samples: &[i32], start: usize) -> Option<bool>
+    requires { start < length samples.now }
+{
+    let length = Length::new(4096)?;
+    let mut sizes = [0; 943];
+    let mut told = [0; 943];
+    let reach = steim2_words(samples, length, start, &mut sizes, &mut told);
+    if reach.end != samples.len() {
+        return None;
+    }
+    let before = before_sample(samples, start);
+    let run = &samples[start..];
     let mut found = [255; 4032];
     let mut given = [0; 4032];
-    let used = fill_steim2(before, &run, &mut found);
-    let told = fill_steim2_groups(before, &run, &sizes, &mut given);
-    let alike = used == sizes.len() && told == used && found == given;
+    let used = fill_steim2(before, run, &mut found);
+    let sizes = &sizes[..reach.groups];
+    let told = &told[..reach.groups];
+    let put = fill_steim2_told(before, run, sizes, told, &mut given);
+    Some(used == reach.groups && put == used && found == given)
+}
+
+/// `told START SAMPLES`: whether the samples from that one on are written alike by told words and without.
+pub fn by_told_words(words: &mut Words<'_>) -> Option<String> {
+    let (start, samples) = (words.number::<usize>()?, words.samples()?);
+    if start >= samples.len() {
+        return None;
+    }
+    let alike = are_alike(&samples, start)?;
     format!(in words.alloc; "{alike}").ok()
 }

@@ -5,12 +5,12 @@ ghost use Rattle.std.specs.Prelude.{◌≤◌, length};
 use crate::words::{Words, differ, kind_of};
 use msr_steim::Version;
 use msr_words::{
-    AnyKind, Codec, Fitting, Form, Int16, Int24, Int32, Kind, Length, Steim1, Steim2, Tracker,
-    Window, difference, groups, longest_run, run_fits,
+    Codec, Fitting, Int16, Int24, Int32, Kind, Length, Steim1, Steim2, Window, difference, groups,
+    longest_run, run_fits,
 };
 
 /// How many of these differences the tracker takes with that sample. After the first that it refuses it takes none.
-fn taken_of<T: Tracker + Drop>(mut tracker: T, sample: i32, differences: &[i64]) -> Option<usize> {
+fn taken_of<C: Codec + Drop>(mut tracker: C, sample: i32, differences: &[i64]) -> Option<usize> {
     let mut taken = 0usize;
     for difference in differences {
         if !tracker.push(sample, *difference) {
@@ -22,28 +22,25 @@ fn taken_of<T: Tracker + Drop>(mut tracker: T, sample: i32, differences: &[i64])
     Some(taken)
 }
 
-/// What the tracker of that name takes: of a kind, of any, or of any of the form.
-fn taken_by(name: &str, form: Form, sample: i32, differences: &[i64]) -> Option<usize> {
-    if name == "form" {
-        return taken_of(AnyKind::of(form), sample, differences);
-    }
-    let length = form.length;
-    match kind_of(name) {
-        Some(Kind::Int16) => taken_of(Int16::start(length), sample, differences),
-        Some(Kind::Int24) => taken_of(Int24::start(length), sample, differences),
-        Some(Kind::Int32) => taken_of(Int32::start(length), sample, differences),
-        Some(Kind::Steim1) => taken_of(Steim1::start(length), sample, differences),
-        Some(Kind::Steim2) => taken_of(Steim2::start(length), sample, differences),
-        None => taken_of(AnyKind::start(length), sample, differences),
+/// What the tracker of that kind takes.
+fn taken_by(kind: Kind, length: Length, sample: i32, differences: &[i64]) -> Option<usize> {
+    match kind {
+        Kind::Int16 => taken_of(Int16::start(length), sample, differences),
+        Kind::Int24 => taken_of(Int24::start(length), sample, differences),
+        Kind::Int32 => taken_of(Int32::start(length), sample, differences),
+        Kind::Steim1 => taken_of(Steim1::start(length), sample, differences),
+        Kind::Steim2 => taken_of(Steim2::start(length), sample, differences),
     }
 }
 
-/// `taken FORM SAMPLE DIFFERENCES TRACKERS`: how many pushes of that sample each tracker takes, with these differences.
+/// `taken LENGTH SAMPLE DIFFERENCES KINDS`: how many pushes of that sample each tracker takes, with these differences.
 pub fn taken(words: &mut Words<'_>) -> Option<String> {
-    let (form, sample, differences) = (words.form()?, words.number::<i32>()?, words.numbers()?);
+    let length = Length::new(words.number()?)?;
+    let (sample, differences) = (words.number::<i32>()?, words.numbers()?);
     let mut all = Vec::new(words.alloc);
     for name in words.rest.split_whitespace() {
-        all.push(taken_by(name, form, sample, &differences)?).ok()?;
+        all.push(taken_by(kind_of(name)?, length, sample, &differences)?)
+            .ok()?;
     }
     format!(in words.alloc; "{all:?}").ok()
 }
@@ -68,12 +65,6 @@ pub fn kind(words: &mut Words<'_>) -> Option<String> {
         return differ(words.alloc);
     }
     format!(in words.alloc; "{codec:?}").ok()
-}
-
-/// `any LENGTH`: how many samples a tracker of any kind looks back, and the most that a record holds.
-pub fn any(words: &mut Words<'_>) -> Option<String> {
-    let length = Length::new(words.number()?)?;
-    format!(in words.alloc; "{:?}", (AnyKind::LOOK_BACK, AnyKind::most(length))).ok()
 }
 
 /// `encoding NUMBER`: the kind of that encoding.
@@ -135,7 +126,7 @@ fn longest_at(samples: &[i32], at: usize) -> usize
     requires { at ≤ length samples.now }
 {
     let mut window = Window::new();
-    window.longest_steim2_group(samples, at)
+    window.longest_steim2_group(None, samples, at)
 }
 
 /// `word_size NUMBER SAMPLES`: how many differences stand together in a Steim-2 word from that sample on, by a window of

@@ -76,25 +76,6 @@ fn stream_of(alloc: Global, samples: &[i32], form: Form) -> Result<Streamed, All
     given.with_last(packer.end())
 }
 
-/// What a stream packer gives, if at most `size` samples are pushed at a time.
-fn in_some(
-    alloc: Global,
-    samples: &[i32],
-    form: Form,
-    size: usize,
-) -> Result<Streamed, AllocError> {
-    let mut packer = StreamPacker::of(alloc, form);
-    let mut given = Streamed::empty(alloc);
-    let mut from = 0;
-    while from < samples.len() {
-        let to = from + size.max(1).min(samples.len() - from);
-        let taken = packer.push_some(&samples[from..to])?;
-        given.add_if_any(taken.piece, packer.run_samples())?;
-        from += taken.count;
-    }
-    given.with_last(packer.end())
-}
-
 /// Adds the pieces that are decided.
 fn add_decided(packer: &mut BlockPacker, given: &mut Streamed) -> Result<(), AllocError>
     ensures { pushed packer.new ≡ pushed packer.old }
@@ -133,17 +114,15 @@ fn in_blocks(
     Ok(given)
 }
 
-/// Whether samples that are pushed one after another, some at a time, and in blocks, give the packing: of one sample, a
-/// few, about a record, or all at once.
+/// Whether samples that are pushed one after another, and in blocks, give the packing: of one sample, a few, about a
+/// record, or all at once.
 fn is_streamed(alloc: Global, whole: &Streamed, form: Form) -> Result<bool, AllocError> {
     let samples = whole.samples.as_slice();
     if stream_of(alloc, samples, form)? != *whole {
         return Ok(false);
     }
     for size in [1, 7, 100, 1_000_000] {
-        if in_some(alloc, samples, form, size)? != *whole
-            || in_blocks(alloc, samples, form, size)? != *whole
-        {
+        if in_blocks(alloc, samples, form, size)? != *whole {
             return Ok(false);
         }
     }

@@ -29,7 +29,6 @@ fn of_fitting(name: &str, words: &mut Words<'_>) -> Option<String> {
     match name {
         "taken" => fitting::taken(words),
         "kind" => fitting::kind(words),
-        "any" => fitting::any(words),
         "encoding" => fitting::encoding(words),
         "length" => fitting::length(words),
         "longest" => fitting::longest(words),
@@ -54,7 +53,7 @@ pub fn answer(alloc: Global, line: &str) -> Option<String> {
         "encode" => records::encoded(words),
         "area1" => filling::steim1(words),
         "area2" => filling::steim2(words),
-        "sizes" => filling::by_sizes(words),
+        "told" => filling::by_told_words(words),
         "pack" => packing::packed(words),
         "separates" => packing::separated(words),
         "least" => packing::is_least(words),
