@@ -78,6 +78,16 @@ pub(crate) fn number(text: &[u8]) -> Option<(u64, &[u8])>
     Some((n, rest))
 }
 
+/// The number that stands after the word.
+pub(crate) fn counted<'a>(text: &'a [u8], word: &[u8]) -> Option<(u64, &'a [u8])>
+    ensures found { IfSome result (λ x. text.now ≡ word.now ++ (decimal x.0 ++ x.1.now)) }
+    ensures only { (n : ℕ) (rest : List ℕ) → n < 2 ^ 64 → EndsNumber rest → text.now ≡ word.now ++ (decimal n ++ rest)
+        → IsSomeAnd result (λ x. (x.0 ≡ n) × (x.1.now ≡ rest)) }
+{
+    let text = after(text, word)?;
+    number(text)
+}
+
 /// A lower-case hexadecimal digit.
 fn hex_digit(byte: u8) -> Option<u8>
     ensures found { IfSome result (λ n. (n < 16) × (byte ≡ digit_glyph false n)) }

@@ -5,8 +5,8 @@ ghost use Rattle.msr_report_reader.specs.Content.{IsFirst, first_then, lines_bef
 ghost use Rattle.msr_report_reader.specs.Fault.{IsFaultLine};
 ghost use Rattle.msr_report_reader.specs.Draft.{IsEnough};
 
-use crate::fields::may_begin;
-use crate::lines::{counts, kinds, record_length, title, tolerance};
+use crate::fields::{after, may_begin};
+use crate::lines::{counts, kinds, record_length, tolerance};
 use msr_kinds::{Kinds, Length};
 use msr_report::Counts;
 
@@ -57,7 +57,7 @@ pub(crate) fn first_lines(text: &[u8]) -> Result<(FirstLines, &[u8]), FaultAt>
     ensures fault { IfErr result (λ e. (more : List ℕ) → IsEnough e.begins e.text.now more
         → IsFaultLine (text.now ++ more) e.line) }
 {
-    let Some(second) = title(text) else {
+    let Some(second) = after(text, b"msrepack 1\n") else {
         return Err(FaultAt {
             line: 1,
             text,

@@ -10,7 +10,7 @@ ghost use Rattle.msr_rows.specs.declared.row.Key.{Key as ChannelKey};
 ghost use Rattle.msr_report_reader.specs.Content.{IsKey, key_then};
 
 use crate::fields::{
-    after, five_bytes, hex_byte, number, signed, signed_16, three_bytes, two_bytes,
+    after, counted, five_bytes, hex_byte, signed, signed_16, three_bytes, two_bytes,
 };
 use msr_rows::Key;
 use msr_time::Rate;
@@ -67,20 +67,6 @@ fn channel_name(text: &[u8]) -> Option<(ChannelName, &[u8])>
     Some((name, text))
 }
 
-/// Two numbers with a space between them.
-fn two_numbers(text: &[u8]) -> Option<(i16, i16, &[u8])>
-    ensures found { IfSome result (λ x. text.now ≡ signed_decimal x.0 ++ (32 ∷ (signed_decimal x.1 ++ x.2.now))) }
-    ensures only { (factor multiplier : ℤ) (rest : List ℕ) → FitsSigned w16 factor → FitsSigned w16 multiplier
-        → EndsNumber rest
-        → text.now ≡ signed_decimal factor ++ (32 ∷ (signed_decimal multiplier ++ rest))
-        → IsSomeAnd result (λ x. (x.0 ≡ factor) × (x.1 ≡ multiplier) × (x.2.now ≡ rest)) }
-{
-    let (factor, text) = signed_16(text)?;
-    let text = after(text, b" ")?;
-    let (multiplier, text) = signed_16(text)?;
-    Some((factor, multiplier, text))
-}
-
 /// The factor and the multiplier of a rate.
 fn rate(text: &[u8]) -> Option<(i16, i16, &[u8])>
     ensures found { IfSome result (λ x. text.now ≡ rate_then x.0 x.1 x.2.now) }
@@ -90,7 +76,10 @@ fn rate(text: &[u8]) -> Option<(i16, i16, &[u8])>
         → IsSomeAnd result (λ x. (x.0 ≡ factor) × (x.1 ≡ multiplier) × (x.2.now ≡ rest)) }
 {
     let text = after(text, b" rate ")?;
-    two_numbers(text)
+    let (factor, text) = signed_16(text)?;
+    let text = after(text, b" ")?;
+    let (multiplier, text) = signed_16(text)?;
+    Some((factor, multiplier, text))
 }
 
 /// A space and two hexadecimal digits.
@@ -135,8 +124,7 @@ fn timing(text: &[u8]) -> Option<(u8, &[u8])>
         → text.now ≡ codes " timing " ++ (decimal n ++ rest)
         → IsSomeAnd result (λ x. (x.0 ≡ n) × (x.1.now ≡ rest)) }
 {
-    let text = after(text, b" timing ")?;
-    let (n, text) = number(text)?;
+    let (n, text) = counted(text, b" timing ")?;
     if n > 255 {
         return None;
     }

@@ -9,10 +9,8 @@ mod keys;
 mod laws;
 mod lines;
 mod reading;
-mod reports;
 mod times;
 
 pub use fault::ReportFault;
 pub use laws::{line_in_range, one_report, report_in_range, text_is_read_back};
-pub use reading::read_report;
-pub use reports::report_of;
+pub use reading::{read_report, report_of};

@@ -7,10 +7,9 @@ ghost use Rattle.msr_kinds.specs.RecordLength.{IsRecordLength};
 ghost use Rattle.msr_kinds.specs.declared.kinds.Kinds.{Kinds as AChoice};
 ghost use Rattle.msr_report.specs.Text.{IsTimeText, kinds_line};
 ghost use Rattle.msr_rows.specs.declared.row.Key.{Key as ChannelKey};
-ghost use Rattle.msr_report_reader.specs.Fields.{EndsNumber};
 ghost use Rattle.msr_report_reader.specs.Content.{IsKey, IsOpening};
 
-use crate::fields::{after, number};
+use crate::fields::{after, counted};
 use crate::keys::channel_key;
 use crate::times::instant;
 use msr_kinds::{Kinds, Length};
@@ -29,36 +28,15 @@ fn start(text: &[u8]) -> Option<(i64, &[u8])>
     instant(text)
 }
 
-/// The number of a segment's samples.
-fn samples(text: &[u8]) -> Option<(u64, &[u8])>
-    ensures found { IfSome result (λ x. text.now ≡ codes " samples " ++ (decimal x.0 ++ x.1.now)) }
-    ensures only { (n : ℕ) (rest : List ℕ) → n < 2 ^ 64 → EndsNumber rest
-        → text.now ≡ codes " samples " ++ (decimal n ++ rest)
-        → IsSomeAnd result (λ x. (x.0 ≡ n) × (x.1.now ≡ rest)) }
-{
-    let text = after(text, b" samples ")?;
-    number(text)
-}
-
 /// The number that stands after the word and ends the line.
 fn numbered<'a>(text: &'a [u8], word: &[u8]) -> Option<(u64, &'a [u8])>
     ensures found { IfSome result (λ x. text.now ≡ word.now ++ (decimal x.0 ++ (10 ∷ x.1.now))) }
     ensures only { (n : ℕ) (rest : List ℕ) → n < 2 ^ 64 → text.now ≡ word.now ++ (decimal n ++ (10 ∷ rest))
         → IsSomeAnd result (λ x. (x.0 ≡ n) × (x.1.now ≡ rest)) }
 {
-    let text = after(text, word)?;
-    let (n, text) = number(text)?;
+    let (n, text) = counted(text, word)?;
     let text = after(text, b"\n")?;
     Some((n, text))
-}
-
-/// The first line.
-pub(crate) fn title(text: &[u8]) -> Option<&[u8]>
-    ensures found { IfSome result (λ x. text.now ≡ codes "msrepack 1" ++ (10 ∷ x.now)) }
-    ensures only { (rest : List ℕ) → text.now ≡ codes "msrepack 1" ++ (10 ∷ rest)
-        → IsSomeAnd result (λ x. x.now ≡ rest) }
-{
-    after(text, b"msrepack 1\n")
 }
 
 /// The line of the length.
@@ -102,16 +80,6 @@ pub(crate) fn kinds(text: &[u8]) -> (Kinds, &[u8])
         Some(rest) => (fewer, rest),
         None => (Kinds::All, text),
     }
-}
-
-/// The number that stands after the word.
-pub(crate) fn counted<'a>(text: &'a [u8], word: &[u8]) -> Option<(u64, &'a [u8])>
-    ensures found { IfSome result (λ x. text.now ≡ word.now ++ (decimal x.0 ++ x.1.now)) }
-    ensures only { (n : ℕ) (rest : List ℕ) → n < 2 ^ 64 → EndsNumber rest → text.now ≡ word.now ++ (decimal n ++ rest)
-        → IsSomeAnd result (λ x. (x.0 ≡ n) × (x.1.now ≡ rest)) }
-{
-    let text = after(text, word)?;
-    number(text)
 }
 
 /// The line of the counts.
@@ -173,7 +141,7 @@ pub(crate) fn opening(text: &[u8]) -> Option<(FirstLine, &[u8])>
         return None;
     };
     let (start, text) = start(text)?;
-    let (samples, text) = samples(text)?;
+    let (samples, text) = counted(text, b" samples ")?;
     let (records, text) = numbered(text, b" records ")?;
     let line = FirstLine {
         key,

@@ -1,7 +1,8 @@
-//! A report read from a source.
-ghost use Rattle.std.specs.Prelude.{◌↔◌, List, ℕ, IsErrOf};
+//! A report read from a source, or from its text.
+ghost use Rattle.std.specs.Prelude.{◌↔◌, List, ℕ, IfErr, IfOk, IsErrOf};
 ghost use Rattle.msr_devices.specs.Device.{CanCountCall, CountsFew, HasFailed, HasLeft};
-ghost use Rattle.msr_report_reader.specs.Reading.{ReadsReport};
+ghost use Rattle.msr_report_reader.specs.Reading.{IsReadFrom, ReadsReport};
+ghost use Rattle.msr_report_reader.specs.TextFault.{IsTextFault};
 
 use crate::draft::{Draft, Progress};
 use crate::fault::ReportFault;
@@ -29,4 +30,12 @@ pub fn read_report<Q: Source>(alloc: Global, source: &mut Q) -> Result<Report, R
         }
     }
     draft.finish(buffer.bytes())
+}
+
+/// The report whose text it is.
+pub fn report_of(alloc: Global, text: &[u8]) -> Result<Report, ReportFault>
+    ensures found { IfOk result (λ report. IsReadFrom report text.now) }
+    ensures fault { IfErr result (IsTextFault text.now) }
+{
+    Draft::new(alloc).finish(text)
 }
