@@ -83,7 +83,7 @@ pub fn joined(words: &mut Words<'_>) -> Option<String> {
 }
 
 /// How many bytes a device moves in a call, how many interruptions come before each, and the call that fails, or `-`.
-fn behavior(words: &mut Words<'_>) -> Option<Behavior> {
+pub fn behavior(words: &mut Words<'_>) -> Option<Behavior> {
     let (most, interruptions) = (words.number::<usize>()?, words.number::<u32>()?);
     let fails_at = match words.word() {
         "-" => None,
@@ -96,8 +96,28 @@ fn behavior(words: &mut Words<'_>) -> Option<Behavior> {
     })
 }
 
+/// The same, or for `FROM..TO` in place of the call a device for each of these calls.
+pub fn behaviors(words: &mut Words<'_>) -> Option<Vec<Behavior>> {
+    let (most, interruptions) = (words.number::<usize>()?, words.number::<u32>()?);
+    let mut plain = Behavior {
+        most,
+        interruptions,
+        fails_at: None,
+    };
+    let mut all = Vec::new(words.alloc);
+    let Some((from, to)) = words.word().split_once("..") else {
+        all.push(plain).ok()?;
+        return Some(all);
+    };
+    for call in from.parse::<u64>().ok()?..to.parse::<u64>().ok()? {
+        plain.fails_at = Some(call);
+        all.push(plain).ok()?;
+    }
+    Some(all)
+}
+
 /// The bytes of records with a `|` between them.
-fn bytes_of(alloc: Global, text: &str) -> Option<Vec<u8>> {
+pub fn bytes_of(alloc: Global, text: &str) -> Option<Vec<u8>> {
     let mut bytes = Vec::new(alloc);
     for rest in text.split(" | ") {
         let record = record_of(&mut Words { alloc, rest })?;

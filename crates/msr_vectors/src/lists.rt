@@ -66,6 +66,12 @@ pub fn samples(alloc: Global, text: &str) -> Option<Vec<i32>> {
     Some(samples)
 }
 
+/// A text, in which `\n` stands for a line's end; `-` stands for none.
+pub fn lined(alloc: Global, text: &str) -> Option<String> {
+    let text = if text == "-" { "" } else { text };
+    text.replace(alloc, "\\n", "\n").ok()
+}
+
 /// The value of a hexadecimal digit.
 fn digit(letter: u8) -> Option<u8> {
     match letter {

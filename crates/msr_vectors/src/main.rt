@@ -10,8 +10,10 @@ mod inputs;
 mod lists;
 mod packing;
 mod records;
+mod reports;
 mod rows;
 mod times;
+mod tools;
 mod words;
 
 use std::io;

@@ -1,7 +1,7 @@
 //! Which row is answered by which call.
 
 use crate::words::Words;
-use crate::{areas, filling, fitting, inputs, packing, records, times};
+use crate::{areas, filling, fitting, inputs, packing, records, reports, times, tools};
 use std::alloc::Global;
 
 /// A row of times, of words or of areas.
@@ -61,6 +61,13 @@ pub fn answer(alloc: Global, line: &str) -> Option<String> {
         "join" => inputs::joined(words),
         "input" => inputs::read(words),
         "compare" => inputs::compared(words),
+        "tool" => tools::called(words),
+        "options" => tools::options(words),
+        "fault" => tools::fault(words),
+        "memory" => tools::memory(words),
+        "report" => reports::read(words),
+        "retold" => reports::written(words),
+        "laws" => reports::laws(words),
         _ => of_format(name, words),
     }
 }

@@ -1,0 +1,207 @@
+//! The calls of msr_tool, over devices that move few bytes at a time, are interrupted, or fail at a call.
+
+ghost use Rattle.std.specs.Prelude.{◌≡◌, [], Some};
+ghost use Rattle.msr_devices.specs.Device.{unused};
+
+use crate::inputs::{TOLERANCE, behaviors, bytes_of};
+use crate::lists::lined;
+use crate::words::{Words, differ};
+use msr_devices::{Behavior, DeviceFault, Sink, TestSink, TestSource};
+use msr_header::HeaderFault;
+use msr_input::ReadFault;
+use msr_plain::PlainFault;
+use msr_report_reader::ReportFault;
+use msr_steim::SteimFault;
+use msr_tool::{
+    Fault, FaultKind, Length, Options, ToolFault, check_and_tell, check_packed, feed,
+    feed_and_report, list_segments, repack, repack_and_report,
+};
+use std::alloc::Global;
+
+/// The device that is odd, how it behaves, and whether it accepts nothing where it fails; the others move at most so many
+/// bytes in a call.
+#[derive(Clone, Copy)]
+struct Devices<'a> {
+    place: &'a str,
+    odd: Behavior,
+    accepts_nothing: bool,
+    others: usize,
+}
+
+impl Devices<'_> {
+    fn behavior(self, place: &str) -> Behavior {
+        if self.place == place {
+            return self.odd;
+        }
+        Behavior {
+            most: self.others,
+            interruptions: 0,
+            fails_at: None,
+        }
+    }
+
+    fn sink(self, alloc: Global, place: &str) -> TestSink
+        ensures { ⟦<TestSink as Sink>⟧.device result ≡ unused (Some []) }
+    {
+        let behavior = self.behavior(place);
+        if self.accepts_nothing {
+            TestSink::accepting_nothing(Vec::new(alloc), behavior)
+        } else {
+            TestSink::new(Vec::new(alloc), behavior)
+        }
+    }
+}
+
+/// A call, what it reads, and what it is to write.
+#[derive(Clone, Copy)]
+struct Asked<'a> {
+    call: &'a str,
+    options: Options,
+    records: &'a [u8],
+    report: &'a [u8],
+    written: &'a [u8],
+    told: &'a [u8],
+}
+
+/// Why the call stops, if it does, and how many records and how much text it wrote, if they are first parts of what they
+/// are to be.
+fn ended(
+    alloc: Global,
+    asked: &Asked<'_>,
+    devices: Devices<'_>,
+) -> Option<(Option<ToolFault>, usize, usize)> {
+    let mut records = TestSource::new(asked.records, devices.behavior("records"));
+    let mut report = TestSource::new(asked.report, devices.behavior("report"));
+    let mut written = devices.sink(alloc, "written");
+    let mut told = devices.sink(alloc, "told");
+    let options = asked.options;
+    let fault = match asked.call {
+        "repack" => repack(alloc, &mut records, &mut written, options).err(),
+        "feed" => feed(alloc, &mut records, &mut written, options).err(),
+        "list" => list_segments(alloc, &mut records, &mut told, options).err(),
+        "check" => check_packed(alloc, &mut records, &mut report).err(),
+        "repack_and_report" => {
+            repack_and_report(alloc, &mut records, &mut written, &mut told, options).err()
+        }
+        "feed_and_report" => {
+            feed_and_report(alloc, &mut records, &mut written, &mut told, options).err()
+        }
+        "check_and_tell" => check_and_tell(alloc, &mut records, &mut report, &mut told).err(),
+        _ => return None,
+    };
+    let (written, told) = (written.bytes(), told.bytes());
+    if asked.written.starts_with(written) && asked.told.starts_with(told) {
+        Some((fault, written.len(), told.len()))
+    } else {
+        None
+    }
+}
+
+/// What comes of the call if a device is odd, `DEVICE MOST INTERRUPTIONS FAILS`.
+fn with_odd(alloc: Global, asked: &Asked<'_>, others: usize, odd: &str) -> Option<String> {
+    let mut words = Words { alloc, rest: odd };
+    let place = words.word();
+    let mut text = format!(in alloc; "{odd}:").ok()?;
+    for behavior in &behaviors(&mut words)? {
+        let mut devices = Devices {
+            place,
+            odd: *behavior,
+            accepts_nothing: false,
+            others,
+        };
+        let (fault, written, told) = ended(alloc, asked, devices)?;
+        devices.accepts_nothing = true;
+        if ended(alloc, asked, devices)? != (fault, written, told) {
+            return differ(alloc);
+        }
+        text = match fault {
+            Some(fault) => format!(in alloc; "{text} {fault} {written} {told},").ok()?,
+            None => format!(in alloc; "{text} done {written} {told},").ok()?,
+        };
+    }
+    Some(text)
+}
+
+/// `tool CALL LENGTH OTHERS DEVICE MOST INTERRUPTIONS FAILS + .. & RECORDS & REPORT & WRITTEN & TOLD`: for each odd device why
+/// the call stops or that it is done, and how many bytes of the records and of the text are written then.
+pub fn called(words: &mut Words<'_>) -> Option<String> {
+    let alloc = words.alloc;
+    let (call, length, others) = (words.word(), words.number()?, words.number()?);
+    let (odds, rest) = words.rest.split_once(" & ")?;
+    let (records, rest) = rest.split_once(" & ")?;
+    let (report, rest) = rest.split_once(" & ")?;
+    let (written, told) = rest.split_once(" & ")?;
+    let (records, written) = (bytes_of(alloc, records)?, bytes_of(alloc, written)?);
+    let (report, told) = (lined(alloc, report)?, lined(alloc, told)?);
+    let asked = Asked {
+        call,
+        options: Options::new(Length::new(length)?, TOLERANCE)?,
+        records: &records,
+        report: report.as_str().as_bytes(),
+        written: &written,
+        told: told.as_str().as_bytes(),
+    };
+    let mut text = String::new(alloc);
+    let mut end = "";
+    for odd in odds.split(" + ") {
+        let line = with_odd(alloc, &asked, others, odd)?;
+        text = format!(in alloc; "{text}{end}{line}").ok()?;
+        end = "\n";
+    }
+    Some(text)
+}
+
+/// `options LENGTH TOLERANCE`: the length and the tolerance of the options, and whether they are strict at first and once
+/// they are to be; or none.
+pub fn options(words: &mut Words<'_>) -> Option<String> {
+    let (length, tolerance) = (Length::new(words.number()?)?, words.number()?);
+    let Some(options) = Options::new(length, tolerance) else {
+        return format!(in words.alloc; "None").ok();
+    };
+    let strict = options.strict(true);
+    if strict.strict(false) != options
+        || strict.length() != options.length()
+        || strict.tolerance() != options.tolerance()
+    {
+        return differ(words.alloc);
+    }
+    let (bytes, tolerance) = (options.length().bytes(), options.tolerance());
+    let (usual, strict) = (options.is_strict(), strict.is_strict());
+    format!(in words.alloc; "{bytes} {tolerance} {usual} {strict}").ok()
+}
+
+/// The fault of an input at that place.
+fn of_input(alloc: Global, kind: FaultKind, offset: u64) -> Option<ToolFault> {
+    let fault = Fault { offset, kind };
+    let text = format!(in alloc; "{fault}").ok()?;
+    let read = format!(in alloc; "{}", ReadFault::Input(fault)).ok()?;
+    (text == read).then_some(ToolFault::Input(fault))
+}
+
+/// `fault blockette|code|line NUMBER`, `fault read|write`: the text of a fault, and the status with which a program ends.
+pub fn fault(words: &mut Words<'_>) -> Option<String> {
+    let (alloc, name) = (words.alloc, words.word());
+    let number = words.rest.parse::<u64>().unwrap_or(0);
+    let blockette = FaultKind::Header(HeaderFault::OtherBlockette(500));
+    let fault = match name {
+        "blockette" => of_input(alloc, blockette, number)?,
+        "code" => of_input(alloc, FaultKind::BadCode(3), number)?,
+        "line" => ToolFault::Report(number),
+        "read" => ToolFault::Read,
+        "write" => ToolFault::Write,
+        _ => return None,
+    };
+    format!(in alloc; "{fault}, status {}", fault.status()).ok()
+}
+
+/// `memory`: what the libraries tell if memory is refused.
+pub fn memory(words: &mut Words<'_>) -> Option<String> {
+    let (plain, steim, record) = (PlainFault::Memory, SteimFault::Memory, FaultKind::Memory);
+    let (read, report) = (ReadFault::from(DeviceFault::Memory), ReportFault::Memory);
+    let tool = ToolFault::Memory;
+    format!(in words.alloc;
+        "{plain}, {steim}, {record}, {read}, {report}, {tool}, status {}",
+        tool.status()
+    )
+    .ok()
+}
