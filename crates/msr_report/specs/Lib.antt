@@ -1,3 +1,4 @@
 pub mod Proper
 pub mod Text
 pub mod Writing
+pub mod Json

@@ -28,7 +28,7 @@ fn hex_digit(n: u8) -> char
 }
 
 /// Appends two lower-case hexadecimal digits.
-fn push_hex(text: &mut String, n: u8) -> Result<(), AllocError>
+pub(crate) fn push_hex(text: &mut String, n: u8) -> Result<(), AllocError>
     ensures { OnOk result (string_bytes text.new ≡ string_bytes text.old ++ hex_text n) }
 {
     text.push(hex_digit(n / 16))?;
@@ -52,7 +52,7 @@ fn push_signed(text: &mut String, n: i32) -> Result<(), AllocError>
 }
 
 /// Appends a number in so many digits, or more if it needs them.
-fn push_padded(text: &mut String, n: u32, width: usize) -> Result<(), AllocError>
+pub(crate) fn push_padded(text: &mut String, n: u32, width: usize) -> Result<(), AllocError>
     ensures { OnOk result (string_bytes text.new ≡ string_bytes text.old ++ padded_decimal width n) }
 {
     let mut buffer = Buffer::new();
@@ -134,7 +134,7 @@ fn push_date(text: &mut String, time: BTime) -> Result<(), AllocError>
     push_padded(text, u32::from(time.day), 3)
 }
 
-fn push_clock(text: &mut String, time: BTime) -> Result<(), AllocError>
+pub(crate) fn push_clock(text: &mut String, time: BTime) -> Result<(), AllocError>
     ensures { OnOk result (string_bytes text.new ≡ string_bytes text.old ++ clock_text time) }
 {
     push_padded(text, u32::from(time.hour), 2)?;

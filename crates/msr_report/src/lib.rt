@@ -2,11 +2,13 @@
 #![tactic(auto)]
 
 mod fields;
+mod json;
 mod laws;
 mod lines;
 mod report;
 mod text;
 
+pub use json::{ListedSegment, push_json_counts, push_json_line};
 pub use laws::{has_text, one_text};
 pub use lines::{kinds_line, push_counts, push_list_line};
 pub use msr_base::Counts;

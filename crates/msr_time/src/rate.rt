@@ -1,5 +1,6 @@
 //! Sample rates, and the instants of samples.
 ghost use Rattle.std.specs.Prelude.{◌≡◌, ◌≢◌, ℤ, ◌<◌, ◌≤◌, ◌^◌, ◌↔◌, IsSome, IsTrue, SomeIff, pos};
+ghost use Rattle.jiff.specs.Words.{IsWithin};
 ghost use Rattle.msr_time.specs.Instant.{IsInstant};
 ghost use Rattle.msr_time.specs.SampleRate.{SampleRate, period_of, IsRoundedNominal, IsNear};
 
@@ -75,10 +76,11 @@ impl Rate {
         (1_000_000 * longer * times, shorter * parts)
     }
 
-    /// The nominal instant of sample `n` counted from `t0`, rounded, in range or not.
-    fn rounded(&self, t0: i64, n: u64) -> i128
+    /// The nominal instant of sample `n` counted from `t0`, rounded as by `nominal`, in range or not.
+    pub fn rounded(&self, t0: i64, n: u64) -> i128
         ensures nominal { IsRoundedNominal self.now t0 n result }
         ensures few { IsInstant t0 → IsInstant result → n < 2 ^ 63 }
+        ensures bound { IsWithin (2 ^ 120) result }
     {
         let (numerator, denominator) = self.period();
         let doubled = 2 * (n as u128 * numerator as u128) + denominator as u128;
