@@ -1,0 +1,5 @@
+//! Tests of the paths of days.
+#![tactic(auto)]
+
+#[cfg(test)]
+mod day_paths;
