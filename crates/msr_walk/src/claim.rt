@@ -86,18 +86,9 @@ impl<F: OpenFile> Claim<F> {
 
 /// The file that stands under a name, if it is that open one.
 fn leads_to<R: Files, F: OpenFile>(rt: &R, path: &str, file: &F) -> Option<FileId> {
-    let Ok(found) = fs::symlink_metadata(rt, path) else {
-        return None;
-    };
-    let Ok(opened) = file.metadata() else {
-        return None;
-    };
-    let id = FileId::of(&opened);
-    if FileId::of(&found) == id {
-        Some(id)
-    } else {
-        None
-    }
+    let found = FileId::of(&fs::symlink_metadata(rt, path).ok()?);
+    let opened = FileId::of(&file.metadata().ok()?);
+    (found == opened).then_some(opened)
 }
 
 /// How often a day is asked for in which other walks end or clear meanwhile.
@@ -129,21 +120,16 @@ where
 {
     let file = match create_new(rt, path) {
         Ok(file) => file,
-        Err(error) => match error.kind() {
-            ErrorKind::AlreadyExists => return Ok(None),
-            _ => return Err(ClaimFault::CannotOpen),
-        },
+        Err(error) if error.kind() == ErrorKind::AlreadyExists => return Ok(None),
+        Err(_) => return Err(ClaimFault::CannotOpen),
     };
     if file.lock() == Lock::Others {
         return Ok(None);
     }
-    match leads_to(rt, path, &file) {
-        Some(id) => Ok(Some(Claim {
-            file,
-            number: id.number,
-        })),
-        None => Ok(None),
-    }
+    let Some(FileId { number, .. }) = leads_to(rt, path, &file) else {
+        return Ok(None);
+    };
+    Ok(Some(Claim { file, number }))
 }
 
 /// No file, if that is why none was opened.
@@ -158,11 +144,8 @@ fn none_if_gone<F>(kind: ErrorKind) -> Result<Option<F>, ClaimFault> {
 /// claim, and is not opened.
 fn open_claim<R: Files>(rt: &R, path: &str) -> Result<Option<R::File>, ClaimFault> {
     match fs::symlink_metadata(rt, path) {
-        Ok(metadata) => {
-            if !metadata.is_file() {
-                return Err(ClaimFault::CannotOpen);
-            }
-        }
+        Ok(metadata) if metadata.is_file() => {}
+        Ok(_) => return Err(ClaimFault::CannotOpen),
         Err(error) => return none_if_gone(error.kind()),
     }
     match OpenOptions::new().write(true).open(rt, path) {

@@ -338,10 +338,7 @@ impl Day {
 
     /// Whether the day may have a stamp.
     fn may_be_stamped<R: Files>(&self, rt: &R) -> bool {
-        match Look::at(rt, self.stamp.as_str()) {
-            Look::Nothing => false,
-            Look::Found(_) | Look::Unknown => true,
-        }
+        !matches!(Look::at(rt, self.stamp.as_str()), Look::Nothing)
     }
 
     /// Whether there is a claim: a walk is at work, or left something.

@@ -22,12 +22,8 @@ fn create_in_folder<R: Files>(rt: &R, path: &str) -> io::Result<R::File> {
 /// Makes a file, if nothing has its name, not even a link, and before that its folder if it is missing.
 pub(crate) fn create_new<R: Files>(rt: &R, path: &str) -> io::Result<R::File> {
     match create_in_folder(rt, path) {
-        Ok(file) => return Ok(file),
-        Err(error) => {
-            if error.kind() != ErrorKind::NotFound {
-                return Err(error);
-            }
-        }
+        Err(error) if error.kind() == ErrorKind::NotFound => {}
+        result => return result,
     }
     if fs::create_dir_all(rt, folder_of(path)).is_err() {
         return Err(ErrorKind::NotFound.into());
@@ -101,10 +97,8 @@ impl NewFile {
     {
         match fs::remove_file(rt, self.path.as_str()) {
             Ok(()) => Ok(()),
-            Err(error) => match error.kind() {
-                ErrorKind::NotFound => Ok(()),
-                _ => Err(DayFault::CannotOpen),
-            },
+            Err(error) if error.kind() == ErrorKind::NotFound => Ok(()),
+            Err(_) => Err(DayFault::CannotOpen),
         }
     }
 
