@@ -197,6 +197,15 @@ fn walking<'a>(alloc: Global, command: Command<'a>) -> Result<Command<'a>, Alloc
     )
 }
 
+/// Adds the options of a list.
+fn listing<'a>(alloc: Global, command: Command<'a>) -> Result<Command<'a>, AllocError> {
+    flags(
+        alloc,
+        reading(alloc, command)?,
+        &[("json", texts::JSON, texts::LONG_JSON)],
+    )
+}
+
 /// Adds the options of this command.
 fn with_options<'a>(
     alloc: Global,
@@ -205,7 +214,7 @@ fn with_options<'a>(
 ) -> Result<Command<'a>, AllocError> {
     match verb {
         Verb::Repack | Verb::Feed => packing(alloc, command),
-        Verb::List => reading(alloc, command),
+        Verb::List => listing(alloc, command),
         Verb::Check => Ok(command),
         Verb::Compare => command.arg(tolerance(alloc)),
         Verb::Archive => walking(alloc, packing_days(alloc, command)?),

@@ -76,11 +76,17 @@ Prints a line for each segment, with its name, quality, rate, flags, start and n
 of samples, and a last line that counts the records: all of them, those without
 samples, and those whose last sample is not the reverse constant.
 
+With --json each line is an object, which also has the time of the last sample and
+says why the segment began: it is the first, or has another channel or other settings
+than the one before it in the file, or begins later (gap) or earlier (overlap) than
+that one's next sample.
+
 Status 0 if the list is whole, 1 after a fault, 2 if the command line is wrong.";
 
-/// An example of `list`.
-pub(crate) const LIST_AFTER: &str = "Example:
-  msrepack list --tolerance 5000 day.mseed";
+/// Examples of `list`.
+pub(crate) const LIST_AFTER: &str = "Examples:
+  msrepack list --tolerance 5000 day.mseed
+  msrepack list --json day.mseed | jq 'select(.began == \"gap\")'";
 
 /// What `check` does, in a line.
 pub(crate) const CHECK_ABOUT: &str =
@@ -378,6 +384,15 @@ pub(crate) const STRICT: &str = "Refuse a record whose last sample is not its re
 pub(crate) const LONG_STRICT: &str =
     "Refuse a record whose last sample is not its reverse constant, as `18 ReverseMismatch`.
 Without it such records are read, and counted as mismatched";
+
+/// `--json`, in a line.
+pub(crate) const JSON: &str = "Print each line as an object of JSON";
+
+/// `--json`.
+pub(crate) const LONG_JSON: &str =
+    "Print each line as an object of JSON (JSON Lines): times in ISO 8601, names without the
+spaces at their ends, why each segment began, and, if the one before it has the same
+name, how many microseconds after that one's next sample it begins";
 
 /// The input of `repack` and `list`.
 pub(crate) const IN: &str = "The file to read, or - for standard input";

@@ -10,7 +10,7 @@ use msr_fixtures::{expect, steim_record};
 use msr_header::HeaderFault;
 use msr_record::FaultKind;
 use msr_tool::{
-    Fault, FromRead, FromWrite, Options, Sink, TestSink, TestSource, ToolFault, check_and_tell,
+    Fault, FromRead, FromWrite, ListForm, Options, Sink, TestSink, TestSource, ToolFault, check_and_tell,
     check_packed, feed_and_report, list_segments, repack, repack_and_report,
 };
 use std::alloc::Global;
@@ -118,7 +118,7 @@ fn ended(alloc: Global, options: Options, worked: Worked<'_>, odd: Odd) -> Left 
     let mut told = odd.sink_at(alloc, Place::Told);
     let fault = match worked.call {
         Call::Repack => repack(alloc, &mut records, &mut written, options).err(),
-        Call::List => list_segments(alloc, &mut records, &mut written, options).err(),
+        Call::List => list_segments(alloc, &mut records, &mut written, options, ListForm::Words).err(),
         Call::Check => check_packed(alloc, &mut records, &mut report).err(),
         Call::RepackAndReport => {
             repack_and_report(alloc, &mut records, &mut written, &mut told, options).err()
