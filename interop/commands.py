@@ -18,7 +18,7 @@ OF_DAYS = ("--resume", "--check", "--only-smaller", "--bytes")
 COMMANDS = {
     "repack": (("--length", "--no-int24", "--tolerance", "--strict"), (1, 2)),
     "feed": (("--length", "--no-int24", "--tolerance", "--strict"), (1, 1)),
-    "list": (("--tolerance", "--strict"), (1, 1)),
+    "list": (("--tolerance", "--strict", "--json"), (1, 1)),
     "check": ((), (2, 2)),
     "compare": (("--tolerance",), (2, 2)),
     "archive": (("--length", "--no-int24", "--tolerance", "--strict", "--below", *OF_DAYS), (3, 3)),
@@ -28,7 +28,7 @@ VALUED = ("--length", "--tolerance", "--below")
 LENGTHS = [2**exponent for exponent in range(8, 17)]
 HINT_OF_LENGTHS = b"hint: msrepack writes records of %d, %d, %d, %d, %d, %d, %d, %d or %d bytes\n" % tuple(LENGTHS)
 
-Task = namedtuple("Task", "command names length kinds tolerance strict below resume check only_smaller bytes")
+Task = namedtuple("Task", "command names length kinds tolerance strict json below resume check only_smaller bytes")
 Device = namedtuple("Device", "most fails")
 # What a run is given beside its words.
 Given = namedtuple("Given", "content reading writing redirected redirecting odd unsaid is_terminal")
@@ -139,7 +139,8 @@ def read_words(words):
         raise Ends(2, told("not a folder of an archive"))
     kinds = model.WITHOUT_INT24 if "--no-int24" in chosen else model.KINDS
     flags = [option in chosen for option in OF_DAYS]
-    return Task(command, names, length, kinds, chosen.get("--tolerance", 1000), "--strict" in chosen, below, *flags)
+    tolerance, strict, json = chosen.get("--tolerance", 1000), "--strict" in chosen, "--json" in chosen
+    return Task(command, names, length, kinds, tolerance, strict, json, below, *flags)
 
 
 # Files and streams.
@@ -258,8 +259,8 @@ def feed(task, given):
 def list_segments(task, given):
     [source] = task.names
     for content, fails in inputs(source, given):
-        text, fault = model.listed(content, task.tolerance, task.strict)
-        segments = text[: text.rindex("read ")].encode()
+        text, fault = model.listed(content, task.tolerance, task.strict, task.json)
+        segments = "".join(text.splitlines(True)[:-1]).encode()
         if fails or fault:
             yield Outcome(1, segments, told("read fault" if fails else fault), True)
         else:

@@ -278,9 +278,9 @@ def feed_differs(program, words, made, answer):
     return (status, said, kept) != (1, told(fault), b"") or not records.startswith(written)
 
 
-def list_differs(program, words, made):
-    text, fault = model.listed(made.content, made.tolerance, made.strict)
-    status, printed, said = program.run("list", *words, program.file("in"))
+def list_differs(program, words, made, json=False):
+    text, fault = model.listed(made.content, made.tolerance, made.strict, json)
+    status, printed, said = program.run("list", *words, *["--json"] * json, program.file("in"))
     if fault is None:
         return (status, printed, said) != (0, text.encode(), b"")
     return (status, said) != (1, told(fault)) or not text.encode().startswith(printed)
@@ -354,6 +354,8 @@ def compare(job):
             differ.append("feed")
         if list_differs(program, rest, made):
             differ.append("list")
+        if list_differs(program, rest, made, json=True):
+            differ.append("list --json")
         if answer.fault is None and check_differs(program, made, answer):
             differ.append("check")
     return number, differ, answer.fault

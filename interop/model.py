@@ -443,14 +443,60 @@ def counts_line(counts):
     return "read {} empty {} mismatched {}".format(*counts)
 
 
+def json_text(field):
+    """A field of a name in a string of JSON: without the spaces at its end, and each byte as the character of its number."""
+    plain = {byte: chr(byte) for byte in range(32, 127)} | {34: '\\"', 92: "\\\\"}
+    return "".join(plain.get(byte, f"\\u{byte:04x}") for byte in bytes(field).rstrip(b" "))
+
+
+def iso(micros):
+    """The time of an instant in ISO 8601."""
+    days, rest = divmod(micros, DAY)
+    date, (seconds, micros) = EPOCH + datetime.timedelta(days=days), divmod(rest, SECOND)
+    clock = f"{seconds // 3600:02}:{seconds // 60 % 60:02}:{seconds % 60:02}"
+    return f"{date.year:04}-{date.month:02}-{date.day:02}T{clock}.{micros:06}Z"
+
+
+def began(before, segment):
+    """Why the segment does not go on the one before it, and how far after that one's next sample it begins."""
+    if before is None:
+        return "first", None
+    if before.key[:4] != segment.key[:4]:
+        return "channel", None
+    gap = segment.start - rounded(nominal(before.key, before.start, len(before.samples)))
+    return ("settings" if before.key != segment.key else "gap" if gap > 0 else "overlap"), gap
+
+
+def json_line(before, segment):
+    """The object of a segment, which comes after another of its file or after None."""
+    key, start, samples = segment
+    why, gap = began(before, segment)
+    names = zip(["network", "station", "location", "channel", "quality"], [*key[:4], key.quality.encode()])
+    members = [f'"{name}":"{json_text(field)}"' for name, field in names]
+    end = rounded(nominal(key, start, len(samples) - 1))
+    members += [f'"start":"{iso(start)}"', f'"end":"{iso(end)}"', f'"samples":{len(samples)}']
+    numbers = ["rate_factor", "rate_multiplier", "activity", "clock", "data_quality", "correction"]
+    members += [f'"{name}":{number}' for name, number in zip(numbers, key[5:11])]
+    members += [f'"timing":{key.timing or "null"}', f'"began":"{why}"']
+    return "{" + ",".join(members + ([] if gap is None else [f'"gap_us":{gap}'])) + "}"
+
+
+def json_counts(counts):
+    return '{{"read":{},"empty":{},"mismatched":{}}}'.format(*counts)
+
+
 def text(lines):
     return "".join(f"{line}\n" for line in lines)
 
 
-def listed(content, tolerance, strict=False):
-    """The text of a list, and the fault."""
+def listed(content, tolerance, strict=False, json=False):
+    """The text of a list, in lines of words or of JSON, and the fault."""
     read = read_all(content, tolerance, strict)
-    return text([*map(segment_line, read.segments), counts_line(read.counts)]), read.fault
+    if json:
+        lines = [*map(json_line, [None, *read.segments], read.segments), json_counts(read.counts)]
+    else:
+        lines = [*map(segment_line, read.segments), counts_line(read.counts)]
+    return text(lines), read.fault
 
 
 def packed(segments, size, kinds=KINDS):

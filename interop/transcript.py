@@ -427,7 +427,7 @@ HELP = {
     None: [*commands.COMMANDS, *STATUSES, "3", "--help", "--version", "does what `msrepack repack -` does"],
     "repack": [*STATUSES, *LENGTH, *KINDS, *TOLERANCE, *REFUSES, "IN", "OUT"],
     "feed": [*STATUSES, *LENGTH, *KINDS, *TOLERANCE, *REFUSES, "REPORT"],
-    "list": [*STATUSES, *TOLERANCE, *REFUSES, "IN"],
+    "list": [*STATUSES, *TOLERANCE, *REFUSES, "--json", "IN"],
     "check": [*STATUSES, "3", "PACKED", "REPORT", "least", "not shown"],
     "compare": [*STATUSES, "3", *TOLERANCE, *SAID, "ONE", "OTHER"],
     "archive": [*STATUSES, *LENGTH, *KINDS, *TOLERANCE, *REFUSES, *LINES, "--below", *commands.OF_DAYS, "same"],

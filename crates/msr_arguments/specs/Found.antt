@@ -14,6 +14,8 @@ use Rattle.msr_options.specs.Tasks.{IsTolerance}
 use Rattle.msr_options.specs.declared.task.Archiving.{Archiving}
 use Rattle.msr_options.specs.declared.task.Checking.{Checking}
 use Rattle.msr_options.specs.declared.task.Folders.{Folders}
+use Rattle.msr_options.specs.declared.task.ListForm.{ListForm}
+use Rattle.msr_options.specs.declared.task.ListForm.TheVariants.{Words, Json}
 use Rattle.msr_options.specs.declared.task.NoTask.{NoTask}
 use Rattle.msr_options.specs.declared.task.NoTask.TheVariants.{Ending, NotALength, Memory}
 use Rattle.msr_options.specs.declared.task.Task.{Task}
@@ -35,6 +37,11 @@ IsFlagOf (Some text) flag = (text ≡ codes "true" → flag ≡ true) × (text �
 abbrev pub IsKindsOf : (text : Option (List ℕ)) → (kinds : Kinds) → Type 0
 IsKindsOf None kinds = kinds ≡ All
 IsKindsOf (Some text) kinds = (text ≡ codes "true" → kinds ≡ WithoutInt24) × (text ≡ codes "false" → kinds ≡ All)
+
+-- the form of a list, by the text of the flag that asks for JSON; clap gives it no other
+abbrev pub IsFormOf : (text : Option (List ℕ)) → (form : ListForm) → Type 0
+IsFormOf None form = form ≡ Words
+IsFormOf (Some text) form = (text ≡ codes "true" → form ≡ Json) × (text ≡ codes "false" → form ≡ Words)
 
 -- the values of an argument that may be given several times
 abbrev pub texts_under : Found → (name : List ℕ) → List (List ℕ)
@@ -121,8 +128,8 @@ abbrev pub AsksTask : Found → Task → Type 0
 AsksTask found (Repack asked) = AsksOptions found (length_in found) asked.options ×
     (first_value found (codes "IN") ≡ Some asked.input.now)
     × (first_value found (codes "OUT") ≡ option_map (λ name. name.now) asked.output)
-AsksTask found (Listing asked) =
-    AsksOptions found (length_in found) asked.options × (first_value found (codes "IN") ≡ Some asked.input.now)
+AsksTask found (Listing asked) = AsksOptions found (length_in found) asked.options
+    × IsFormOf (one_text found (codes "json")) asked.form × (first_value found (codes "IN") ≡ Some asked.input.now)
 AsksTask found (Check asked) = AsksCheck found asked
 AsksTask found (Compare asked) = AsksOptions found (length_in found) asked.options
     × (first_value found (codes "ONE") ≡ Some asked.one.now) × (first_value found (codes "OTHER") ≡ Some asked.other.now)

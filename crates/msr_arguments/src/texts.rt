@@ -82,10 +82,16 @@ Prints a line for each segment, with its name, quality, rate, flags, start and n
 of samples, and a last line that counts the records: all of them, those without
 samples, and those whose last sample is not the reverse constant.
 
+With --json each line is an object, which also has the time of the last sample and
+says why the segment began: it is the first, or has another channel or other settings
+than the one before it in the file, or begins later (gap) or earlier (overlap) than
+that one's next sample.
+
 Status 0 if the list is whole, 1 after a fault, 2 if the command line is wrong.",
-    after: "Example:
-  msrepack list --tolerance 5000 day.mseed",
-    arguments: &[Argument::Tolerance, STRICT, INPUT],
+    after: "Examples:
+  msrepack list --tolerance 5000 day.mseed
+  msrepack list --json day.mseed | jq 'select(.began == \"gap\")'",
+    arguments: &[Argument::Tolerance, STRICT, JSON, INPUT],
 };
 
 /// `check`
@@ -339,6 +345,14 @@ const NO_INT24: Argument = Argument::Flag(
     "Pack without 24-bit integers (encoding 2): records that libmseed 2 and the tools built
 on it can read. They are the fewest of the other four kinds, and the report says so, by
 a line `kinds steim2 steim1 int16 int32` after that of the tolerance",
+);
+
+const JSON: Argument = Argument::Flag(
+    "json",
+    "Print each line as an object of JSON",
+    "Print each line as an object of JSON (JSON Lines): times in ISO 8601, names without the
+spaces at their ends, why each segment began, and, if the one before it has the same
+name, how many microseconds after that one's next sample it begins",
 );
 
 const STRICT: Argument = Argument::Flag(

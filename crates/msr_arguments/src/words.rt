@@ -3,7 +3,7 @@ ghost use Rattle.std.specs.Prelude.{◌≡◌, ◌≢◌, ◌<◌, ◌↔◌, �
 ghost use Rattle.msr_kinds.specs.Lengths.{bytes_of};
 ghost use Rattle.msr_kinds.specs.RecordLength.{IsRecordLength};
 ghost use Rattle.clap.specs.Words.{first_value, found_of, kind_of, one_text, subcommand_name_of};
-ghost use Rattle.msr_arguments.specs.Found.{AsksArchive, AsksBelow, AsksCheck, AsksDays, AsksFolders, AsksOptions, AsksTask, AsksVerify, EndsFor, EndsWith, HoldsOptions, IsBadLine, IsFlagOf, IsKindsOf, IsLengthOf, IsNumberOf, IsWrong, without_slash};
+ghost use Rattle.msr_arguments.specs.Found.{AsksArchive, AsksBelow, AsksCheck, AsksDays, AsksFolders, AsksOptions, AsksTask, AsksVerify, EndsFor, EndsWith, HoldsOptions, IsBadLine, IsFlagOf, IsFormOf, IsKindsOf, IsLengthOf, IsNumberOf, IsWrong, without_slash};
 ghost use Rattle.msr_options.specs.Tasks.{AreApart, AreBothStandard, HasStatus, HasTolerance, IsDefault, IsTolerance, KeepsInput, Overlap, StandApart, verb_of, word_of};
 ghost use Rattle.msr_options.specs.declared.task.NoTask.TheVariants.{NotALength};
 ghost use Rattle.msr_options.specs.declared.task.Task.TheVariants.{Compare, Feed, Repack};
@@ -14,8 +14,8 @@ use clap::ArgMatches;
 use clap::error::ErrorKind;
 use msr_kinds::{Kinds, Length};
 use msr_options::{
-    Archiving, Checking, Comparing, DayOptions, Ending, Feeding, Folders, Listing, NoTask, Options,
-    Repacking, Task, Verb, Verifying, overlap,
+    Archiving, Checking, Comparing, DayOptions, Ending, Feeding, Folders, ListForm, Listing,
+    NoTask, Options, Repacking, Task, Verb, Verifying, overlap,
 };
 use msr_sds::levels_below;
 use std::alloc::{AllocError, Global};
@@ -154,6 +154,17 @@ fn kinds_in(found: &ArgMatches<'_>) -> Kinds
         Kinds::WithoutInt24
     } else {
         Kinds::All
+    }
+}
+
+/// The form of a list.
+fn form_in(found: &ArgMatches<'_>) -> ListForm
+    ensures { IsFormOf (one_text (found_of found.now) (codes "json")) result }
+{
+    if flag_in(found, "json") {
+        ListForm::Json
+    } else {
+        ListForm::Words
     }
 }
 
@@ -341,8 +352,13 @@ fn listing_in<'a>(alloc: Global, found: &ArgMatches<'a>) -> Result<Listing<'a>, 
     ensures status { IfErr result IsBadLine }
 {
     let options = options_in(alloc, found, found.get_str("length"))?;
+    let form = form_in(found);
     let input = given(alloc, found, "IN")?;
-    Ok(Listing { options, input })
+    Ok(Listing {
+        options,
+        form,
+        input,
+    })
 }
 
 /// What is to be fed that clap found.

@@ -24,6 +24,7 @@ use Rattle.msr_command.specs.declared.done.Done.{Done}
 use Rattle.msr_command.specs.declared.done.Done.TheVariants.{Written, Repacked, Checked, Compared, Walked}
 use Rattle.msr_command.specs.declared.task_fault.TaskFault.{TaskFault}
 use Rattle.msr_command.specs.declared.task_fault.TaskFault.TheVariants.{CannotOpen, Input, SameFile, SameOutput, Overlap, Closed, Tool}
+use Rattle.msr_options.specs.declared.task.ListForm.{ListForm}
 use Rattle.msr_options.specs.declared.task.Task.{Task}
 use Rattle.msr_options.specs.declared.task.Task.TheVariants.{Repack, List as Listing, Check, Compare, Archive, Verify, Feed}
 use Rattle.msr_command.specs.Turns.{AreTurns}
@@ -118,12 +119,12 @@ feed_uncreated choice source out stop is =
     over_none ⊤ (FeedEnds choice (Err stop)) source out out (takes_none out)
     (λ input. uncreated (IfWritten (WritesRecords choice input [])) (StopsRecords choice input []) stop is)
 
-pub list_unread : (choice : Choice) (name : List ℕ) (standard out : Device) (stop : TaskFault) → IsUnread stop →
-    ListsNamed choice name standard out out (Err stop)
-list_unread choice name standard out stop is =
-    over_none (name ≡ codes "-") (ListEnds choice (Err stop)) standard out out (takes_none out)
-    (λ input. unread (IfWritten (WritesList choice input []))
-    (λ why. ListAnswers (settings_of choice) input [] (Err why)) stop is)
+pub list_unread : (form : ListForm) (choice : Choice) (name : List ℕ) (standard out : Device) (stop : TaskFault) → IsUnread stop →
+    ListsNamed form choice name standard out out (Err stop)
+list_unread form choice name standard out stop is =
+    over_none (name ≡ codes "-") (ListEnds form choice (Err stop)) standard out out (takes_none out)
+    (λ input. unread (IfWritten (WritesList form choice input []))
+    (λ why. ListAnswers form (settings_of choice) input [] (Err why)) stop is)
 
 -- nothing can be printed
 
@@ -331,9 +332,9 @@ pub feed_unsettled : (choice : Choice) (source out0 out : Device) → FeedsTo ch
     FeedsTo choice source out0 out (Err fault.Write)
 feed_unsettled choice source out0 out does = over_said _ _ _ source out0 out (feed_unstored choice) does
 
-list_unstored : (choice : Choice) (input printed : List ℕ) → ListEnds choice (Ok Written) input printed →
-    ListEnds choice (Err (Tool fault.Write)) input printed
-list_unstored choice input printed ends = inr
+list_unstored : (form : ListForm) (choice : Choice) (input printed : List ℕ) →
+    ListEnds form choice (Ok Written) input printed → ListEnds form choice (Err (Tool fault.Write)) input printed
+list_unstored form choice input printed ends = inr
     (record { counts = ends.counts; tail = []; listed = rw append-nil ends.listed })
 
 check_unsettled : (out0 out : Device) (verdict : Verdict) → Checks out0 out (Ok (Checked verdict)) →
@@ -355,7 +356,7 @@ task_unsettled (Repack asked) standard out0 out (Checked verdict) does = absurd 
 task_unsettled (Repack asked) standard out0 out (Compared comparison) does = absurd does.ends
 task_unsettled (Repack asked) standard out0 out (Walked refused no_day) does = absurd does.ends
 task_unsettled (Listing asked) standard out0 out Written does =
-    over_said _ _ _ standard out0 out (list_unstored asked.options) does
+    over_said _ _ _ standard out0 out (list_unstored asked.form asked.options) does
 task_unsettled (Listing asked) standard out0 out (Repacked in_turns) does = absurd does.ends
 task_unsettled (Listing asked) standard out0 out (Checked verdict) does = absurd does.ends
 task_unsettled (Listing asked) standard out0 out (Compared comparison) does = absurd does.ends
@@ -410,10 +411,10 @@ task_unsettled (Feed asked) standard out0 out (Walked refused no_day) does = abs
 
 -- a source was listed, or is at fault
 
-pub list_done : (choice : Choice) (source out0 out : Device) (input printed : List ℕ) (counts : Counts) →
-    HasLeft source input → Takes out0 out printed → ListAnswers (settings_of choice) input printed (Ok counts) →
-    Lists choice source out0 out (Ok Written)
-list_done choice source out0 out input printed counts left prints answers = record {
+pub list_done : (form : ListForm) (choice : Choice) (source out0 out : Device) (input printed : List ℕ) (counts : Counts) →
+    HasLeft source input → Takes out0 out printed → ListAnswers form (settings_of choice) input printed (Ok counts) →
+    Lists form choice source out0 out (Ok Written)
+list_done form choice source out0 out input printed counts left prints answers = record {
   input = input;
   printed = printed;
   left = λ is. left;
@@ -421,10 +422,10 @@ list_done choice source out0 out input printed counts left prints answers = reco
   ends = record { counts = counts; listed = answers };
 }
 
-pub list_stops : (choice : Choice) (source out0 out : Device) (input printed : List ℕ) (why : ToolFault) →
-    HasLeft source input → Takes out0 out printed → ListAnswers (settings_of choice) input printed (Err why) →
-    Lists choice source out0 out (Err (Tool why))
-list_stops choice source out0 out input printed why left prints answers = record {
+pub list_stops : (form : ListForm) (choice : Choice) (source out0 out : Device) (input printed : List ℕ) (why : ToolFault) →
+    HasLeft source input → Takes out0 out printed → ListAnswers form (settings_of choice) input printed (Err why) →
+    Lists form choice source out0 out (Err (Tool why))
+list_stops form choice source out0 out input printed why left prints answers = record {
   input = input;
   printed = printed;
   left = λ is. left;

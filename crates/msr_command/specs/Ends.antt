@@ -26,6 +26,7 @@ use Rattle.msr_command.specs.declared.task_fault.TaskFault.TheVariants.{CannotOp
 use Rattle.msr_command.specs.declared.comparing.Names.{Names}
 use Rattle.msr_command.specs.Comparing.{IsAnswered, IsUncompared, StopsComparison, names_of}
 use Rattle.msr_command.specs.Turns.{AreTurns}
+use Rattle.msr_options.specs.declared.task.ListForm.{ListForm}
 use Rattle.msr_options.specs.declared.task.NoTask.{NoTask}
 use Rattle.msr_options.specs.declared.task.NoTask.TheVariants.{Ending, NotALength, Memory}
 use Rattle.msr_options.specs.declared.task.Task.{Task}
@@ -175,22 +176,24 @@ abbrev pub RepacksNamed : Choice → (name : List ℕ) → (standard out0 out : 
 RepacksNamed choice name standard out0 out result = Over (name ≡ codes "-") (RepackEnds choice result) standard out0 out
 
 -- The input was listed with these counts.
-pub record WritesList (choice : Choice) (input printed : List ℕ) : Type 0 where
+pub record WritesList (form : ListForm) (choice : Choice) (input printed : List ℕ) : Type 0 where
   pub counts : Counts
-  pub listed : IsListed (settings_of choice) input printed counts
+  pub listed : IsListed form (settings_of choice) input printed counts
 
-abbrev pub ListEnds : Choice → Result Done TaskFault → (input printed : List ℕ) → Type 0
-ListEnds choice result input printed =
-    Ends (IfWritten (WritesList choice input printed)) IsUnread
-    (λ fault. ListAnswers (settings_of choice) input printed (Err fault)) printed result
+abbrev pub ListEnds : ListForm → Choice → Result Done TaskFault → (input printed : List ℕ) → Type 0
+ListEnds form choice result input printed =
+    Ends (IfWritten (WritesList form choice input printed)) IsUnread
+    (λ fault. ListAnswers form (settings_of choice) input printed (Err fault)) printed result
 
 -- Listing a source.
-abbrev pub Lists : Choice → (source out0 out : Device) → Result Done TaskFault → Type 0
-Lists choice source out0 out result = Over ⊤ (ListEnds choice result) source out0 out
+abbrev pub Lists : ListForm → Choice → (source out0 out : Device) → Result Done TaskFault → Type 0
+Lists form choice source out0 out result = Over ⊤ (ListEnds form choice result) source out0 out
 
 -- Listing the file of a name.
-abbrev pub ListsNamed : Choice → (name : List ℕ) → (standard out0 out : Device) → Result Done TaskFault → Type 0
-ListsNamed choice name standard out0 out result = Over (name ≡ codes "-") (ListEnds choice result) standard out0 out
+abbrev pub ListsNamed : ListForm → Choice → (name : List ℕ) → (standard out0 out : Device) → Result Done TaskFault
+    → Type 0
+ListsNamed form choice name standard out0 out result =
+    Over (name ≡ codes "-") (ListEnds form choice result) standard out0 out
 
 -- The input was repacked into what was printed, and this is the text of its report.
 pub record WritesRecords (choice : Choice) (input printed : List ℕ) : Type 0 where
@@ -332,7 +335,8 @@ EndsClosed (Feed asked) stop = (stop ≡ Closed) ⊎ IsUncreated stop
 -- what doing a task reads and prints, and how it ends
 abbrev pub Does : Task → (standard out0 out : Device) → Result Done TaskFault → Type 0
 Does (Repack asked) standard out0 out result = RepacksNamed asked.options asked.input.now standard out0 out result
-Does (Listing asked) standard out0 out result = ListsNamed asked.options asked.input.now standard out0 out result
+Does (Listing asked) standard out0 out result =
+    ListsNamed asked.form asked.options asked.input.now standard out0 out result
 Does (Check asked) standard out0 out result = Checks out0 out result
 Does (Compare asked) standard out0 out result =
     ComparesNamed asked.options (names_of asked) standard out0 out result

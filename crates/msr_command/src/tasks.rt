@@ -12,7 +12,9 @@ use crate::files::{
 use crate::task_fault::TaskFault;
 use crate::turns::is_in_turns;
 use msr_folders::{FileId, folders_overlap, settle};
-use msr_options::{Archiving, Checking, Feeding, Folders, Listing, Repacking, Task, Verifying};
+use msr_options::{
+    Archiving, Checking, Feeding, Folders, ListForm, Listing, Repacking, Task, Verifying,
+};
 use msr_tool::{
     FromRead, FromWrite, Options, Sink, Source, ToolFault, check_and_tell, feed_and_report,
     list_segments, repack_and_report,
@@ -232,14 +234,15 @@ fn feed_to<R: Files, I: Source, O: Sink>(
 fn list_from<'a, I: Source, O: Sink>(
     alloc: Global,
     options: Options,
+    form: ListForm,
     source: &mut I,
     output: &mut O,
 ) -> Result<Done, TaskFault<'a>>
     requires source { CanCountCall (I.device source.old) }
     requires output { CanCountCall (O.device output.old) }
-    ensures { Lists options (I.device source.old) (O.device output.old) (O.device output.new) result }
+    ensures { Lists form options (I.device source.old) (O.device output.old) (O.device output.new) result }
 {
-    match list_segments(alloc, source, output, options) {
+    match list_segments(alloc, source, output, options, form) {
         Ok(_) => Ok(Done::Written),
         Err(fault) => Err(TaskFault::Tool(fault)),
     }
@@ -254,19 +257,20 @@ fn list_file<'a, R: Files, I: Source, O: Sink>(
 ) -> Result<Done, TaskFault<'a>>
     requires input { CanCountCall (I.device input.old) }
     requires output { CanCountCall (O.device output.old) }
-    ensures { ListsNamed asked.entry.options asked.entry.input.now (I.device input.old)
+    ensures { ListsNamed asked.entry.form asked.entry.options asked.entry.input.now (I.device input.old)
         (O.device output.old) (O.device output.new) result }
 {
     let Listing {
         options,
+        form,
         input: name,
     } = asked;
     if name == "-" {
         standard_input(rt)?;
-        return list_from(alloc, options, input, output);
+        return list_from(alloc, options, form, input, output);
     }
     let mut source = FromRead::new(open_file(rt, name)?.file);
-    list_from(alloc, options, &mut source, output)
+    list_from(alloc, options, form, &mut source, output)
 }
 
 /// Opens both inputs before either is read.

@@ -14,6 +14,6 @@ pub use files::{hint_of_file, hint_of_folder};
 pub use hint::{Hint, write_hint};
 pub use options::Options;
 pub use task::{
-    Archiving, Checking, Comparing, Ending, Feeding, Folders, Listing, NoTask, Repacking, Task,
-    Verb, Verifying, overlap,
+    Archiving, Checking, Comparing, Ending, Feeding, Folders, ListForm, Listing, NoTask, Repacking,
+    Task, Verb, Verifying, overlap,
 };

@@ -24,11 +24,19 @@ pub struct Feeding<'a> {
     pub report: &'a str,
 }
 
+/// In which form segments are listed: in lines of words, or in lines of JSON.
+#[derive(Clone, Copy, Debug, PartialEq, Eq)]
+pub enum ListForm {
+    Words,
+    Json,
+}
+
 /// A file whose segments are to be listed.
 #[derive(Clone, Copy, Debug, PartialEq, Eq)]
 pub struct Listing<'a> {
     /// The length is not used, since no record is written.
     pub options: Options,
+    pub form: ListForm,
     /// The name of a file, or `-` for standard input.
     pub input: &'a str,
 }

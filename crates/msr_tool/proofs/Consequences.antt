@@ -26,17 +26,17 @@ readable_repacked law choice input written records segments
     (Err fault.Memory) readable answers not_read not_write = refl
 
 pub readable_listed : ReadableHasNoFault → ReadableIsListed
-readable_listed law settings input written records segments (Ok counts) readable answers not_read not_write = tt
-readable_listed law settings input written records segments
+readable_listed law form settings input written records segments (Ok counts) readable answers not_read not_write = tt
+readable_listed law form settings input written records segments
     (Err (fault.Input found)) readable answers not_read not_write =
     absurd (law settings input records answers.records segments found readable answers.first)
-readable_listed law settings input written records segments
+readable_listed law form settings input written records segments
     (Err (fault.Report line)) readable answers not_read not_write = absurd answers
-readable_listed law settings input written records segments (Err fault.Read) readable answers not_read not_write =
+readable_listed law form settings input written records segments (Err fault.Read) readable answers not_read not_write =
     absurd (not_read refl)
-readable_listed law settings input written records segments (Err fault.Write) readable answers not_read not_write =
+readable_listed law form settings input written records segments (Err fault.Write) readable answers not_read not_write =
     absurd (not_write refl)
-readable_listed law settings input written records segments
+readable_listed law form settings input written records segments
     (Err fault.Memory) readable answers not_read not_write = refl
 
 pub repacking_alone : OneListOfRecords → OneOutput → OneRepacking

@@ -1,23 +1,25 @@
 -- Lines written one after another.
 use Rattle.std.proofs.Common.{◌≡◌, ℕ, List, [], ◌∷◌, ◌++◌, ◌∙◌, length, refl, sym, ap, append_assoc, Option, Some, None}
 use Rattle.std.specs.Prelude.{option_map}
-use Rattle.std.specs.Option.{option_to_list}
+use Rattle.std.specs.Option.{option_or, option_to_list}
 use Rattle.std.proofs.lemmas.List.{append-nil}
 use Rattle.msr_segments.specs.declared.joiner.Segment.{Segment}
 use Rattle.msr_devices.specs.Device.{Device, Takes, IsCalm}
 use Rattle.msr_devices.specs.WriteBuffer.{Passes}
 use Rattle.msr_devices.proofs.Chaining.{takes_append, calm_calm}
-use Rattle.msr_report.specs.Text.{IsListLine, counts_line}
+use Rattle.msr_report.specs.declared.json.ListedSegment.{ListedSegment}
+use Rattle.msr_options.specs.declared.task.ListForm.{ListForm}
 use Rattle.msr_base.specs.declared.counts.Counts.{Counts}
-use Rattle.msr_tool.specs.Listing.{AreListLines}
-use Rattle.msr_tool.specs.ListWriting.{HasListed, HasListedAll, HasListedPrefix, HasListedCut, IsLastLine, open_of}
+use Rattle.msr_tool.specs.Listing.{AreLinesAfter, AreListLines, IsLine, last_line, listed_of}
+use Rattle.msr_tool.specs.ListWriting.{HasListed, HasListedAll, HasListedPrefix, HasListedCut, IsLastLine, last_after}
 
-pub lists_snoc : (segments : List Segment) (text line : List ℕ) (segment : Segment) → AreListLines segments text
-    → IsListLine segment.key segment.start (length segment.samples) line
-    → AreListLines (segments ++ segment ∷ []) (text ++ line)
-lists_snoc [] text line segment are is = rw are
+pub lists_snoc : (form : ListForm) (before : Option Segment) (segments : List Segment) (text line : List ℕ)
+    (segment : Segment) → AreLinesAfter form before segments text
+    → IsLine form (option_map listed_of (last_after before segments)) (listed_of segment) line
+    → AreLinesAfter form before (segments ++ segment ∷ []) (text ++ line)
+lists_snoc form before [] text line segment are is = rw are
     ([], record { line = line; is_line = is; whole = sym (append-nil line) }, refl)
-lists_snoc (one ∷ segments) text line segment are is = (
+lists_snoc form before (one ∷ segments) text line segment are is = (
   are.0 ++ line,
   record {
     line = are.1.line;
@@ -25,14 +27,32 @@ lists_snoc (one ∷ segments) text line segment are is = (
     whole = ap (λ (t : List ℕ). t ++ line) are.1.whole
         ∙ append_assoc are.1.line are.0 line;
   },
-  lists_snoc segments are.0 line segment are.2 is,
+  lists_snoc form (Some one) segments are.0 line segment are.2 is,
 )
 
 -- the line of the segment that was begun last, if one was
-lists_last : (segments : List Segment) (text line : List ℕ) (current : Option Segment) → AreListLines segments text
-    → IsLastLine (option_map open_of current) line → AreListLines (segments ++ option_to_list current) (text ++ line)
-lists_last segments text line None are is = rw (is, append-nil segments, append-nil text) are
-lists_last segments text line (Some segment) are is = lists_snoc segments text line segment are is
+pub lists_last : (form : ListForm) (segments : List Segment) (text line : List ℕ) (before : Option ListedSegment)
+    (current : Option Segment) → AreListLines form segments text
+    → before ≡ option_map listed_of (last_after None segments)
+    → IsLastLine form before (option_map listed_of current) line
+    → AreListLines form (segments ++ option_to_list current) (text ++ line)
+lists_last form segments text line before None are after is =
+    rw (is, append-nil segments, append-nil text) are
+lists_last form segments text line before (Some segment) are after is =
+    lists_snoc form None segments text line segment are (rw after at is)
+
+after_snoc : (before : Option Segment) (segments : List Segment) (segment : Segment)
+    → last_after before (segments ++ segment ∷ []) ≡ Some segment
+after_snoc before [] segment = refl
+after_snoc before (one ∷ segments) segment = after_snoc (Some one) segments segment
+
+-- the last of these segments, with the one that has ended, if one has
+pub last_with : (before : Option ListedSegment) (segments : List Segment) (current : Option Segment)
+    → before ≡ option_map listed_of (last_after None segments)
+    → option_or (option_map listed_of current) before
+    ≡ option_map listed_of (last_after None (segments ++ option_to_list current))
+last_with before segments None after = rw append-nil segments after
+last_with before segments (Some segment) after = rw (after_snoc None segments segment) refl
 
 -- a further text after the lines so far, some of which the sink accepts
 pub record Flows (start now : Device) (waiting : List ℕ) (text : List ℕ) : Type 0 where
@@ -40,10 +60,10 @@ pub record Flows (start now : Device) (waiting : List ℕ) (text : List ℕ) : T
   pub takes : Takes start now taken
   pub whole : text ≡ taken ++ waiting
 
-pub flows_on : (start now next : Device) (waiting pushed waits more : List ℕ) (segments : List Segment)
-    (h : HasListed start now waiting segments) → pushed ≡ waiting ++ more → Passes now next pushed [] waits
+pub flows_on : (form : ListForm) (start now next : Device) (waiting pushed waits more : List ℕ) (before : Option ListedSegment) (segments : List Segment)
+    (h : HasListed form start now waiting before segments) → pushed ≡ waiting ++ more → Passes now next pushed [] waits
     → Flows start next waits (h.text ++ more)
-flows_on start now next waiting pushed waits more segments h same passes = record {
+flows_on form start now next waiting pushed waits more before segments h same passes = record {
   taken = h.taken ++ passes.taken;
   takes = takes_append start now next h.taken passes.taken h.takes passes.takes;
   whole = ap (λ (t : List ℕ). t ++ more) h.whole
@@ -53,9 +73,9 @@ flows_on start now next waiting pushed waits more segments h same passes = recor
 }
 
 -- there is no memory for a line
-pub prefix_listed : (start now : Device) (waiting : List ℕ) (segments others : List Segment)
-    → HasListed start now waiting segments → HasListedPrefix start now (segments ++ others)
-prefix_listed start now waiting segments others h = record {
+pub prefix_listed : (form : ListForm) (start now : Device) (waiting : List ℕ) (before : Option ListedSegment) (segments others : List Segment)
+    → HasListed form start now waiting before segments → HasListedPrefix form start now (segments ++ others)
+prefix_listed form start now waiting before segments others h = record {
   taken = h.taken;
   takes = h.takes;
   prefix = record {
@@ -68,9 +88,9 @@ prefix_listed start now waiting segments others h = record {
 }
 
 -- a prefix of a longer list of segments
-pub prefix_wider : (start now : Device) (segments others all : List Segment) → HasListedPrefix start now segments
-    → all ≡ segments ++ others → HasListedPrefix start now all
-prefix_wider start now segments others all h same = record {
+pub prefix_wider : (form : ListForm) (start now : Device) (segments others all : List Segment) → HasListedPrefix form start now segments
+    → all ≡ segments ++ others → HasListedPrefix form start now all
+prefix_wider form start now segments others all h same = record {
   taken = h.taken;
   takes = h.takes;
   prefix = record {
@@ -84,26 +104,28 @@ prefix_wider start now segments others all h same = record {
 }
 
 -- the line of one more segment waits
-pub listed_pushed : (start now : Device) (waiting pushed line : List ℕ) (segments : List Segment)
-    (current : Option Segment) → HasListed start now waiting segments
-    → IsLastLine (option_map open_of current) line → pushed ≡ waiting ++ line
-    → HasListed start now pushed (segments ++ option_to_list current)
-listed_pushed start now waiting pushed line segments current h is same = record {
+pub listed_pushed : (form : ListForm) (start now : Device) (waiting pushed line : List ℕ) (before : Option ListedSegment) (segments : List Segment)
+    (current : Option Segment) → HasListed form start now waiting before segments
+    → IsLastLine form before (option_map listed_of current) line → pushed ≡ waiting ++ line
+    → HasListed form start now pushed (option_or (option_map listed_of current) before)
+    (segments ++ option_to_list current)
+listed_pushed form start now waiting pushed line before segments current h is same = record {
   text = h.text ++ line;
   taken = h.taken;
-  lines = lists_last segments h.text line current h.lines is;
+  lines = lists_last form segments h.text line before current h.lines h.last is;
   takes = h.takes;
   whole = ap (λ (t : List ℕ). t ++ line) h.whole ∙ append_assoc h.taken waiting line
       ∙ ap (λ (t : List ℕ). h.taken ++ t) (sym same);
   calm = h.calm;
+  last = last_with before segments current h.last;
 }
 
 -- what waited was written, or some of it
-pub listed_passed : (start now next : Device) (waiting waits : List ℕ) (segments : List Segment)
-    → HasListed start now waiting segments → Passes now next waiting [] waits → IsCalm now next
-    → HasListed start next waits segments
-listed_passed start now next waiting waits segments h passes calm =
-    let f = flows_on start now next waiting waiting waits [] segments h (sym (append-nil waiting)) passes in
+pub listed_passed : (form : ListForm) (start now next : Device) (waiting waits : List ℕ) (before : Option ListedSegment) (segments : List Segment)
+    → HasListed form start now waiting before segments → Passes now next waiting [] waits → IsCalm now next
+    → HasListed form start next waits before segments
+listed_passed form start now next waiting waits before segments h passes calm =
+    let f = flows_on form start now next waiting waiting waits [] before segments h (sym (append-nil waiting)) passes in
     record {
       text = h.text;
       taken = f.taken;
@@ -112,12 +134,13 @@ listed_passed start now next waiting waits segments h passes calm =
       whole = sym (append-nil h.text)
           ∙ f.whole;
       calm = calm_calm start now next h.calm calm;
+      last = h.last;
     }
 
-pub listed_cut : (start now next : Device) (waiting waits : List ℕ) (segments : List Segment)
-    → HasListed start now waiting segments → Passes now next waiting [] waits → HasListedPrefix start next segments
-listed_cut start now next waiting waits segments h passes =
-    let f = flows_on start now next waiting waiting waits [] segments h (sym (append-nil waiting)) passes in
+pub listed_cut : (form : ListForm) (start now next : Device) (waiting waits : List ℕ) (before : Option ListedSegment) (segments : List Segment)
+    → HasListed form start now waiting before segments → Passes now next waiting [] waits → HasListedPrefix form start next segments
+listed_cut form start now next waiting waits before segments h passes =
+    let f = flows_on form start now next waiting waiting waits [] before segments h (sym (append-nil waiting)) passes in
     record {
       taken = f.taken;
       takes = f.takes;
@@ -131,18 +154,18 @@ listed_cut start now next waiting waits segments h passes =
     }
 
 -- the line of the counts
-pub listed_all : (start now next : Device) (waiting pushed waits : List ℕ) (segments : List Segment)
-    (counts : Counts) → HasListed start now waiting segments → pushed ≡ waiting ++ counts_line counts
-    → Passes now next pushed [] waits → waits ≡ [] → IsCalm now next → HasListedAll start next segments counts
-listed_all start now next waiting pushed waits segments counts h same passes none calm =
-    let f = flows_on start now next waiting pushed waits (counts_line counts) segments h same passes in
-    let all : h.text ++ counts_line counts ≡ f.taken = f.whole ∙ ap (λ (t : List ℕ). f.taken ++ t) none
+pub listed_all : (form : ListForm) (start now next : Device) (waiting pushed waits : List ℕ) (before : Option ListedSegment) (segments : List Segment)
+    (counts : Counts) → HasListed form start now waiting before segments → pushed ≡ waiting ++ last_line form counts
+    → Passes now next pushed [] waits → waits ≡ [] → IsCalm now next → HasListedAll form start next segments counts
+listed_all form start now next waiting pushed waits before segments counts h same passes none calm =
+    let f = flows_on form start now next waiting pushed waits (last_line form counts) before segments h same passes in
+    let all : h.text ++ last_line form counts ≡ f.taken = f.whole ∙ ap (λ (t : List ℕ). f.taken ++ t) none
     ∙ append-nil f.taken in
     record { text = h.text; lines = h.lines; takes = rw all f.takes; calm = calm_calm start now next h.calm calm }
 
-pub listed_all_cut : (start now next : Device) (waiting pushed waits : List ℕ) (segments : List Segment)
-    (counts : Counts) → HasListed start now waiting segments → pushed ≡ waiting ++ counts_line counts
-    → Passes now next pushed [] waits → HasListedCut start next segments counts
-listed_all_cut start now next waiting pushed waits segments counts h same passes =
-    let f = flows_on start now next waiting pushed waits (counts_line counts) segments h same passes in
+pub listed_all_cut : (form : ListForm) (start now next : Device) (waiting pushed waits : List ℕ) (before : Option ListedSegment) (segments : List Segment)
+    (counts : Counts) → HasListed form start now waiting before segments → pushed ≡ waiting ++ last_line form counts
+    → Passes now next pushed [] waits → HasListedCut form start next segments counts
+listed_all_cut form start now next waiting pushed waits before segments counts h same passes =
+    let f = flows_on form start now next waiting pushed waits (last_line form counts) before segments h same passes in
     record { text = h.text; taken = f.taken; tail = waits; lines = h.lines; takes = f.takes; whole = f.whole }

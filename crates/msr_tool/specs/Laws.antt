@@ -10,6 +10,7 @@ use Rattle.msr_input.specs.declared.settings.Settings.{Settings}
 use Rattle.msr_input.specs.declared.fault.Fault.{Fault}
 use Rattle.msr_output.specs.Output.{Packed}
 use Rattle.msr_options.specs.Choice.{Choice, as_strict}
+use Rattle.msr_options.specs.declared.task.ListForm.{ListForm}
 use Rattle.msr_tool.specs.Settings.{settings_of}
 use Rattle.msr_tool.specs.Answer.{AreLinesOf, IsRepacked, IsRefusedAt, Answers}
 use Rattle.msr_tool.specs.Listing.{ListAnswers}
@@ -29,10 +30,10 @@ ReadableIsRepacked =
 -- if no device failed, a readable input is listed, or there is no memory
 abbrev pub ReadableIsListed : Type 0
 ReadableIsListed =
-    (settings : Settings) (input written : List ℕ) (records : List Record) (segments : List Segment)
-    (result : Result Counts ToolFault)
+    (form : ListForm) (settings : Settings) (input written : List ℕ) (records : List Record)
+    (segments : List Segment) (result : Result Counts ToolFault)
     → IsReadable settings input records segments
-    → ListAnswers settings input written result
+    → ListAnswers form settings input written result
     → result ≢ Err Read → result ≢ Err Write
     → IfErr result (λ fault. fault ≡ Memory)
 

@@ -25,7 +25,7 @@ pub use msr_devices::{
 };
 pub use msr_input::Fault;
 pub use msr_kinds::{Kinds, Length};
-pub use msr_options::Options;
+pub use msr_options::{ListForm, Options};
 pub use msr_report::{Counts, Report, SegmentLine};
 pub use msr_report_reader::{ReportFault, read_report};
 pub use msr_rows::{FaultKind, Key};

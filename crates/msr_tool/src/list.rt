@@ -9,25 +9,26 @@ use crate::list_writer::ListWriter;
 use crate::settings::settings_of;
 use msr_devices::{Sink, Source};
 use msr_input::RowReader;
-use msr_options::Options;
+use msr_options::{ListForm, Options};
 use msr_report::Counts;
 use std::alloc::Global;
 
 /// Reads all records of the source, and writes a line for each segment of their rows and a last line with the
-/// counts of the records. Of the options it takes all but the length. It holds no samples.
+/// counts of the records, in that form. Of the options it takes all but the length. It holds no samples.
 pub fn list_segments<R: Source, W: Sink>(
     alloc: Global,
     source: &mut R,
     sink: &mut W,
     options: Options,
+    form: ListForm,
 ) -> Result<Counts, ToolFault>
     requires source { CanCountCall (R.device source.old) }
     requires sink { CanCountCall (W.device sink.old) }
-    ensures { ReadsAndWrites (ListAnswers (settings_of options)) (R.device source.old) (R.device source.new)
+    ensures { ReadsAndWrites (ListAnswers form (settings_of options)) (R.device source.old) (R.device source.new)
         (W.device sink.old) (W.device sink.new) result }
 {
     let mut reader = RowReader::new(alloc, settings_of(options));
-    let mut writer = ListWriter::new(alloc);
+    let mut writer = ListWriter::new(alloc, form);
     'rows: while let Some(next) = reader.next_outline(source)? {
         writer.take(sink, &next)?;
     }

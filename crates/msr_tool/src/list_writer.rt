@@ -1,13 +1,16 @@
 //! A writer of the lines of segments.
 ghost use Rattle.std.specs.Prelude.{◌≡◌, ◌++◌, List, ℕ, IfSome, OnOk, OnErr};
-ghost use Rattle.msr_time.specs.Instant.{IsInstant};
-ghost use Rattle.msr_tool.specs.ListWriting.{IsLastLine};
+ghost use Rattle.msr_tool.specs.Listing.{last_line};
+ghost use Rattle.msr_tool.specs.ListWriting.{IsLastLine, IsOpenInBounds};
 
 use crate::fault::ToolFault;
-use crate::listed_segment::{ListedSegment, begun, longer};
+use crate::listed_segment::{begun, longer};
 use msr_devices::{Sink, WriteBuffer};
 use msr_input::NextOutline;
-use msr_report::{Counts, push_counts, push_list_line};
+use msr_options::ListForm;
+use msr_report::{
+    Counts, ListedSegment, push_counts, push_json_counts, push_json_line, push_list_line,
+};
 use msr_segments::Step;
 use std::alloc::{AllocError, Global};
 use std::marker::Model;
@@ -17,7 +20,9 @@ use std::marker::Model;
 #[derive(Drop)]
 pub(crate) struct ListWriter {
     alloc: Global,
+    form: ListForm,
     buffer: WriteBuffer,
+    before: Option<ListedSegment>,
     last: Option<ListedSegment>,
 }
 
@@ -26,44 +31,71 @@ impl Model for ListWriter {
 
     ghost Value = { Lister };
 
-    ghost view = { λ w. record { waiting = w.buffer.bytes.items; last = w.last } };
+    ghost view = { λ w. record
+        { form = w.form; waiting = w.buffer.bytes.items; before = w.before; last = w.last } };
 }
 
-/// Appends the line of the segment that was begun last, if one was.
+/// Appends the line of the segment that was begun last, if one was, after that one.
 fn push_last(
     alloc: Global,
     out: &mut Vec<u8>,
+    form: ListForm,
+    before: Option<ListedSegment>,
     last: Option<ListedSegment>,
 ) -> Result<(), AllocError>
-    requires { IfSome last (λ segment. IsInstant segment.start) }
+    requires { IfSome last IsOpenInBounds }
     ensures pushed { OnOk result ((line : List ℕ)
-        × (IsLastLine last line × (out.new.items ≡ out.old.items ++ line))) }
+        × (IsLastLine form before last line × (out.new.items ≡ out.old.items ++ line))) }
     ensures refused { OnErr result (out.new.items ≡ out.old.items) }
 {
-    match last {
-        Some(segment) => push_list_line(alloc, out, &segment.key, segment.start, segment.count),
-        None => Ok(()),
+    let Some(segment) = last else {
+        return Ok(());
+    };
+    match form {
+        ListForm::Words => {
+            push_list_line(alloc, out, &segment.key, segment.start, segment.count)
+        }
+        ListForm::Json => push_json_line(alloc, out, before, &segment),
+    }
+}
+
+/// Appends the line of the counts.
+fn push_last_line(
+    alloc: Global,
+    out: &mut Vec<u8>,
+    form: ListForm,
+    counts: &Counts,
+) -> Result<(), AllocError>
+    ensures pushed { OnOk result (out.new.items ≡ out.old.items ++ last_line form counts.now) }
+    ensures refused { OnErr result (out.new.items ≡ out.old.items) }
+{
+    match form {
+        ListForm::Words => push_counts(alloc, out, counts),
+        ListForm::Json => push_json_counts(alloc, out, counts),
     }
 }
 
 impl ListWriter {
     ghost use Rattle.std.specs.Prelude.{◌≡◌, ◌<◌, List, [], ◌++◌, length, Option, None, IfSome, MatchResult, OnOk, option_map};
     ghost use Rattle.std.specs.Option.{option_to_list};
-    ghost use Rattle.msr_time.specs.Instant.{IsInstant};
     ghost use Rattle.msr_devices.specs.Device.{Device, CanCountCall, CountsFew};
     ghost use Rattle.msr_segments.specs.declared.joiner.Segment.{Segment as Joined};
-    ghost use Rattle.msr_tool.specs.ListWriting.{HasListed, HasListedAll, StopsListing, StopsListingAll, IsOpenInBounds, open_after, open_of};
+    ghost use Rattle.msr_tool.specs.ListWriting.{HasListed, HasListedAll, StopsListing, StopsListingAll, IsOpenInBounds, open_after};
+    ghost use Rattle.msr_tool.specs.Listing.{listed_of};
     ghost use Rattle.msr_tool.specs.Writing.{ended_by};
 
     /// A writer before the first row.
-    pub(crate) fn new(alloc: Global) -> ListWriter
+    pub(crate) fn new(alloc: Global, form: ListForm) -> ListWriter
+        ensures form { result.form ≡ form }
         ensures last { result.last ≡ None }
         ensures few_wait { length result.waiting < 65536 }
-        ensures none { (start : Device) → HasListed start start result.waiting [] }
+        ensures none { (start : Device) → HasListed form start start result.waiting result.before [] }
     {
         ListWriter {
             alloc,
+            form,
             buffer: WriteBuffer::new(alloc),
+            before: None,
             last: None,
         }
     }
@@ -78,21 +110,29 @@ impl ListWriter {
         requires last { IfSome self.old.last IsOpenInBounds }
         requires few_wait { length self.old.waiting < 65536 }
         ensures written { (start : Device) (segments : List Joined) (current : Option Joined)
-            → HasListed start (W.device sink.old) self.old.waiting segments
-            → self.old.last ≡ option_map open_of current
+            → HasListed self.old.form start (W.device sink.old) self.old.waiting self.old.before segments
+            → self.old.last ≡ option_map listed_of current
             → MatchResult result
-            (λ _. HasListed start (W.device sink.new) self.new.waiting
+            (λ _. HasListed self.old.form start (W.device sink.new) self.new.waiting self.new.before
             (segments ++ option_to_list (ended_by next.now.step current)))
-            (StopsListing start (W.device sink.new)
+            (StopsListing self.old.form start (W.device sink.new)
             (segments ++ option_to_list (ended_by next.now.step current))) }
+        ensures form { OnOk result (self.new.form ≡ self.old.form) }
         ensures last { OnOk result (self.new.last ≡ open_after next.now.step self.old.last next.now.row) }
         ensures few_wait { OnOk result (length self.new.waiting < 65536) }
         ensures few { CountsFew (W.device sink.old) (W.device sink.new) }
     {
         match next.step {
             Step::Begins => {
-                push_last(self.alloc, &mut self.buffer.bytes, self.last)?;
+                push_last(
+                    self.alloc,
+                    &mut self.buffer.bytes,
+                    self.form,
+                    self.before,
+                    self.last,
+                )?;
                 self.buffer.flush_full(sink)?;
+                self.before = self.last.or(self.before);
                 self.last = Some(begun(&next.row));
                 Ok(())
             }
@@ -108,20 +148,22 @@ impl ListWriter {
         requires count { CanCountCall (W.device sink.old) }
         requires last { IfSome self.last IsOpenInBounds }
         ensures written { (start : Device) (segments : List Joined) (current : Option Joined)
-            → HasListed start (W.device sink.old) self.waiting segments
-            → self.last ≡ option_map open_of current
+            → HasListed self.form start (W.device sink.old) self.waiting self.before segments
+            → self.last ≡ option_map listed_of current
             → MatchResult result
-            (λ _. HasListedAll start (W.device sink.new) (segments ++ option_to_list current) counts.now)
-            (StopsListingAll start (W.device sink.new) (segments ++ option_to_list current) counts.now) }
+            (λ _. HasListedAll self.form start (W.device sink.new) (segments ++ option_to_list current) counts.now)
+            (StopsListingAll self.form start (W.device sink.new) (segments ++ option_to_list current) counts.now) }
         ensures few { CountsFew (W.device sink.old) (W.device sink.new) }
     {
         let ListWriter {
             alloc,
+            form,
             mut buffer,
+            before,
             last,
         } = self;
-        push_last(alloc, &mut buffer.bytes, last)?;
-        push_counts(alloc, &mut buffer.bytes, counts)?;
+        push_last(alloc, &mut buffer.bytes, form, before, last)?;
+        push_last_line(alloc, &mut buffer.bytes, form, counts)?;
         buffer.flush(sink)?;
         Ok(())
     }

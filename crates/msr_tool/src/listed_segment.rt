@@ -3,18 +3,7 @@ ghost use Rattle.std.specs.Prelude.{◌≡◌, ◌≤◌, ◌^◌, IfSome};
 ghost use Rattle.msr_tool.specs.ListWriting.{open_row, open_longer};
 
 use msr_input::RowOutline;
-use msr_rows::Key;
-
-/// The segment that was begun last, as its line tells it: without its samples.
-#[derive(Clone, Copy)]
-pub(crate) struct ListedSegment {
-    /// The segment's key.
-    pub key: Key,
-    /// The instant of the first sample, in microseconds from 1970-01-01 00:00:00.
-    pub start: i64,
-    /// How many samples it has so far.
-    pub count: u64,
-}
+use msr_report::ListedSegment;
 
 /// The segment that the row begins.
 pub(crate) fn begun(row: &RowOutline) -> ListedSegment

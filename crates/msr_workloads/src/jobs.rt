@@ -6,7 +6,7 @@ use msr_compare::{Comparison, compare};
 use msr_fixtures::next_of;
 use msr_input::Settings;
 use msr_tool::{
-    Behavior, Kinds, Length, Options, TestSink, TestSource, Verdict, check_packed, list_segments,
+    Behavior, Kinds, Length, ListForm, Options, TestSink, TestSource, Verdict, check_packed, list_segments,
     repack,
 };
 use std::alloc::Global;
@@ -91,7 +91,7 @@ fn is_least(alloc: Global, written: &Written) -> bool {
 fn add_list(alloc: Global, written: &Written, options: Options, digest: &mut Digest) {
     let mut records = TestSource::new(written.records.bytes(), PLAIN);
     let mut lines = TestSink::new(Vec::new(alloc), PLAIN);
-    if list_segments(alloc, &mut records, &mut lines, options).is_ok() {
+    if list_segments(alloc, &mut records, &mut lines, options, ListForm::Words).is_ok() {
         digest.add_bytes(lines.bytes());
     }
 }

@@ -8,17 +8,17 @@ pub returns-in_err-push_last-clause-written : goal.returns-in_err-push_last-clau
 returns-in_err-push_last-clause-written g c start segments current h last =
     let p = err_from_is_err_and c.from_residual.result c.from_residual.ensures.1 in
     rw (p.1, p.2) (
-      prefix_listed start (g.W.Sink.device c.args.sink.now) c.args.self.waiting segments
+      prefix_listed _ start (g.W.Sink.device c.args.sink.now) _ _ segments
           (option_to_list current) h,
       h.calm.steady,
     )
 
-pub returns-in_err-push_counts-clause-written : goal.returns-in_err-push_counts-clause-written
-returns-in_err-push_counts-clause-written g c start segments current h last =
-    let p = err_from_is_err_and c.from_residual-in_err-push_counts.result
-    c.from_residual-in_err-push_counts.ensures.1 in
+pub returns-in_err-push_last_line-clause-written : goal.returns-in_err-push_last_line-clause-written
+returns-in_err-push_last_line-clause-written g c start segments current h last =
+    let p = err_from_is_err_and c.from_residual-in_err-push_last_line.result
+    c.from_residual-in_err-push_last_line.ensures.1 in
     rw (p.1, p.2) (
-      prefix_listed start (g.W.Sink.device c.args.sink.now) c.args.self.waiting segments
+      prefix_listed _ start (g.W.Sink.device c.args.sink.now) _ _ segments
           (option_to_list current) h,
       h.calm.steady,
     )
@@ -29,12 +29,12 @@ returns-in_err-flush-clause-written g c start segments current h last =
     let l = rw (← c.self.view_is) at h in
     let line = c.in_ok-push_last.ensures.pushed in
     let same = rw (← c.self.view_is) at last in
-    let pushed = listed_pushed start
-    (g.W.Sink.device c.args.sink.now) c.self.inside.buffer.bytes.items _ line.0 segments current l
+    let pushed = listed_pushed _ start
+    (g.W.Sink.device c.args.sink.now) c.self.inside.buffer.bytes.items _ line.0 _ segments current l
     (rw same at line.1.0) line.1.1 in
     rw (p.1, p.2) (
-      listed_all_cut start (g.W.Sink.device c.args.sink.now)
-          (g.W.Sink.device c.flush.new.sink) _ _ _ _ c.args.counts.now pushed c.in_ok-push_counts.ensures.pushed
+      listed_all_cut _ start (g.W.Sink.device c.args.sink.now)
+          (g.W.Sink.device c.flush.new.sink) _ _ _ _ _ c.args.counts.now pushed c.in_ok-push_last_line.ensures.pushed
           c.in_err-flush.ensures.passes,
       calm_failed start (g.W.Sink.device c.args.sink.now)
           (g.W.Sink.device c.flush.new.sink) h.calm c.in_err-flush.ensures.failed,
@@ -45,9 +45,9 @@ returns-clause-written g c start segments current h last =
     let l = rw (← c.self.view_is) at h in
     let line = c.in_ok-push_last.ensures.pushed in
     let same = rw (← c.self.view_is) at last in
-    let pushed = listed_pushed start
-    (g.W.Sink.device c.args.sink.now) c.self.inside.buffer.bytes.items _ line.0 segments current l
+    let pushed = listed_pushed _ start
+    (g.W.Sink.device c.args.sink.now) c.self.inside.buffer.bytes.items _ line.0 _ segments current l
     (rw same at line.1.0) line.1.1 in
-    listed_all start (g.W.Sink.device c.args.sink.now)
-    (g.W.Sink.device c.flush.new.sink) _ _ _ _ c.args.counts.now pushed c.in_ok-push_counts.ensures.pushed
+    listed_all _ start (g.W.Sink.device c.args.sink.now)
+    (g.W.Sink.device c.flush.new.sink) _ _ _ _ _ c.args.counts.now pushed c.in_ok-push_last_line.ensures.pushed
     c.in_ok-flush.ensures.passes c.in_ok-flush.ensures.empty c.in_ok-flush.ensures.calm

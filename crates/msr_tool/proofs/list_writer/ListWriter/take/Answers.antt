@@ -11,8 +11,7 @@ returns-in_err-push_last-in-Begins-clause-written g c start segments current h l
     let p = err_from_is_err_and c.from_residual.result c.from_residual.ensures.1 in
     let ended = option_to_list (ended_by c.args.next.now.step current) in
     rw (p.1, p.2) (
-      prefix_listed start
-          (g.W.Sink.device c.args.sink.now) c.args.self.now.waiting segments ended h,
+      prefix_listed _ start (g.W.Sink.device c.args.sink.now) _ _ segments ended h,
       h.calm.steady,
     )
 
@@ -23,12 +22,12 @@ returns-in_err-flush_full-in-Begins-clause-written g c start segments current h 
     let l = rw (← c.self.view_is) at h in
     let line = c.in_ok-push_last-in-Begins.ensures.pushed in
     let same = rw (← c.self.view_is) at last in
-    let pushed = listed_pushed start
-    (g.W.Sink.device c.args.sink.now) c.self.inside.buffer.bytes.items _ line.0 segments current l
+    let pushed = listed_pushed _ start
+    (g.W.Sink.device c.args.sink.now) c.self.inside.buffer.bytes.items _ line.0 _ segments current l
     (rw same at line.1.0) line.1.1 in
     rw (p.1, p.2, c.in-Begins.is) (
-      listed_cut start (g.W.Sink.device c.args.sink.now)
-          (g.W.Sink.device c.flush_full.new.sink) _ _ _ pushed c.in_err-flush_full-in-Begins.ensures.passes,
+      listed_cut _ start (g.W.Sink.device c.args.sink.now)
+          (g.W.Sink.device c.flush_full.new.sink) _ _ _ _ pushed c.in_err-flush_full-in-Begins.ensures.passes,
       calm_failed start (g.W.Sink.device c.args.sink.now)
           (g.W.Sink.device c.flush_full.new.sink) h.calm c.in_err-flush_full-in-Begins.ensures.failed,
     )
@@ -38,11 +37,11 @@ returns-in_ok-flush_full-in-Begins-clause-written g c start segments current h l
     let l = rw (← c.self.view_is) at h in
     let line = c.in_ok-push_last-in-Begins.ensures.pushed in
     let same = rw (← c.self.view_is) at last in
-    let pushed = listed_pushed start
-    (g.W.Sink.device c.args.sink.now) c.self.inside.buffer.bytes.items _ line.0 segments current l
+    let pushed = listed_pushed _ start
+    (g.W.Sink.device c.args.sink.now) c.self.inside.buffer.bytes.items _ line.0 _ segments current l
     (rw same at line.1.0) line.1.1 in
-    rw c.in-Begins.is (listed_passed start (g.W.Sink.device c.args.sink.now)
-    (g.W.Sink.device c.flush_full.new.sink) _ _ _ pushed c.in_ok-flush_full-in-Begins.ensures.passes
+    rw c.in-Begins.is (listed_passed _ start (g.W.Sink.device c.args.sink.now)
+    (g.W.Sink.device c.flush_full.new.sink) _ _ _ _ pushed c.in_ok-flush_full-in-Begins.ensures.passes
     c.in_ok-flush_full-in-Begins.ensures.calm)
 
 pub returns-in-Joins-clause-written : goal.returns-in-Joins-clause-written
