@@ -1,24 +1,20 @@
 -- How a comparison ends: answered, stopped, or before it begins.
-use Rattle.std.proofs.Common.{◌≡◌, ℕ, List, [], codes, take, drop, refl, subst, append-nil, Result, Ok, Err}
+use Rattle.std.proofs.Common.{◌≡◌, ℕ, List, [], codes, take, drop, refl, subst, inl, inr, append-nil, Result, Ok, Err}
 use Rattle.std.proofs.lemmas.List.{take-append-drop}
 use Rattle.msr_devices.specs.Device.{Device, HasLeft, Takes}
 use Rattle.msr_devices.proofs.Chaining.{left_of, takes_append, takes_none}
 use Rattle.msr_compare.specs.Answers.{CompareAnswers}
 use Rattle.msr_compare.specs.declared.comparison.Comparison.{Comparison}
 use Rattle.msr_compare.specs.declared.fault.CompareFault.{CompareFault}
-use Rattle.msr_compare.specs.declared.fault.CompareFault.TheVariants.{One, Other}
 use Rattle.msr_input.specs.declared.settings.Settings.{Settings}
-use Rattle.msr_input.specs.declared.fault.ReadFault.{ReadFault}
-use Rattle.msr_input.specs.declared.fault.ReadFault.TheVariants as read
 use Rattle.msr_tool.specs.declared.fault.ToolFault.{ToolFault}
 use Rattle.msr_tool.specs.declared.fault.ToolFault.TheVariants as fault
 use Rattle.msr_options.specs.Choice.{Choice}
 use Rattle.msr_command.specs.declared.comparing.Names.{Names}
 use Rattle.msr_command.specs.declared.done.Done.{Done}
-use Rattle.msr_command.specs.declared.done.Done.TheVariants.{Compared}
 use Rattle.msr_command.specs.declared.task_fault.TaskFault.{TaskFault}
-use Rattle.msr_command.specs.declared.task_fault.TaskFault.TheVariants.{CannotOpen, Input, SameFile, SameOutput, Overlap, Closed, Tool}
-use Rattle.msr_command.specs.Comparing.{IsAtFault, IsNamed, StopsAt, TellsComparison, compare_settings, comparison_lines}
+use Rattle.msr_command.specs.declared.task_fault.TaskFault.TheVariants.{Tool}
+use Rattle.msr_command.specs.Comparing.{TellsComparison, compare_settings, comparison_lines, stop_of}
 use Rattle.msr_command.specs.Ends.{Compares, ComparesNamed, CompareEnds, IsOneStandard, IsOtherStandard, IsUnread, OverTwo}
 
 -- what was tried before prints nothing
@@ -49,22 +45,12 @@ two_none known_one known_other says one other out0 out none ends = record {
   ends = ends (left_of one).0 (left_of other).0;
 }
 
-unread : (choice : Choice) (names : Names) (first second : List ℕ) (stop : TaskFault) → IsUnread stop →
-    CompareEnds choice names (Err stop) first second []
-unread choice names first second (CannotOpen name error) is = (tt, refl)
-unread choice names first second (Input name why) is = absurd is
-unread choice names first second SameFile is = (tt, refl)
-unread choice names first second SameOutput is = absurd is
-unread choice names first second Overlap is = absurd is
-unread choice names first second Closed is = absurd is
-unread choice names first second (Tool why) is = absurd is
-
 -- an input cannot be opened, or is the output
 pub compare_unread : (choice : Choice) (names : Names) (standard out : Device) (stop : TaskFault) → IsUnread stop →
     ComparesNamed choice names standard out out (Err stop)
 compare_unread choice names standard out stop is =
     two_none (IsOneStandard names) (IsOtherStandard names) (CompareEnds choice names (Err stop)) standard standard out out
-    (takes_none out) (λ first second. unread choice names first second stop is)
+    (takes_none out) (λ first second. inr (inl (inl is), refl))
 
 -- what a comparison of two sources did is that of the files with these names
 
@@ -118,47 +104,17 @@ as_asked choice settings first second answer same answers =
     subst P same answers
 
 -- an input is at fault
-
-named : (choice : Choice) (names : Names) (first second name : List ℕ) (why : ReadFault) (stop : TaskFault) → IsNamed name why stop →
-    IsAtFault choice names first second stop → CompareEnds choice names (Err stop) first second []
-named choice names first second name why (CannotOpen file error) is at_fault = absurd is
-named choice names first second name why (Input file found) is at_fault = (at_fault, refl)
-named choice names first second name why SameFile is at_fault = absurd is
-named choice names first second name why SameOutput is at_fault = absurd is
-named choice names first second name why Overlap is at_fault = absurd is
-named choice names first second name why Closed is at_fault = absurd is
-named choice names first second name why (Tool found) is at_fault = absurd is
-
-at_fault : (choice : Choice) (names : Names) (first second : List ℕ) (why : CompareFault) (stop : TaskFault) →
-    CompareAnswers (compare_settings choice) first second (Err why) → StopsAt names why stop →
-    CompareEnds choice names (Err stop) first second []
-at_fault choice names first second (One (read.Input found)) stop answer stops =
-    named choice names first second names.one.now (read.Input found) stop stops
-    (record { fault = One (read.Input found); answer = answer; stops = stops })
-at_fault choice names first second (One read.Read) stop answer stops =
-    named choice names first second names.one.now read.Read stop stops
-    (record { fault = One read.Read; answer = answer; stops = stops })
-at_fault choice names first second (One read.Memory) stop answer stops = rw stops refl
-at_fault choice names first second (Other (read.Input found)) stop answer stops =
-    named choice names first second names.other.now (read.Input found) stop stops
-    (record { fault = Other (read.Input found); answer = answer; stops = stops })
-at_fault choice names first second (Other read.Read) stop answer stops =
-    named choice names first second names.other.now read.Read stop stops
-    (record { fault = Other read.Read; answer = answer; stops = stops })
-at_fault choice names first second (Other read.Memory) stop answer stops = rw stops refl
-
-pub compare_stops : (choice : Choice) (names : Names) (one other out : Device) (first second : List ℕ) (why : CompareFault)
-    (stop : TaskFault) → HasLeft one first → HasLeft other second →
-    CompareAnswers (compare_settings choice) first second (Err why) → StopsAt names why stop →
-    Compares choice names one other out out (Err stop)
-compare_stops choice names one other out first second why stop left_one left_other answer stops = record {
+pub compare_stops : (choice : Choice) (names : Names) (one other out : Device) (first second : List ℕ) (why : CompareFault) →
+    HasLeft one first → HasLeft other second → CompareAnswers (compare_settings choice) first second (Err why) →
+    Compares choice names one other out out (Err (stop_of names why))
+compare_stops choice names one other out first second why left_one left_other answer = record {
   first = first;
   second = second;
   printed = [];
   left_one = λ is. left_one;
   left_other = λ is. left_other;
   prints = takes_none out;
-  ends = at_fault choice names first second why stop answer stops;
+  ends = inr (inl (inr (record { fault = why; answer = answer; stops = refl })), refl);
 }
 
 -- the answer is not printed, or not whole
@@ -179,11 +135,11 @@ compare_untold choice names one other out0 out first second comparison fault.Wri
   left_one = λ is. left_one;
   left_other = λ is. left_other;
   prints = tells.1;
-  ends = record {
+  ends = inl (record {
     rest = drop tells.0 (comparison_lines comparison);
     comparison = comparison;
     answered = record { answer = answer; lines = take-append-drop tells.0 (comparison_lines comparison) };
-  };
+  });
 }
 compare_untold choice names one other out0 out first second comparison fault.Memory left_one left_other answer tells = record {
   first = first;
@@ -192,28 +148,18 @@ compare_untold choice names one other out0 out first second comparison fault.Mem
   left_one = λ is. left_one;
   left_other = λ is. left_other;
   prints = tells;
-  ends = refl;
+  ends = inl refl;
 }
 
 -- what was printed is not stored
-unstored : (choice : Choice) (names : Names) (comparison : Comparison) (first second printed : List ℕ) →
-    CompareEnds choice names (Ok (Compared comparison)) first second printed →
-    CompareEnds choice names (Err (Tool fault.Write)) first second printed
-unstored choice names comparison first second printed ends = record {
-  rest = [];
-  comparison = comparison;
-  answered = rw append-nil ends;
-}
-
-pub compare_unsettled : (choice : Choice) (names : Names) (standard out0 out : Device) (comparison : Comparison) →
-    ComparesNamed choice names standard out0 out (Ok (Compared comparison)) →
-    ComparesNamed choice names standard out0 out (Err (Tool fault.Write))
-compare_unsettled choice names standard out0 out comparison does = record {
+pub compare_unsettled : (choice : Choice) (names : Names) (standard out0 out : Device) (done : Done) →
+    ComparesNamed choice names standard out0 out (Ok done) → ComparesNamed choice names standard out0 out (Err (Tool fault.Write))
+compare_unsettled choice names standard out0 out done does = record {
   first = does.first;
   second = does.second;
   printed = does.printed;
   left_one = does.left_one;
   left_other = does.left_other;
   prints = does.prints;
-  ends = unstored choice names comparison does.first does.second does.printed does.ends;
+  ends = inl (record { rest = []; comparison = does.ends.0; answered = rw append-nil does.ends.2 });
 }

@@ -15,22 +15,21 @@ use Rattle.msr_tool.specs.declared.fault.ToolFault.{ToolFault}
 use Rattle.msr_tool.specs.declared.fault.ToolFault.TheVariants as fault
 use Rattle.msr_options.specs.declared.days.DayOptions.{DayOptions}
 use Rattle.msr_folders.specs.declared.found.WalkFound.{WalkFound}
-use Rattle.msr_folders.specs.declared.found.WalkFound.TheVariants.{Well, Unwell, NoDay}
 use Rattle.msr_walk.specs.Walk.{IsWalk, WalkEnds, Walks}
 use Rattle.msr_walk.proofs.EntriesTold.{none_told, stops_entries, walk_stops}
 use Rattle.msr_verify.specs.Walk.{IsWalk as IsVerifying, Verifies, WalkEnds as VerifyingEnds}
 use Rattle.msr_verify.proofs.EntriesFound.{none_told as none_found, stops_entries as stops_found, walk_stops as verifying_stops}
 use Rattle.msr_command.specs.declared.done.Done.{Done}
-use Rattle.msr_command.specs.declared.done.Done.TheVariants.{Written, Repacked, Checked, Compared, Walked}
+use Rattle.msr_command.specs.declared.done.Done.TheVariants.{Written, Repacked, Checked}
 use Rattle.msr_command.specs.declared.task_fault.TaskFault.{TaskFault}
-use Rattle.msr_command.specs.declared.task_fault.TaskFault.TheVariants.{CannotOpen, Input, SameFile, SameOutput, Overlap, Closed, Tool}
+use Rattle.msr_command.specs.declared.task_fault.TaskFault.TheVariants.{Tool}
 use Rattle.msr_options.specs.declared.task.ListForm.{ListForm}
 use Rattle.msr_options.specs.declared.task.Task.{Task}
 use Rattle.msr_options.specs.declared.task.Task.TheVariants.{Repack, List as Listing, Check, Compare, Archive, Verify, Feed}
 use Rattle.msr_command.specs.Turns.{AreTurns}
 use Rattle.msr_command.specs.Comparing.{names_of}
 use Rattle.msr_command.proofs.Comparisons.{compare_unsettled, two_after, two_none}
-use Rattle.msr_command.specs.Ends.{ArchiveEnds, Checks, Does, Ends, EndsClosed, Feeds, FeedAnswers, FeedEnds, FeedsTo, IfChecked, IfRepacked, IfWritten, IsUncreated, IsUnread, ListEnds, Lists, ListsNamed, IsOverlapOrMemory, Over, RepackEnds, Repacks, RepacksNamed, StopsRecords, StopsReport, VerifiesArchive, VerifyEnds, WalksArchive, WritesList, WritesRecords, WritesReport, done_of_archive, done_of_verifying}
+use Rattle.msr_command.specs.Ends.{Checks, Does, EndsClosed, Feeds, FeedAnswers, FeedEnds, FeedsTo, IsUncreated, IsUnread, ListEnds, Lists, ListsNamed, IsOverlapOrMemory, Over, RepackEnds, Repacks, RepacksNamed, VerifiesArchive, WalksArchive, done_of_archive, done_of_verifying}
 
 -- nothing was read or printed
 over_none : (known : Type 0) (says : (input printed : List ℕ) → Type 0) (source out0 out : Device) → Takes out0 out [] →
@@ -68,86 +67,47 @@ over_said known says others source out0 out then does = record {
 
 -- a file cannot be opened or made, or is another one
 
-unread : (done : Done → Type 0) (stopped : ToolFault → Type 0) (stop : TaskFault) → IsUnread stop →
-    Ends done IsUnread stopped [] (Err stop)
-unread done stopped (CannotOpen name error) is = (tt, refl)
-unread done stopped (Input name why) is = absurd is
-unread done stopped SameFile is = (tt, refl)
-unread done stopped SameOutput is = absurd is
-unread done stopped Overlap is = absurd is
-unread done stopped Closed is = absurd is
-unread done stopped (Tool why) is = absurd is
-
-uncreated : (done : Done → Type 0) (stopped : ToolFault → Type 0) (stop : TaskFault) → IsUncreated stop →
-    Ends done IsUncreated stopped [] (Err stop)
-uncreated done stopped (CannotOpen name error) is = (tt, refl)
-uncreated done stopped (Input name why) is = absurd is
-uncreated done stopped SameFile is = (tt, refl)
-uncreated done stopped SameOutput is = (tt, refl)
-uncreated done stopped Overlap is = absurd is
-uncreated done stopped Closed is = absurd is
-uncreated done stopped (Tool why) is = absurd is
-
-closed_or : (done : Done → Type 0) (stopped : ToolFault → Type 0) (stop : TaskFault) →
-    (stop ≡ Closed) ⊎ IsUncreated stop → Ends done IsUncreated stopped [] (Err stop)
-closed_or done stopped stop (inl is) = rw is refl
-closed_or done stopped stop (inr is) = uncreated done stopped stop is
-
-pub unread_uncreated : (stop : TaskFault) → IsUnread stop → IsUncreated stop
-unread_uncreated (CannotOpen name error) is = tt
-unread_uncreated (Input name why) is = absurd is
-unread_uncreated SameFile is = tt
-unread_uncreated SameOutput is = absurd is
-unread_uncreated Overlap is = absurd is
-unread_uncreated Closed is = absurd is
-unread_uncreated (Tool why) is = absurd is
-
 pub repack_uncreated : (choice : Choice) (known : Type 0) (source out : Device) (stop : TaskFault) → IsUncreated stop →
     Over known (RepackEnds choice (Err stop)) source out out
 repack_uncreated choice known source out stop is =
     over_none known (RepackEnds choice (Err stop)) source out out (takes_none out)
-    (λ input. uncreated (IfRepacked (WritesReport choice input [])) (StopsReport choice input []) stop is)
+    (λ input. inr (inl is, refl))
 
 pub repack_unread : (choice : Choice) (name : List ℕ) (standard out : Device) (stop : TaskFault) → IsUnread stop →
     RepacksNamed choice name standard out out (Err stop)
 repack_unread choice name standard out stop is =
-    repack_uncreated choice (name ≡ codes "-") standard out stop (unread_uncreated stop is)
+    repack_uncreated choice (name ≡ codes "-") standard out stop (inl is)
 
 pub feed_uncreated : (choice : Choice) (source out : Device) (stop : TaskFault) → IsUncreated stop →
     Feeds choice source out out (Err stop)
 feed_uncreated choice source out stop is =
     over_none ⊤ (FeedEnds choice (Err stop)) source out out (takes_none out)
-    (λ input. uncreated (IfWritten (WritesRecords choice input [])) (StopsRecords choice input []) stop is)
+    (λ input. inr (inl is, refl))
 
 pub list_unread : (form : ListForm) (choice : Choice) (name : List ℕ) (standard out : Device) (stop : TaskFault) → IsUnread stop →
     ListsNamed form choice name standard out out (Err stop)
 list_unread form choice name standard out stop is =
     over_none (name ≡ codes "-") (ListEnds form choice (Err stop)) standard out out (takes_none out)
-    (λ input. unread (IfWritten (WritesList form choice input []))
-    (λ why. ListAnswers form (settings_of choice) input [] (Err why)) stop is)
+    (λ input. inr (inl is, refl))
 
 -- nothing can be printed
-
-feed_closed : (choice : Choice) (source out0 out : Device) (stop : TaskFault) → Takes out0 out [] →
-    (stop ≡ Closed) ⊎ IsUncreated stop → Feeds choice source out0 out (Err stop)
-feed_closed choice source out0 out stop none ends = over_none _ _ source out0 out none
-    (λ input. closed_or (IfWritten (WritesRecords choice input [])) (StopsRecords choice input []) stop ends)
 
 pub task_closed : (task : Task) (standard out0 out : Device) (stop : TaskFault) → Takes out0 out [] →
     EndsClosed task stop → Does task standard out0 out (Err stop)
 task_closed (Repack asked) standard out0 out stop none ends =
-    rw ends (over_none _ _ standard out0 out none (λ input. refl))
+    rw ends (over_none _ _ standard out0 out none (λ input. inr (inr refl, refl)))
 task_closed (Listing asked) standard out0 out stop none ends =
-    rw ends (over_none _ _ standard out0 out none (λ input. refl))
+    rw ends (over_none _ _ standard out0 out none (λ input. inr (inr refl, refl)))
 task_closed (Check asked) standard out0 out stop none ends =
-    rw ends (record { input = []; text = []; printed = []; prints = none; ends = refl })
+    rw ends (record { input = []; text = []; printed = []; prints = none; ends = inr (inr refl, refl) })
 task_closed (Compare asked) standard out0 out stop none ends =
-    rw ends (two_none _ _ _ standard standard out0 out none (λ first second. refl))
+    rw ends (two_none _ _ _ standard standard out0 out none (λ first second. inr (inr refl, refl)))
 task_closed (Archive asked) standard out0 out stop none ends =
-    rw ends (record { printed = []; prints = none; ends = refl })
+    rw ends (record { printed = []; prints = none; ends = inr (inr refl, refl) })
 task_closed (Verify asked) standard out0 out stop none ends =
-    rw ends (record { printed = []; prints = none; ends = refl })
-task_closed (Feed asked) standard out0 out stop none ends = feed_closed asked.options standard out0 out stop none ends
+    rw ends (record { printed = []; prints = none; ends = inr (inr refl, refl) })
+task_closed (Feed asked) standard out0 out stop none ends =
+    over_none _ _ standard out0 out none (λ input. inr (ends, refl))
 
 pub then_does : (task : Task) (standard out0 out1 out : Device) (result : Result Done TaskFault) → Takes out0 out1 [] →
     Does task standard out1 out result → Does task standard out0 out result
@@ -184,7 +144,7 @@ repack_done choice source records0 records out0 out report in_turns does turns =
   printed = does.told;
   left = λ is. does.left;
   prints = does.told_all;
-  ends = record { written = does.written; report = report; reported = does.answers; turns = turns };
+  ends = (in_turns, refl, record { written = does.written; report = report; reported = does.answers; turns = turns });
 }
 
 pub repack_stops : (choice : Choice) (source records0 records out0 out : Device) (why : ToolFault) →
@@ -194,7 +154,7 @@ repack_stops choice source records0 records out0 out why does = record {
   printed = does.told;
   left = λ is. does.left;
   prints = does.told_all;
-  ends = record { written = does.written; answers = does.answers };
+  ends = inl (record { written = does.written; answers = does.answers });
 }
 
 -- what was fed is a repack whose records are printed, and whose text goes to a file
@@ -221,11 +181,11 @@ feed_stops choice source out0 out text0 text why does = record {
 
 pub fed : (choice : Choice) (source out0 out : Device) → FeedsTo choice source out0 out (Ok tt) →
     Feeds choice source out0 out (Ok Written)
-fed choice source out0 out does = over_said _ _ _ source out0 out (λ input printed ends. ends) does
+fed choice source out0 out does = over_said _ _ _ source out0 out (λ input printed ends. (refl, ends)) does
 
 pub unfed : (choice : Choice) (source out0 out : Device) (why : ToolFault) →
     FeedsTo choice source out0 out (Err why) → Feeds choice source out0 out (Err (Tool why))
-unfed choice source out0 out why does = over_said _ _ _ source out0 out (λ input printed ends. ends) does
+unfed choice source out0 out why does = over_said _ _ _ source out0 out (λ input printed ends. inl ends) does
 
 pub check_unread : (out : Device) (stop : TaskFault) → IsUnread stop → Checks out out (Err stop)
 check_unread out stop is = record {
@@ -233,8 +193,7 @@ check_unread out stop is = record {
   text = [];
   printed = [];
   prints = takes_none out;
-  ends = unread (IfChecked (λ verdict. VerdictAnswers [] [] [] (Ok verdict)))
-      (λ why. VerdictAnswers [] [] [] (Err why)) stop is;
+  ends = inr (inl is, refl);
 }
 
 pub check_stops : (packed report out0 out : Device) (why : ToolFault) → Tells packed report out0 out (Err why) →
@@ -244,69 +203,57 @@ check_stops packed report out0 out why does = record {
   text = does.text;
   printed = does.told;
   prints = does.told_all;
-  ends = does.answers;
+  ends = inl does.answers;
 }
-
-archive_ends : (asked : DayOptions) (printed : List ℕ) (is_whole : Bool) (found : WalkFound)
-    → WalkEnds asked printed (Ok found) → ArchiveEnds asked printed (Ok (done_of_archive is_whole found))
-archive_ends asked printed is_whole Well ends = record { found = Well; is_whole = is_whole; walk = ends; is = refl }
-archive_ends asked printed is_whole Unwell ends = record { found = Unwell; is_whole = is_whole; walk = ends; is = refl }
-archive_ends asked printed is_whole NoDay ends = record { found = NoDay; is_whole = is_whole; walk = ends; is = refl }
 
 pub archive_done : (asked : DayOptions) (out0 out : Device) (is_whole : Bool) (found : WalkFound)
     → Walks asked out0 out (Ok found) → WalksArchive asked out0 out (Ok (done_of_archive is_whole found))
 archive_done asked out0 out is_whole found does = record {
   printed = does.printed;
   prints = does.prints;
-  ends = archive_ends asked does.printed is_whole found does.ends;
+  ends = record { found = found; is_whole = is_whole; walk = does.ends; is = refl };
 }
 
 pub archive_stops : (asked : DayOptions) (out0 out : Device) (why : ToolFault) → Walks asked out0 out (Err why) →
     WalksArchive asked out0 out (Err (Tool why))
-archive_stops asked out0 out why does = record { printed = does.printed; prints = does.prints; ends = does.ends }
+archive_stops asked out0 out why does = record { printed = does.printed; prints = does.prints; ends = inl does.ends }
 
 -- folders overlap, or memory was refused before the walk began
 pub archive_unbegun : (asked : DayOptions) (out : Device) (stop : TaskFault) → IsOverlapOrMemory stop
     → WalksArchive asked out out (Err stop)
 archive_unbegun asked out stop (inl overlap) = rw overlap
-    (record { printed = []; prints = takes_none out; ends = (tt, refl) })
+    (record { printed = []; prints = takes_none out; ends = inr (inl refl, refl) })
 archive_unbegun asked out stop (inr refused) = rw refused (archive_stops asked out out fault.Memory
     (walk_stops asked out out device_fault.Memory
     (stops_entries asked out out device_fault.Memory (none_told asked out))))
-
-verify_ends : (printed : List ℕ) (is_whole : Bool) (found : WalkFound) → VerifyingEnds printed (Ok found)
-    → VerifyEnds printed (Ok (done_of_verifying is_whole found))
-verify_ends printed is_whole Well ends = record { found = Well; is_whole = is_whole; walk = ends; is = refl }
-verify_ends printed is_whole Unwell ends = record { found = Unwell; is_whole = is_whole; walk = ends; is = refl }
-verify_ends printed is_whole NoDay ends = record { found = NoDay; is_whole = is_whole; walk = ends; is = refl }
 
 pub verify_done : (out0 out : Device) (is_whole : Bool) (found : WalkFound) → Verifies out0 out (Ok found)
     → VerifiesArchive out0 out (Ok (done_of_verifying is_whole found))
 verify_done out0 out is_whole found does = record {
   printed = does.printed;
   prints = does.prints;
-  ends = verify_ends does.printed is_whole found does.ends;
+  ends = record { found = found; is_whole = is_whole; walk = does.ends; is = refl };
 }
 
 pub verify_stops : (out0 out : Device) (why : ToolFault) → Verifies out0 out (Err why) →
     VerifiesArchive out0 out (Err (Tool why))
-verify_stops out0 out why does = record { printed = does.printed; prints = does.prints; ends = does.ends }
+verify_stops out0 out why does = record { printed = does.printed; prints = does.prints; ends = inl does.ends }
 
 pub verify_unbegun : (out : Device) (stop : TaskFault) → IsOverlapOrMemory stop → VerifiesArchive out out (Err stop)
 verify_unbegun out stop (inl overlap) = rw overlap
-    (record { printed = []; prints = takes_none out; ends = (tt, refl) })
+    (record { printed = []; prints = takes_none out; ends = inr (inl refl, refl) })
 verify_unbegun out stop (inr refused) = rw refused (verify_stops out out fault.Memory
     (verifying_stops out out device_fault.Memory
     (stops_found out out device_fault.Memory (none_found out))))
 
 -- what was printed is not stored
 
-repack_unstored : (choice : Choice) (in_turns : Bool) (input printed : List ℕ) →
-    RepackEnds choice (Ok (Repacked in_turns)) input printed → RepackEnds choice (Err (Tool fault.Write)) input printed
-repack_unstored choice in_turns input printed ends = record {
-  written = ends.written;
-  answers = inr (record { report = ends.report; rest = []; reported = rw append-nil ends.reported });
-}
+repack_unstored : (choice : Choice) (done : Done) (input printed : List ℕ) → RepackEnds choice (Ok done) input printed →
+    RepackEnds choice (Err (Tool fault.Write)) input printed
+repack_unstored choice done input printed ends = inl (record {
+  written = ends.2.written;
+  answers = inr (record { report = ends.2.report; rest = []; reported = rw append-nil ends.2.reported });
+})
 
 pub repack_unsettled : (choice : Choice) (source records0 records out0 out : Device) (report : Report) →
     Reports choice source records0 records out0 out (Ok report) → Repacks choice source out0 out (Err (Tool fault.Write))
@@ -315,10 +262,10 @@ repack_unsettled choice source records0 records out0 out report does = record {
   printed = does.told;
   left = λ is. does.left;
   prints = does.told_all;
-  ends = record {
+  ends = inl (record {
     written = does.written;
     answers = inr (record { report = report; rest = []; reported = rw append-nil does.answers });
-  };
+  });
 }
 
 feed_unstored : (choice : Choice) (input printed : List ℕ) → FeedAnswers choice (Ok tt) input printed →
@@ -332,82 +279,63 @@ pub feed_unsettled : (choice : Choice) (source out0 out : Device) → FeedsTo ch
     FeedsTo choice source out0 out (Err fault.Write)
 feed_unsettled choice source out0 out does = over_said _ _ _ source out0 out (feed_unstored choice) does
 
-list_unstored : (form : ListForm) (choice : Choice) (input printed : List ℕ) →
-    ListEnds form choice (Ok Written) input printed → ListEnds form choice (Err (Tool fault.Write)) input printed
-list_unstored form choice input printed ends = inr
-    (record { counts = ends.counts; tail = []; listed = rw append-nil ends.listed })
+fed_unstored : (choice : Choice) (done : Done) (input printed : List ℕ) → FeedEnds choice (Ok done) input printed →
+    FeedEnds choice (Err (Tool fault.Write)) input printed
+fed_unstored choice done input printed ends = inl (feed_unstored choice input printed ends.1)
 
-check_unsettled : (out0 out : Device) (verdict : Verdict) → Checks out0 out (Ok (Checked verdict)) →
+list_unstored : (form : ListForm) (choice : Choice) (done : Done) (input printed : List ℕ) →
+    ListEnds form choice (Ok done) input printed → ListEnds form choice (Err (Tool fault.Write)) input printed
+list_unstored form choice done input printed ends = inl (inr
+    (record { counts = ends.1.counts; tail = []; listed = rw append-nil ends.1.listed }))
+
+check_unsettled : (out0 out : Device) (done : Done) → Checks out0 out (Ok done) →
     Checks out0 out (Err (Tool fault.Write))
-check_unsettled out0 out verdict does = record {
+check_unsettled out0 out done does = record {
   input = does.input;
   text = does.text;
   printed = does.printed;
   prints = does.prints;
-  ends = record { verdict = verdict; rest = []; checked = does.ends.0; line = rw append-nil (sym does.ends.1) };
+  ends = inl (record {
+    verdict = does.ends.0;
+    rest = [];
+    checked = does.ends.2.0;
+    line = rw append-nil (sym does.ends.2.1);
+  });
 }
 
 pub task_unsettled : (task : Task) (standard out0 out : Device) (done : Done) → Does task standard out0 out (Ok done) →
     Does task standard out0 out (Err (Tool fault.Write))
-task_unsettled (Repack asked) standard out0 out Written does = absurd does.ends
-task_unsettled (Repack asked) standard out0 out (Repacked in_turns) does =
-    over_said _ _ _ standard out0 out (repack_unstored asked.options in_turns) does
-task_unsettled (Repack asked) standard out0 out (Checked verdict) does = absurd does.ends
-task_unsettled (Repack asked) standard out0 out (Compared comparison) does = absurd does.ends
-task_unsettled (Repack asked) standard out0 out (Walked refused no_day) does = absurd does.ends
-task_unsettled (Listing asked) standard out0 out Written does =
-    over_said _ _ _ standard out0 out (list_unstored asked.form asked.options) does
-task_unsettled (Listing asked) standard out0 out (Repacked in_turns) does = absurd does.ends
-task_unsettled (Listing asked) standard out0 out (Checked verdict) does = absurd does.ends
-task_unsettled (Listing asked) standard out0 out (Compared comparison) does = absurd does.ends
-task_unsettled (Listing asked) standard out0 out (Walked refused no_day) does = absurd does.ends
-task_unsettled (Check asked) standard out0 out Written does = absurd does.ends
-task_unsettled (Check asked) standard out0 out (Repacked in_turns) does = absurd does.ends
-task_unsettled (Check asked) standard out0 out (Checked verdict) does = check_unsettled out0 out verdict does
-task_unsettled (Check asked) standard out0 out (Compared comparison) does = absurd does.ends
-task_unsettled (Check asked) standard out0 out (Walked refused no_day) does = absurd does.ends
-task_unsettled (Compare asked) standard out0 out Written does = absurd does.ends
-task_unsettled (Compare asked) standard out0 out (Repacked in_turns) does = absurd does.ends
-task_unsettled (Compare asked) standard out0 out (Checked verdict) does = absurd does.ends
-task_unsettled (Compare asked) standard out0 out (Compared comparison) does =
-    compare_unsettled asked.options (names_of asked) standard out0 out comparison does
-task_unsettled (Compare asked) standard out0 out (Walked refused no_day) does = absurd does.ends
-task_unsettled (Archive asked) standard out0 out Written does = absurd does.ends
-task_unsettled (Archive asked) standard out0 out (Repacked in_turns) does = absurd does.ends
-task_unsettled (Archive asked) standard out0 out (Checked verdict) does = absurd does.ends
-task_unsettled (Archive asked) standard out0 out (Compared comparison) does = absurd does.ends
-task_unsettled (Archive asked) standard out0 out (Walked refused no_day) does =
+task_unsettled (Repack asked) standard out0 out done does =
+    over_said _ _ _ standard out0 out (repack_unstored asked.options done) does
+task_unsettled (Listing asked) standard out0 out done does =
+    over_said _ _ _ standard out0 out (list_unstored asked.form asked.options done) does
+task_unsettled (Check asked) standard out0 out done does = check_unsettled out0 out done does
+task_unsettled (Compare asked) standard out0 out done does =
+    compare_unsettled asked.options (names_of asked) standard out0 out done does
+task_unsettled (Archive asked) standard out0 out done does =
     let P : List ℕ → Type 0 = λ text. IsWalk asked.days text does.ends.walk.0 in
     record {
       printed = does.printed;
       prints = does.prints;
-      ends = record {
+      ends = inl (record {
         entries = does.ends.walk.0;
         rest = [];
         walk = subst P (sym (append-nil does.printed)) does.ends.walk.1;
-      };
+      });
     }
-task_unsettled (Verify asked) standard out0 out Written does = absurd does.ends
-task_unsettled (Verify asked) standard out0 out (Repacked in_turns) does = absurd does.ends
-task_unsettled (Verify asked) standard out0 out (Checked verdict) does = absurd does.ends
-task_unsettled (Verify asked) standard out0 out (Compared comparison) does = absurd does.ends
-task_unsettled (Verify asked) standard out0 out (Walked refused no_day) does =
+task_unsettled (Verify asked) standard out0 out done does =
     let P : List ℕ → Type 0 = λ text. IsVerifying text does.ends.walk.0 in
     record {
       printed = does.printed;
       prints = does.prints;
-      ends = record {
+      ends = inl (record {
         entries = does.ends.walk.0;
         rest = [];
         walk = subst P (sym (append-nil does.printed)) does.ends.walk.1;
-      };
+      });
     }
-task_unsettled (Feed asked) standard out0 out Written does =
-    over_said _ _ _ standard out0 out (feed_unstored asked.options) does
-task_unsettled (Feed asked) standard out0 out (Repacked in_turns) does = absurd does.ends
-task_unsettled (Feed asked) standard out0 out (Checked verdict) does = absurd does.ends
-task_unsettled (Feed asked) standard out0 out (Compared comparison) does = absurd does.ends
-task_unsettled (Feed asked) standard out0 out (Walked refused no_day) does = absurd does.ends
+task_unsettled (Feed asked) standard out0 out done does =
+    over_said _ _ _ standard out0 out (fed_unstored asked.options done) does
 
 -- a source was listed, or is at fault
 
@@ -419,7 +347,7 @@ list_done form choice source out0 out input printed counts left prints answers =
   printed = printed;
   left = λ is. left;
   prints = prints;
-  ends = record { counts = counts; listed = answers };
+  ends = (refl, record { counts = counts; listed = answers });
 }
 
 pub list_stops : (form : ListForm) (choice : Choice) (source out0 out : Device) (input printed : List ℕ) (why : ToolFault) →
@@ -430,5 +358,5 @@ list_stops form choice source out0 out input printed why left prints answers = r
   printed = printed;
   left = λ is. left;
   prints = prints;
-  ends = answers;
+  ends = inl answers;
 }

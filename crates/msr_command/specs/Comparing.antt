@@ -3,7 +3,6 @@ use Rattle.std.specs.Prelude.{◌≡◌, ℕ, ⊤, List, [], ◌++◌, codes, fa
 use Rattle.msr_devices.specs.Device.{Device, Takes}
 use Rattle.msr_options.specs.Choice.{Choice}
 use Rattle.msr_input.specs.declared.settings.Settings.{Settings}
-use Rattle.msr_input.specs.declared.fault.ReadFault.{ReadFault}
 use Rattle.msr_input.specs.declared.fault.ReadFault.TheVariants as read
 use Rattle.msr_compare.specs.Answers.{CompareAnswers}
 use Rattle.msr_compare.specs.Texts.{comparison_text}
@@ -15,7 +14,7 @@ use Rattle.msr_tool.specs.declared.fault.ToolFault.TheVariants as fault
 use Rattle.msr_options.specs.declared.task.Comparing.{Comparing}
 use Rattle.msr_command.specs.declared.comparing.Names.{Names}
 use Rattle.msr_command.specs.declared.task_fault.TaskFault.{TaskFault}
-use Rattle.msr_command.specs.declared.task_fault.TaskFault.TheVariants.{CannotOpen, Input, SameFile, SameOutput, Overlap, Closed, Tool}
+use Rattle.msr_command.specs.declared.task_fault.TaskFault.TheVariants.{Input, Tool}
 
 -- the names of both inputs that a comparison is asked for
 abbrev pub names_of : Comparing → Names
@@ -38,26 +37,14 @@ TellsComparison comparison out0 out (Err fault.Read) = ⊥
 TellsComparison comparison out0 out (Err fault.Write) = (n : ℕ) × Takes out0 out (take n (comparison_lines comparison))
 TellsComparison comparison out0 out (Err fault.Memory) = Takes out0 out []
 
--- the file with this name is told to have this fault
-abbrev pub IsNamed : (name : List ℕ) → ReadFault → TaskFault → Type 0
-IsNamed name why (CannotOpen file error) = ⊥
-IsNamed name why (Input file found) = (file.now ≡ name) × (found ≡ why)
-IsNamed name why SameFile = ⊥
-IsNamed name why SameOutput = ⊥
-IsNamed name why Overlap = ⊥
-IsNamed name why Closed = ⊥
-IsNamed name why (Tool stop) = ⊥
-
--- the task stops so at this fault of the file with this name; memory that was refused has no name
-abbrev pub StopsNamed : (name : List ℕ) → ReadFault → TaskFault → Type 0
-StopsNamed name (read.Input found) stop = IsNamed name (read.Input found) stop
-StopsNamed name read.Read stop = IsNamed name read.Read stop
-StopsNamed name read.Memory stop = stop ≡ Tool fault.Memory
-
--- the task stops so at this fault of one of its files
-abbrev pub StopsAt : Names → CompareFault → TaskFault → Type 0
-StopsAt names (One why) stop = StopsNamed names.one.now why stop
-StopsAt names (Other why) stop = StopsNamed names.other.now why stop
+-- what the task ends with at this fault of one of its inputs; memory that was refused has no name
+abbrev pub stop_of : Names → CompareFault → TaskFault
+stop_of names (One (read.Input found)) = Input names.one (fault.Input found)
+stop_of names (One read.Read) = Input names.one fault.Read
+stop_of names (One read.Memory) = Tool fault.Memory
+stop_of names (Other (read.Input found)) = Input names.other (fault.Input found)
+stop_of names (Other read.Read) = Input names.other fault.Read
+stop_of names (Other read.Memory) = Tool fault.Memory
 
 -- The inputs have this answer, and it was printed.
 pub record IsAnswered (choice : Choice) (first second printed : List ℕ) (comparison : Comparison) : Type 0 where
@@ -74,17 +61,7 @@ pub record IsAnsweredInPart (choice : Choice) (first second printed : List ℕ) 
 pub record IsAtFault (choice : Choice) (names : Names) (first second : List ℕ) (stop : TaskFault) : Type 0 where
   pub fault : CompareFault
   pub answer : CompareAnswers (compare_settings choice) first second (Err fault)
-  pub stops : StopsAt names fault stop
-
--- an input could not be opened, or is the output, or is at fault
-abbrev pub IsUncompared : Choice → Names → (first second : List ℕ) → TaskFault → Type 0
-IsUncompared choice names first second (CannotOpen name why) = ⊤
-IsUncompared choice names first second (Input name found) = IsAtFault choice names first second (Input name found)
-IsUncompared choice names first second SameFile = ⊤
-IsUncompared choice names first second SameOutput = ⊥
-IsUncompared choice names first second Overlap = ⊥
-IsUncompared choice names first second Closed = ⊥
-IsUncompared choice names first second (Tool fault) = ⊥
+  pub stops : stop ≡ stop_of names fault
 
 -- what a fault says that no input has
 abbrev pub StopsComparison : Choice → (first second printed : List ℕ) → ToolFault → Type 0

@@ -17,14 +17,13 @@ use Rattle.msr_folders.specs.declared.found.WalkFound.TheVariants.{Well, Unwell,
 use Rattle.msr_walk.specs.Walk.{WalkEnds}
 use Rattle.msr_verify.specs.Walk.{WalkEnds as VerifyingEnds}
 use Rattle.msr_tool.specs.declared.fault.ToolFault.TheVariants as engine
-use Rattle.msr_compare.specs.declared.comparison.Comparison.{Comparison}
 use Rattle.msr_compare.specs.declared.comparison.Comparison.TheVariants.{Same, Differ}
 use Rattle.msr_command.specs.declared.done.Done.{Done}
 use Rattle.msr_command.specs.declared.done.Done.TheVariants.{Written, Repacked, Checked, Compared, Walked}
 use Rattle.msr_command.specs.declared.task_fault.TaskFault.{TaskFault}
 use Rattle.msr_command.specs.declared.task_fault.TaskFault.TheVariants.{CannotOpen, Input, SameFile, SameOutput, Overlap, Closed, Tool}
 use Rattle.msr_command.specs.declared.comparing.Names.{Names}
-use Rattle.msr_command.specs.Comparing.{IsAnswered, IsUncompared, StopsComparison, names_of}
+use Rattle.msr_command.specs.Comparing.{IsAnswered, IsAtFault, StopsComparison, names_of}
 use Rattle.msr_command.specs.Turns.{AreTurns}
 use Rattle.msr_options.specs.declared.task.ListForm.{ListForm}
 use Rattle.msr_options.specs.declared.task.NoTask.{NoTask}
@@ -70,76 +69,33 @@ IsUnread (Tool fault) = ⊥
 
 -- a file could not be made, or is the input or another output
 abbrev pub IsUncreated : TaskFault → Type 0
-IsUncreated (CannotOpen name why) = ⊤
-IsUncreated (Input name why) = ⊥
-IsUncreated SameFile = ⊤
-IsUncreated SameOutput = ⊤
-IsUncreated Overlap = ⊥
-IsUncreated Closed = ⊥
-IsUncreated (Tool fault) = ⊥
-
--- folders overlap
-abbrev pub IsOverlap : TaskFault → Type 0
-IsOverlap (CannotOpen name why) = ⊥
-IsOverlap (Input name why) = ⊥
-IsOverlap SameFile = ⊥
-IsOverlap SameOutput = ⊥
-IsOverlap Overlap = ⊤
-IsOverlap Closed = ⊥
-IsOverlap (Tool fault) = ⊥
+IsUncreated stop = IsUnread stop ⊎ (stop ≡ SameOutput)
 
 -- folders overlap, or memory was refused
 abbrev pub IsOverlapOrMemory : TaskFault → Type 0
 IsOverlapOrMemory stop = (stop ≡ Overlap) ⊎ (stop ≡ Tool engine.Memory)
 
--- what it says that a task was done by writing, by a repack, by a verdict, by an answer, or by a walk
-abbrev pub IfWritten : Type 0 → Done → Type 0
-IfWritten says Written = says
-IfWritten says (Repacked in_turns) = ⊥
-IfWritten says (Checked verdict) = ⊥
-IfWritten says (Compared comparison) = ⊥
-IfWritten says (Walked refused no_day) = ⊥
+-- a task was done with something of which this is said: a repack, a verdict or an answer
+abbrev pub IsDoneBy : {A : Type 0} → (A → Done) → (A → Type 0) → Done → Type 0
+IsDoneBy of says done = (it : _) × (done ≡ of it) × says it
 
-abbrev pub IfRepacked : (Bool → Type 0) → Done → Type 0
-IfRepacked says Written = ⊥
-IfRepacked says (Repacked in_turns) = says in_turns
-IfRepacked says (Checked verdict) = ⊥
-IfRepacked says (Compared comparison) = ⊥
-IfRepacked says (Walked refused no_day) = ⊥
-
-abbrev pub IfChecked : (Verdict → Type 0) → Done → Type 0
-IfChecked says Written = ⊥
-IfChecked says (Repacked in_turns) = ⊥
-IfChecked says (Checked verdict) = says verdict
-IfChecked says (Compared comparison) = ⊥
-IfChecked says (Walked refused no_day) = ⊥
-
-abbrev pub IfCompared : (Comparison → Type 0) → Done → Type 0
-IfCompared says Written = ⊥
-IfCompared says (Repacked in_turns) = ⊥
-IfCompared says (Checked verdict) = ⊥
-IfCompared says (Compared comparison) = says comparison
-IfCompared says (Walked refused no_day) = ⊥
-
-abbrev pub IfWalked : (Done → Type 0) → Done → Type 0
-IfWalked says Written = ⊥
-IfWalked says (Repacked in_turns) = ⊥
-IfWalked says (Checked verdict) = ⊥
-IfWalked says (Compared comparison) = ⊥
-IfWalked says (Walked refused no_day) = says (Walked refused no_day)
+-- what it says that the engine stopped a task
+abbrev pub IfTool : (ToolFault → Type 0) → TaskFault → Type 0
+IfTool says (CannotOpen name why) = ⊥
+IfTool says (Input name why) = ⊥
+IfTool says SameFile = ⊥
+IfTool says SameOutput = ⊥
+IfTool says Overlap = ⊥
+IfTool says Closed = ⊥
+IfTool says (Tool fault) = says fault
 
 -- How a task ends: it is done, or the engine stops, with what that says; or nothing is printed, since a file stops it
 -- that may do so, or standard output is closed.
 abbrev pub Ends : (done : Done → Type 0) → (file : TaskFault → Type 0) → (stopped : ToolFault → Type 0) →
     (printed : List ℕ) → Result Done TaskFault → Type 0
 Ends done file stopped printed (Ok what) = done what
-Ends done file stopped printed (Err (CannotOpen name why)) = file (CannotOpen name why) × (printed ≡ [])
-Ends done file stopped printed (Err (Input name why)) = file (Input name why) × (printed ≡ [])
-Ends done file stopped printed (Err SameFile) = file SameFile × (printed ≡ [])
-Ends done file stopped printed (Err SameOutput) = file SameOutput × (printed ≡ [])
-Ends done file stopped printed (Err Overlap) = file Overlap × (printed ≡ [])
-Ends done file stopped printed (Err Closed) = printed ≡ []
-Ends done file stopped printed (Err (Tool fault)) = stopped fault
+Ends done file stopped printed (Err stop) =
+    IfTool stopped stop ⊎ ((file stop ⊎ (stop ≡ Closed)) × (printed ≡ []))
 
 -- What a task over one input read and printed, and what these say. The input is what the source has left, if the
 -- source is known to be that of the task.
@@ -165,7 +121,7 @@ pub record StopsReport (choice : Choice) (input printed : List ℕ) (fault : Too
 
 abbrev pub RepackEnds : Choice → Result Done TaskFault → (input printed : List ℕ) → Type 0
 RepackEnds choice result input printed =
-    Ends (IfRepacked (WritesReport choice input printed)) IsUncreated (StopsReport choice input printed) printed result
+    Ends (IsDoneBy Repacked (WritesReport choice input printed)) IsUncreated (StopsReport choice input printed) printed result
 
 -- Repacking a source.
 abbrev pub Repacks : Choice → (source out0 out : Device) → Result Done TaskFault → Type 0
@@ -182,7 +138,7 @@ pub record WritesList (form : ListForm) (choice : Choice) (input printed : List 
 
 abbrev pub ListEnds : ListForm → Choice → Result Done TaskFault → (input printed : List ℕ) → Type 0
 ListEnds form choice result input printed =
-    Ends (IfWritten (WritesList form choice input printed)) IsUnread
+    Ends (λ done. (done ≡ Written) × WritesList form choice input printed) IsUnread
     (λ fault. ListAnswers form (settings_of choice) input printed (Err fault)) printed result
 
 -- Listing a source.
@@ -216,7 +172,8 @@ FeedsTo choice source out0 out result = Over ⊤ (FeedAnswers choice result) sou
 
 abbrev pub FeedEnds : Choice → Result Done TaskFault → (input printed : List ℕ) → Type 0
 FeedEnds choice result input printed =
-    Ends (IfWritten (WritesRecords choice input printed)) IsUncreated (StopsRecords choice input printed) printed result
+    Ends (λ done. (done ≡ Written) × WritesRecords choice input printed) IsUncreated
+    (StopsRecords choice input printed) printed result
 
 -- Repacking standard input to standard output, and how it ends.
 abbrev pub Feeds : Choice → (standard out0 out : Device) → Result Done TaskFault → Type 0
@@ -224,7 +181,7 @@ Feeds choice standard out0 out result = Over ⊤ (FeedEnds choice result) standa
 
 abbrev pub CheckEnds : (input text printed : List ℕ) → Result Done TaskFault → Type 0
 CheckEnds input text printed result =
-    Ends (IfChecked (λ verdict. VerdictAnswers input text printed (Ok verdict))) IsUnread
+    Ends (IsDoneBy Checked (λ verdict. VerdictAnswers input text printed (Ok verdict))) IsUnread
     (λ fault. VerdictAnswers input text printed (Err fault)) printed result
 
 -- Checking some records with some report, and what was printed.
@@ -249,13 +206,13 @@ pub record OverTwo (known_one known_other : Type 0) (says : (first second printe
 
 abbrev pub CompareEnds : Choice → Names → Result Done TaskFault → (first second printed : List ℕ) → Type 0
 CompareEnds choice names result first second printed =
-    Ends (IfCompared (IsAnswered choice first second printed)) (IsUncompared choice names first second)
-    (StopsComparison choice first second printed) printed result
+    Ends (IsDoneBy Compared (IsAnswered choice first second printed))
+    (λ stop. IsUnread stop ⊎ IsAtFault choice names first second stop) (StopsComparison choice first second printed)
+    printed result
 
 -- Comparing two sources.
 abbrev pub Compares : Choice → Names → (one other out0 out : Device) → Result Done TaskFault → Type 0
-Compares choice names one other out0 out result =
-    OverTwo ⊤ ⊤ (CompareEnds choice names result) one other out0 out
+Compares choice names one other out0 out result = OverTwo ⊤ ⊤ (CompareEnds choice names result) one other out0 out
 
 -- the first name is that of standard input
 abbrev pub IsOneStandard : Names → Type 0
@@ -291,7 +248,7 @@ pub record IsEndOf (done_of : (is_whole : Bool) → WalkFound → Done) (ends : 
 
 abbrev pub ArchiveEnds : DayOptions → (printed : List ℕ) → Result Done TaskFault → Type 0
 ArchiveEnds asked printed result =
-    Ends (IfWalked (IsEndOf done_of_archive (λ found. WalkEnds asked printed (Ok found)))) IsOverlap
+    Ends (IsEndOf done_of_archive (λ found. WalkEnds asked printed (Ok found))) (λ stop. stop ≡ Overlap)
     (λ fault. WalkEnds asked printed (Err fault)) printed result
 
 -- Walking an archive, and what was printed.
@@ -302,7 +259,7 @@ pub record WalksArchive (asked : DayOptions) (out0 out : Device) (result : Resul
 
 abbrev pub VerifyEnds : (printed : List ℕ) → Result Done TaskFault → Type 0
 VerifyEnds printed result =
-    Ends (IfWalked (IsEndOf done_of_verifying (λ found. VerifyingEnds printed (Ok found)))) IsOverlap
+    Ends (IsEndOf done_of_verifying (λ found. VerifyingEnds printed (Ok found))) (λ stop. stop ≡ Overlap)
     (λ fault. VerifyingEnds printed (Err fault)) printed result
 
 -- Verifying the repack of an archive, and what was printed.
@@ -330,7 +287,7 @@ EndsClosed (Check asked) stop = stop ≡ Closed
 EndsClosed (Compare asked) stop = stop ≡ Closed
 EndsClosed (Archive asked) stop = stop ≡ Closed
 EndsClosed (Verify asked) stop = stop ≡ Closed
-EndsClosed (Feed asked) stop = (stop ≡ Closed) ⊎ IsUncreated stop
+EndsClosed (Feed asked) stop = IsUncreated stop ⊎ (stop ≡ Closed)
 
 -- what doing a task reads and prints, and how it ends
 abbrev pub Does : Task → (standard out0 out : Device) → Result Done TaskFault → Type 0

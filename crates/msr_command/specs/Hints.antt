@@ -1,13 +1,11 @@
 -- What a person is told when a task has ended.
-use Rattle.std.specs.Prelude.{if◌then◌else◌, ◌≡◌, ◌≢◌, ℕ, Bool, false, true, List, codes, IfSome, IsSomeAnd, Option, None, Some, Result, Ok, Err}
+use Rattle.std.specs.Prelude.{if◌then◌else◌, ◌≡◌, ◌≢◌, ◌⊎◌, ℕ, Bool, false, true, List, codes, IfSome, IsSomeAnd, Option, None, Some, Result, Ok, Err}
 use Rattle.std.specs.Io.KnownBytes.{Appends}
-use Rattle.msr_options.specs.Hints.{IsOfBytes, line_of}
+use Rattle.msr_options.specs.Hints.{IsOfBytes, IsOfUnread, line_of}
 use Rattle.msr_options.specs.declared.hint.Hint.{Hint}
 use Rattle.msr_options.specs.declared.hint.Hint.TheVariants.{Folder, Lengths, NoArchive, System, Turns}
 use Rattle.msr_options.specs.declared.task.Task.{Task}
 use Rattle.msr_options.specs.declared.task.Task.TheVariants.{Repack, List as Listing, Check, Compare, Archive, Verify, Feed}
-use Rattle.msr_input.specs.declared.fault.ReadFault.{ReadFault}
-use Rattle.msr_tool.specs.Fault.{fault_of_reading}
 use Rattle.msr_tool.specs.declared.fault.ToolFault.{ToolFault}
 use Rattle.msr_tool.specs.declared.fault.ToolFault.TheVariants as fault
 use Rattle.msr_command.specs.declared.done.Done.{Done}
@@ -37,15 +35,11 @@ abbrev pub HintsBytes : {A : Type 0} → Option A → Option Hint → Type 0
 HintsBytes None hint = hint ≡ None
 HintsBytes (Some name) hint = IfSome hint IsOfBytes
 
--- a file is a folder, if there is a file
-abbrev pub HintsFolder : {A : Type 0} → Option A → Option Hint → Type 0
-HintsFolder None hint = hint ≡ None
-HintsFolder (Some name) hint = IfSome hint (λ it. it ≡ Folder)
-
--- one of two files is a folder
-abbrev pub HintsFolders : {A : Type 0} → Option A → Option A → Option Hint → Type 0
-HintsFolders None other hint = HintsFolder other hint
-HintsFolders (Some name) other hint = IfSome hint (λ it. it ≡ Folder)
+-- a file is a folder that could not be read, if there is a file; of two it may be told which it is
+abbrev pub HintsUnread : {A : Type 0} → (report records : Option A) → Option Hint → Type 0
+HintsUnread None None hint = hint ≡ None
+HintsUnread None (Some name) hint = IfSome hint (λ it. it ≡ Folder)
+HintsUnread (Some name) records hint = IfSome hint (λ it. (it ≡ Folder) ⊎ IsOfUnread it)
 
 abbrev pub HintsDone : Done → Option Hint → Type 0
 HintsDone Written hint = hint ≡ None
@@ -57,15 +51,15 @@ HintsDone (Walked refused no_day) hint = hint ≡ (if no_day then Some NoArchive
 abbrev pub HintsEngine : FilesRead → ToolFault → Option Hint → Type 0
 HintsEngine read (fault.Input found) hint = HintsBytes read.records hint
 HintsEngine read (fault.Report line) hint = HintsBytes read.report hint
-HintsEngine read fault.Read hint = HintsFolders read.report read.records hint
+HintsEngine read fault.Read hint = HintsUnread read.report read.records hint
 HintsEngine read fault.Write hint = hint ≡ None
 HintsEngine read fault.Memory hint = hint ≡ None
 
 -- The input with this name, which has this fault, tells it as records do that are the only input.
-pub record HintsInput (name : List ℕ) (why : ReadFault) (hint : Option Hint) : Type 0 where
+pub record HintsInput (name : List ℕ) (why : ToolFault) (hint : Option Hint) : Type 0 where
   pub read : FilesRead
   pub is_input : IsInput name read
-  pub hints : HintsEngine read (fault_of_reading why) hint
+  pub hints : HintsEngine read why hint
 
 abbrev pub HintsFault : FilesRead → TaskFault → Option Hint → Type 0
 HintsFault read (CannotOpen name why) hint = hint ≡ Some (System why)

@@ -1,7 +1,7 @@
 //! The task of comparing two files.
 ghost use Rattle.std.specs.Prelude.{◌≡◌, ◌≤◌};
 ghost use Rattle.msr_devices.specs.Device.{CanCountCall};
-ghost use Rattle.msr_command.specs.Comparing.{StopsAt, StopsNamed, TellsComparison, compare_settings, names_of};
+ghost use Rattle.msr_command.specs.Comparing.{TellsComparison, compare_settings, names_of, stop_of};
 ghost use Rattle.msr_command.specs.Ends.{Compares, ComparesNamed};
 
 use crate::done::Done;
@@ -33,23 +33,16 @@ fn compare_settings(options: Options) -> Settings
     }
 }
 
-/// What the task ends with at that fault of the file with this name.
-fn stop_named(name: &str, fault: ReadFault) -> TaskFault<'_>
-    ensures { StopsNamed name.now fault result }
-{
-    match fault {
-        ReadFault::Input(_) | ReadFault::Read => TaskFault::Input(name, fault),
-        ReadFault::Memory => TaskFault::Tool(ToolFault::Memory),
-    }
-}
-
-/// What the task ends with at that fault of one of the files with these names.
+/// What the task ends with at that fault of one of its inputs. Memory that was refused has no name.
 fn stop_at<'a>(names: Names<'a>, fault: CompareFault) -> TaskFault<'a>
-    ensures { StopsAt names.entry fault result }
+    ensures { result ≡ stop_of names.entry fault }
 {
     match fault {
-        CompareFault::One(fault) => stop_named(names.one, fault),
-        CompareFault::Other(fault) => stop_named(names.other, fault),
+        CompareFault::One(ReadFault::Memory) | CompareFault::Other(ReadFault::Memory) => {
+            TaskFault::Tool(ToolFault::Memory)
+        }
+        CompareFault::One(fault) => TaskFault::Input(names.one, fault.into()),
+        CompareFault::Other(fault) => TaskFault::Input(names.other, fault.into()),
     }
 }
 

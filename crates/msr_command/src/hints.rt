@@ -1,10 +1,9 @@
 //! What a person is told when a task has ended.
-ghost use Rattle.msr_command.specs.Hints.{HintsBytes, HintsDone, HintsEnd, HintsEngine, HintsFault, HintsFolder, HintsInput};
+ghost use Rattle.msr_command.specs.Hints.{HintsDone, HintsEnd, HintsEngine, HintsFault, HintsUnread};
 
 use crate::done::Done;
 use crate::task_fault::TaskFault;
-use msr_input::ReadFault;
-use msr_options::{Hint, Task, hint_of_file, hint_of_folder};
+use msr_options::{Hint, Task, hint_of_file, hint_of_folder, hint_of_report};
 use msr_tool::ToolFault;
 use std::rt::Files;
 
@@ -46,26 +45,6 @@ impl<'a> FilesRead<'a> {
     }
 }
 
-/// What the bytes of a file tell that has a fault.
-fn hint_of_bytes<R: Files>(rt: &R, name: Option<&str>) -> Option<Hint>
-    ensures { HintsBytes name.entry result }
-{
-    match name {
-        Some(name) => hint_of_file(rt, name),
-        None => None,
-    }
-}
-
-/// Whether a file that could not be read is a folder.
-fn hint_of_unread<R: Files>(rt: &R, name: Option<&str>) -> Option<Hint>
-    ensures { HintsFolder name.entry result }
-{
-    match name {
-        Some(name) => hint_of_folder(rt, name),
-        None => None,
-    }
-}
-
 fn hint_of_done(done: &Done) -> Option<Hint>
     ensures { HintsDone done.now result }
 {
@@ -76,25 +55,29 @@ fn hint_of_done(done: &Done) -> Option<Hint>
     }
 }
 
+/// Whether a file that could not be read is a folder, and which of two it is.
+fn hint_of_unread<R: Files>(rt: &R, read: FilesRead<'_>) -> Option<Hint>
+    ensures { HintsUnread read.entry.report read.entry.records result }
+{
+    let folder = hint_of_folder(rt, read.records?);
+    match read.report {
+        Some(report) => {
+            let unread = folder.or(hint_of_report(rt, report));
+            hint_of_folder(rt, report).or(unread)
+        }
+        None => folder,
+    }
+}
+
 fn hint_of_engine<R: Files>(rt: &R, read: FilesRead<'_>, fault: &ToolFault) -> Option<Hint>
     ensures { HintsEngine read.entry fault.now result }
 {
     match fault {
-        ToolFault::Input(_) => hint_of_bytes(rt, read.records),
-        ToolFault::Report(_) => hint_of_bytes(rt, read.report),
-        ToolFault::Read => {
-            let report = hint_of_unread(rt, read.report);
-            report.or(hint_of_unread(rt, read.records))
-        }
+        ToolFault::Input(_) => hint_of_file(rt, read.records?),
+        ToolFault::Report(_) => hint_of_file(rt, read.report?),
+        ToolFault::Read => hint_of_unread(rt, read),
         ToolFault::Write | ToolFault::Memory => None,
     }
-}
-
-/// What the file with that name tells, which has this fault.
-fn hint_of_input<R: Files>(rt: &R, name: &str, fault: &ReadFault) -> Option<Hint>
-    ensures { HintsInput name.now fault.now result }
-{
-    hint_of_engine(rt, FilesRead::of_input(name), &ToolFault::from(*fault))
 }
 
 fn hint_of_fault<R: Files>(rt: &R, read: FilesRead<'_>, fault: &TaskFault<'_>) -> Option<Hint>
@@ -102,7 +85,7 @@ fn hint_of_fault<R: Files>(rt: &R, read: FilesRead<'_>, fault: &TaskFault<'_>) -
 {
     match fault {
         TaskFault::CannotOpen(_, why) => Some(Hint::System(*why)),
-        TaskFault::Input(name, fault) => hint_of_input(rt, name, fault),
+        TaskFault::Input(name, fault) => hint_of_engine(rt, FilesRead::of_input(name), fault),
         TaskFault::Tool(fault) => hint_of_engine(rt, read, fault),
         TaskFault::SameFile | TaskFault::SameOutput | TaskFault::Overlap | TaskFault::Closed => {
             None

@@ -2,7 +2,7 @@
 ghost use Rattle.std.specs.Io.KnownBytes.{Appends};
 ghost use Rattle.std.specs.Prelude.{◌≡◌, ◌++◌, OnOk, codes, false, true};
 ghost use Rattle.msr_devices.specs.Device.{CanCountCall};
-ghost use Rattle.msr_command.specs.Ends.{EndsAsked, EndsText, status_of, status_of_task_fault};
+ghost use Rattle.msr_command.specs.Ends.{EndsAsked, EndsText, status_of};
 ghost use Rattle.msr_command.specs.Hints.{TellsLengths, TellsPerson};
 ghost use Rattle.msr_command.specs.Told.{TellsFault};
 ghost use Rattle.msr_options.specs.declared.task.NoTask.TheVariants.{Ending as WithText};
@@ -41,21 +41,16 @@ fn write_fault<E: Write>(errors: &mut E, fault: &TaskFault<'_>) -> io::Result<()
     writeln!(errors, "msrepack: {fault}")
 }
 
-/// Prints the line of a task's fault, and gives its status.
-fn complain_of<E: Write>(errors: &mut E, fault: &TaskFault<'_>) -> u8
-    ensures { result ≡ status_of_task_fault fault.now }
-{
-    write_fault(errors, fault).ok();
-    fault.status()
-}
-
 /// Prints the line of a task's fault, if it has one, and gives the status.
 fn tell<E: Write>(errors: &mut E, ended: &Result<Done, TaskFault<'_>>) -> u8
     ensures { result ≡ status_of ended.now }
 {
     match ended {
         Ok(done) => done.status(),
-        Err(fault) => complain_of(errors, fault),
+        Err(fault) => {
+            write_fault(errors, fault).ok();
+            fault.status()
+        }
     }
 }
 

@@ -1,7 +1,5 @@
 //! Why a task ends before it is done.
-use msr_devices::DeviceFault;
 use msr_folders::Shown;
-use msr_input::ReadFault;
 use msr_tool::ToolFault;
 use std::{fmt, io};
 
@@ -11,7 +9,7 @@ pub(crate) enum TaskFault<'a> {
     /// The file with this name could not be opened, or not be made, and why.
     CannotOpen(&'a str, io::Error),
     /// Of two inputs that with this name is refused, or cannot be read.
-    Input(&'a str, ReadFault),
+    Input(&'a str, ToolFault),
     /// The output is the input, by another name or a link; or standard output is redirected to an input.
     SameFile,
     /// A file to be written is what standard output is redirected to.
@@ -72,17 +70,5 @@ impl<'a> From<ToolFault> for TaskFault<'a> {
 
     fn from(fault: ToolFault) -> TaskFault<'a> {
         TaskFault::Tool(fault)
-    }
-}
-
-impl<'a> From<DeviceFault> for TaskFault<'a> {
-    ghost use Rattle.std.specs.Prelude.{◌≡◌};
-    ghost use Rattle.msr_tool.specs.Fault.{fault_of_writing};
-    ghost use Rattle.msr_command.specs.declared.task_fault.TaskFault.TheVariants.{Tool};
-
-    ghost from_gives = { λ fault stop. stop ≡ Tool (fault_of_writing fault) };
-
-    fn from(fault: DeviceFault) -> TaskFault<'a> {
-        TaskFault::Tool(fault.into())
     }
 }

@@ -175,7 +175,9 @@ fn repack_from<'a, R: Files, I: Source, O: Sink>(
         output,
         options,
     )?;
-    settle(&file)?;
+    if settle(&file).is_err() {
+        return Err(TaskFault::Tool(ToolFault::Write));
+    }
     Ok(Done::Repacked {
         in_turns: is_in_turns(&report),
     })
@@ -242,10 +244,8 @@ fn list_from<'a, I: Source, O: Sink>(
     requires output { CanCountCall (O.device output.old) }
     ensures { Lists form options (I.device source.old) (O.device output.old) (O.device output.new) result }
 {
-    match list_segments(alloc, source, output, options, form) {
-        Ok(_) => Ok(Done::Written),
-        Err(fault) => Err(TaskFault::Tool(fault)),
-    }
+    list_segments(alloc, source, output, options, form)?;
+    Ok(Done::Written)
 }
 
 fn list_file<'a, R: Files, I: Source, O: Sink>(

@@ -3,13 +3,15 @@ use Rattle.std.specs.Prelude.{if◌then◌else◌, ◌≡◌, ◌⊎◌, ◌==�
 use Rattle.std.specs.List.{starts_with}
 use Rattle.std.specs.Option.{option_map}
 use Rattle.msr_options.specs.declared.hint.Hint.{Hint}
-use Rattle.msr_options.specs.declared.hint.Hint.TheVariants.{Gzip, MiniSeed3, Folder, Turns, NoArchive, Waiting, Lengths, System}
+use Rattle.msr_options.specs.declared.hint.Hint.TheVariants.{Gzip, MiniSeed3, Folder, UnreadReport, UnreadRecords, Turns, NoArchive, Waiting, Lengths, System}
 
 -- the text of a hint; that of the system's reason is the system's own
 abbrev pub text_of : Hint → Option (List ℕ)
 text_of Gzip = Some (codes "this is gzip")
 text_of MiniSeed3 = Some (codes "this is miniSEED 3, which msrepack does not read")
 text_of Folder = Some (codes "a folder: msrepack archive reads archives")
+text_of UnreadReport = Some (codes "the report cannot be read")
+text_of UnreadRecords = Some (codes "the report can be read, so it is the records")
 text_of Turns =
     Some (codes "no record was saved: most segments are one record long, as with channels in turns, or gaps")
 text_of NoArchive = Some (codes "no folder of an archive below ROOT")
@@ -40,3 +42,7 @@ hint_of_begin bytes =
 -- the bytes of a file have told it
 abbrev pub IsOfBytes : Hint → Type 0
 IsOfBytes hint = (hint ≡ Gzip) ⊎ (hint ≡ MiniSeed3)
+
+-- one of two files that could not be read, the report or the records
+abbrev pub IsOfUnread : Hint → Type 0
+IsOfUnread hint = (hint ≡ UnreadReport) ⊎ (hint ≡ UnreadRecords)

@@ -1,12 +1,12 @@
 //! Looks at what could not be read.
 ghost use Rattle.std.specs.Prelude.{◌≡◌, IfSome, Some};
-ghost use Rattle.msr_options.specs.Hints.{IsOfBytes, hint_of_begin};
+ghost use Rattle.msr_options.specs.Hints.{IsOfBytes, IsOfUnread, hint_of_begin};
 
 use crate::hint::Hint;
-use std::fs;
 use std::fs::File;
 use std::io::Read;
 use std::rt::Files;
+use std::{fs, io};
 
 const GZIP: [u8; 2] = [0x1f, 0x8b];
 
@@ -37,21 +37,29 @@ fn hint_in<F: Read>(file: &mut F) -> Option<Hint>
     }
 }
 
-/// What a file is whose bytes have a fault. Only a regular file is opened: what a pipe gave is gone, and opening it
-/// waits for more.
+/// Opens a file once more. Only a regular file is opened: what a pipe gave is gone, and opening it waits for more.
+fn opened_again<R: Files>(rt: &R, name: &str) -> Option<R::File> {
+    match fs::metadata(rt, name) {
+        Ok(metadata) if metadata.is_file() => File::open(rt, name).ok(),
+        _ => None,
+    }
+}
+
+/// What a file is whose bytes have a fault.
 pub fn hint_of_file<R: Files>(rt: &R, name: &str) -> Option<Hint>
     ensures { IfSome result IsOfBytes }
 {
-    let Ok(metadata) = fs::metadata(rt, name) else {
-        return None;
-    };
-    if !metadata.is_file() {
-        return None;
+    hint_in(&mut opened_again(rt, name)?)
+}
+
+/// Which of two files could not be read, this report or its records: the report is read once more.
+pub fn hint_of_report<R: Files>(rt: &R, name: &str) -> Option<Hint>
+    ensures { IfSome result IsOfUnread }
+{
+    match io::copy(&mut opened_again(rt, name)?, &mut io::sink()) {
+        Ok(_) => Some(Hint::UnreadRecords),
+        Err(_) => Some(Hint::UnreadReport),
     }
-    let Ok(mut file) = File::open(rt, name) else {
-        return None;
-    };
-    hint_in(&mut file)
 }
 
 /// Whether what cannot be read is a folder.

@@ -16,6 +16,10 @@ pub enum Hint {
     MiniSeed3,
     /// The file is a folder.
     Folder,
+    /// The report cannot be read once more.
+    UnreadReport,
+    /// The report can be read once more, so it was the records that could not.
+    UnreadRecords,
     /// A repack saved no record, and most segments are one record long.
     Turns,
     /// A walk found no file of waveform data.
@@ -38,6 +42,8 @@ impl fmt::Display for Hint {
             Hint::Gzip => f.write_str("this is gzip"),
             Hint::MiniSeed3 => f.write_str("this is miniSEED 3, which msrepack does not read"),
             Hint::Folder => f.write_str("a folder: msrepack archive reads archives"),
+            Hint::UnreadReport => f.write_str("the report cannot be read"),
+            Hint::UnreadRecords => f.write_str("the report can be read, so it is the records"),
             Hint::Turns => f.write_str(
                 "no record was saved: most segments are one record long, as with channels in turns, or gaps",
             ),

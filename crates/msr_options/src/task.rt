@@ -7,7 +7,7 @@ use crate::options::Options;
 use std::alloc::AllocError;
 
 /// A file to be repacked.
-#[derive(Clone, Copy, Debug, PartialEq, Eq)]
+#[derive(Clone, Copy, Debug)]
 pub struct Repacking<'a> {
     pub options: Options,
     /// The name of a file, or `-` for standard input.
@@ -17,7 +17,7 @@ pub struct Repacking<'a> {
 }
 
 /// Standard input, which is to be repacked to standard output while it comes.
-#[derive(Clone, Copy, Debug, PartialEq, Eq)]
+#[derive(Clone, Copy, Debug)]
 pub struct Feeding<'a> {
     pub options: Options,
     /// The name of the file that gets the report.
@@ -32,7 +32,7 @@ pub enum ListForm {
 }
 
 /// A file whose segments are to be listed.
-#[derive(Clone, Copy, Debug, PartialEq, Eq)]
+#[derive(Clone, Copy, Debug)]
 pub struct Listing<'a> {
     /// The length is not used, since no record is written.
     pub options: Options,
@@ -42,7 +42,7 @@ pub struct Listing<'a> {
 }
 
 /// Packed records to be checked against a report.
-#[derive(Clone, Copy, Debug, PartialEq, Eq)]
+#[derive(Clone, Copy, Debug)]
 pub struct Checking<'a> {
     /// The name of the file with the records.
     pub packed: &'a str,
@@ -51,7 +51,7 @@ pub struct Checking<'a> {
 }
 
 /// Two files that are to be compared.
-#[derive(Clone, Copy, Debug, PartialEq, Eq)]
+#[derive(Clone, Copy, Debug)]
 pub struct Comparing<'a> {
     /// The length is not used, since no record is written.
     pub options: Options,
@@ -62,7 +62,7 @@ pub struct Comparing<'a> {
 }
 
 /// The folders of an archive, of the records that are written, and of their reports.
-#[derive(Clone, Copy, Debug, PartialEq, Eq)]
+#[derive(Clone, Copy, Debug)]
 pub struct Folders<'a> {
     pub root: &'a str,
     pub out: &'a str,
@@ -100,7 +100,7 @@ fn is_below(folder: &str, path: &str) -> bool
 }
 
 /// An archive whose day files are to be repacked.
-#[derive(Debug, Drop, PartialEq, Eq)]
+#[derive(Debug, Drop)]
 pub struct Archiving<'a> {
     pub folders: Folders<'a>,
     /// The paths, from the archive's folder, of the folders that are walked; none for the whole archive.
@@ -109,7 +109,7 @@ pub struct Archiving<'a> {
 }
 
 /// An archive whose repack is to be verified.
-#[derive(Debug, Drop, PartialEq, Eq)]
+#[derive(Debug, Drop)]
 pub struct Verifying<'a> {
     pub folders: Folders<'a>,
     /// The paths, from the archive's folder, of the folders that are walked; none for the whole archive.
@@ -117,7 +117,7 @@ pub struct Verifying<'a> {
 }
 
 /// What the program is asked to do.
-#[derive(Debug, Drop, PartialEq, Eq)]
+#[derive(Debug, Drop)]
 pub enum Task<'a> {
     Repack(Repacking<'a>),
     List(Listing<'a>),

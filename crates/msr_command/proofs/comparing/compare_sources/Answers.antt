@@ -15,6 +15,5 @@ pub returns-in-Err : goal.returns-in-Err
 returns-in-Err g c =
     let a = c.in-Err.ensures.answer in
     let answer = as_asked c.args.options _ a.0 a.1 (Err c.in-Err.fault) c.compare_settings.ensures.same a.4 in
-    compare_stops c.args.options c.args.names (g.One.Source.device c.args.one.now)
-    (g.Other.Source.device c.args.other.now) (g.O.Sink.device c.args.output.now) a.0 a.1 c.in-Err.fault
-    c.stop_at.result a.2 a.3 answer c.stop_at.ensures
+    rw c.stop_at.ensures (compare_stops c.args.options c.args.names (g.One.Source.device c.args.one.now)
+    (g.Other.Source.device c.args.other.now) (g.O.Sink.device c.args.output.now) a.0 a.1 c.in-Err.fault a.2 a.3 answer)

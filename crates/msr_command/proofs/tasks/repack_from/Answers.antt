@@ -23,11 +23,8 @@ returns-in_err-report-2 g c =
     c.from_residual-in_err-report-2.ensures.1 in
     rw (p.1, p.2) (repack_stops _ _ _ _ _ _ _ c.in_err-report-2.ensures.answer)
 
-pub returns-in_err-settle : goal.returns-in_err-settle
-returns-in_err-settle g c =
-    let p = err_from_is_err_and c.from_residual-in_err-settle.result c.from_residual-in_err-settle.ensures.1 in
-    rw (p.1, p.2, c.in_err-settle.ensures)
-    (repack_unsettled _ _ _ _ _ _ _ c.in_ok-report-2.ensures.answer)
+pub returns-then-is_err : goal.returns-then-is_err
+returns-then-is_err g c = repack_unsettled _ _ _ _ _ _ _ c.in_ok-report-2.ensures.answer
 
 pub returns : goal.returns
 returns g c = repack_done _ _ _ _ _ _ _ _ c.in_ok-report-2.ensures.answer c.is_in_turns-2.ensures
