@@ -13,7 +13,7 @@ use msr_plain::PlainFault;
 use msr_report_reader::ReportFault;
 use msr_steim::SteimFault;
 use msr_tool::{
-    Fault, FaultKind, Length, Options, ToolFault, check_and_tell, check_packed, feed,
+    Fault, FaultKind, Length, ListForm, Options, ToolFault, check_and_tell, check_packed, feed,
     feed_and_report, list_segments, repack, repack_and_report,
 };
 use std::alloc::Global;
@@ -78,7 +78,7 @@ fn ended(
     let fault = match asked.call {
         "repack" => repack(alloc, &mut records, &mut written, options).err(),
         "feed" => feed(alloc, &mut records, &mut written, options).err(),
-        "list" => list_segments(alloc, &mut records, &mut told, options).err(),
+        "list" => list_segments(alloc, &mut records, &mut told, options, ListForm::Words).err(),
         "check" => check_packed(alloc, &mut records, &mut report).err(),
         "repack_and_report" => {
             repack_and_report(alloc, &mut records, &mut written, &mut told, options).err()

@@ -6,8 +6,8 @@ use msr_compare::{Comparison, compare};
 use msr_fixtures::next_of;
 use msr_input::Settings;
 use msr_tool::{
-    Behavior, Kinds, Length, ListForm, Options, TestSink, TestSource, Verdict, check_packed, list_segments,
-    repack,
+    Behavior, Kinds, Length, ListForm, Options, TestSink, TestSource, Verdict, check_packed,
+    list_segments, repack,
 };
 use std::alloc::Global;
 use std::io::ErrorKind;
