@@ -1,5 +1,5 @@
 -- Lines written one after another.
-use Rattle.std.proofs.Common.{◌≡◌, ℕ, List, [], ◌∷◌, ◌++◌, ◌∙◌, length, refl, sym, ap, append_assoc, Option, Some, None}
+use Rattle.std.proofs.Common.{◌≡◌, ℕ, List, [], ◌∷◌, ◌++◌, ◌∙◌, refl, sym, ap, append_assoc, Option, Some, None}
 use Rattle.std.specs.Prelude.{option_map}
 use Rattle.std.specs.Option.{option_or, option_to_list}
 use Rattle.std.proofs.lemmas.List.{append-nil}
@@ -51,7 +51,7 @@ pub last_with : (before : Option ListedSegment) (segments : List Segment) (curre
     → before ≡ option_map listed_of (last_after None segments)
     → option_or (option_map listed_of current) before
     ≡ option_map listed_of (last_after None (segments ++ option_to_list current))
-last_with before segments None after = rw append-nil segments after
+last_with before segments None after = rw (append-nil segments) after
 last_with before segments (Some segment) after = rw (after_snoc None segments segment) refl
 
 -- a further text after the lines so far, some of which the sink accepts

@@ -1,5 +1,5 @@
 -- What writing the lines of segments does.
-use Rattle.std.specs.Prelude.{◌≡◌, ℕ, ◌+◌, ◌≤◌, ◌^◌, List, [], ◌∷◌, ◌++◌, length, Option, Some, None, option_map}
+use Rattle.std.specs.Prelude.{◌≡◌, ℕ, ◌+◌, ◌≤◌, ◌^◌, List, [], ◌∷◌, ◌++◌, Option, Some, None, option_map}
 use Rattle.msr_rows.specs.Records.{IsInTime}
 use Rattle.msr_devices.specs.Device.{Device, IsCalm, Takes}
 use Rattle.msr_segments.specs.declared.follow.Step.{Step}

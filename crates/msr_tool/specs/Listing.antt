@@ -32,10 +32,10 @@ last_line Json counts = counts_json counts
 
 -- the first of these segments, which comes after that one, has this line, and the others have these
 pub record ListsFirst (form : ListForm) (before : Option Segment) (segment : Segment) (text others : List ℕ) : Type 0
-    where
-  pub line : List ℕ
-  pub is_line : IsLine form (option_map listed_of before) (listed_of segment) line
-  pub whole : text ≡ line ++ others
+  where
+    pub line : List ℕ
+    pub is_line : IsLine form (option_map listed_of before) (listed_of segment) line
+    pub whole : text ≡ line ++ others
 
 -- the text is the lines of these segments, one after another, of which the first comes after that one
 abbrev pub AreLinesAfter : ListForm → (before : Option Segment) → List Segment → List ℕ → Type 0
