@@ -40,9 +40,9 @@ returns-in_ok-flush_full-in-Begins-clause-written g c start segments current h l
     let pushed = listed_pushed _ start
     (g.W.Sink.device c.args.sink.now) c.self.inside.buffer.bytes.items _ line.0 _ segments current l
     (rw same at line.1.0) line.1.1 in
-    rw (c.in-Begins.is, ← c.self.view_is, c.or-self-inside.ensures, same) (listed_passed _ start (g.W.Sink.device c.args.sink.now)
-    (g.W.Sink.device c.flush_full.new.sink) _ _ _ _ pushed c.in_ok-flush_full-in-Begins.ensures.passes
-    c.in_ok-flush_full-in-Begins.ensures.calm)
+    rw (c.in-Begins.is, ← c.self.view_is, c.or-self-inside.ensures, same) (listed_passed _ start
+    (g.W.Sink.device c.args.sink.now) (g.W.Sink.device c.flush_full.new.sink) _ _ _ _ pushed
+    c.in_ok-flush_full-in-Begins.ensures.passes c.in_ok-flush_full-in-Begins.ensures.calm)
 
 pub returns-in-Joins-clause-written : goal.returns-in-Joins-clause-written
 returns-in-Joins-clause-written g c start segments current h last =
