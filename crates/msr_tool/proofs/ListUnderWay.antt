@@ -46,10 +46,12 @@ pub record UnderList (form : ListForm) (settings : Settings) (source0 source sin
   pub few_wait : length lister.waiting < 65536
 
 -- before the first row
-pub under_none : (form : ListForm) (settings : Settings) (source0 sink0 : Device) (reading : RowReading) (lister : Lister)
+pub under_none : (form : ListForm) (settings : Settings) (source0 sink0 : Device) (reading : RowReading)
+    (lister : Lister)
     → HasReadRows source0 source0 reading [] [] → reading.following
     ≡ record { tolerance = settings.tolerance; current = None } → reading.position.strict ≡ settings.strict
-    → lister.form ≡ form → HasListed lister.form sink0 sink0 lister.waiting lister.before [] → lister.last ≡ None → length lister.waiting < 65536
+    → lister.form ≡ form → HasListed lister.form sink0 sink0 lister.waiting lister.before [] → lister.last ≡ None
+    → length lister.waiting < 65536
     → UnderList form settings source0 source0 sink0 sink0 reading lister
 under_none form settings source0 sink0 reading lister has follows strict same_form listed last few_wait = record {
   given = [];
@@ -151,7 +153,8 @@ stopped form settings source0 sink0 sink given h prefix =
     )
 
 -- no further segment is read
-pub list_read_failed : (form : ListForm) (settings : Settings) (source0 source sink0 sink : Device) (given : List Segment)
+pub list_read_failed : (form : ListForm) (settings : Settings) (source0 source sink0 sink : Device)
+    (given : List Segment)
     (why : ReadFault) → StopsReading settings source0 source given why → HasListedPrefix form sink0 sink given
     → IsAnswered (ListAnswers form settings) source0 sink0 sink (Err (fault_of_reading why))
 list_read_failed form settings source0 source sink0 sink given (read.Input found) h prefix =
@@ -229,7 +232,8 @@ list_all_failed form settings source0 sink0 sink segments counts fault.Memory ga
     stopped form settings source0 sink0 sink segments (after_end settings source0 segments counts gave) h.0
 
 -- all was written
-pub list_done : (form : ListForm) (settings : Settings) (source0 sink0 sink : Device) (segments : List Segment) (counts : Counts)
+pub list_done : (form : ListForm) (settings : Settings) (source0 sink0 sink : Device) (segments : List Segment)
+    (counts : Counts)
     → GaveReadable source0 settings segments counts → HasListedAll form sink0 sink segments counts
     → IsAnswered (ListAnswers form settings) source0 sink0 sink (Ok counts)
 list_done form settings source0 sink0 sink segments counts gave h = (

@@ -1,5 +1,5 @@
 -- Lines written one after another.
-use Rattle.std.proofs.Common.{◌≡◌, ℕ, List, [], ◌∷◌, ◌++◌, ◌∙◌, length, refl, sym, ap, append_assoc, Option, Some, None}
+use Rattle.std.proofs.Common.{◌≡◌, ℕ, List, [], ◌∷◌, ◌++◌, ◌∙◌, refl, sym, ap, append_assoc, Option, Some, None}
 use Rattle.std.specs.Prelude.{option_map}
 use Rattle.std.specs.Option.{option_or, option_to_list}
 use Rattle.std.proofs.lemmas.List.{append-nil}
@@ -51,7 +51,7 @@ pub last_with : (before : Option ListedSegment) (segments : List Segment) (curre
     → before ≡ option_map listed_of (last_after None segments)
     → option_or (option_map listed_of current) before
     ≡ option_map listed_of (last_after None (segments ++ option_to_list current))
-last_with before segments None after = rw append-nil segments after
+last_with before segments None after = rw (append-nil segments) after
 last_with before segments (Some segment) after = rw (after_snoc None segments segment) refl
 
 -- a further text after the lines so far, some of which the sink accepts
@@ -60,7 +60,8 @@ pub record Flows (start now : Device) (waiting : List ℕ) (text : List ℕ) : T
   pub takes : Takes start now taken
   pub whole : text ≡ taken ++ waiting
 
-pub flows_on : (form : ListForm) (start now next : Device) (waiting pushed waits more : List ℕ) (before : Option ListedSegment) (segments : List Segment)
+pub flows_on : (form : ListForm) (start now next : Device) (waiting pushed waits more : List ℕ)
+    (before : Option ListedSegment) (segments : List Segment)
     (h : HasListed form start now waiting before segments) → pushed ≡ waiting ++ more → Passes now next pushed [] waits
     → Flows start next waits (h.text ++ more)
 flows_on form start now next waiting pushed waits more before segments h same passes = record {
@@ -73,7 +74,8 @@ flows_on form start now next waiting pushed waits more before segments h same pa
 }
 
 -- there is no memory for a line
-pub prefix_listed : (form : ListForm) (start now : Device) (waiting : List ℕ) (before : Option ListedSegment) (segments others : List Segment)
+pub prefix_listed : (form : ListForm) (start now : Device) (waiting : List ℕ) (before : Option ListedSegment)
+    (segments others : List Segment)
     → HasListed form start now waiting before segments → HasListedPrefix form start now (segments ++ others)
 prefix_listed form start now waiting before segments others h = record {
   taken = h.taken;
@@ -88,7 +90,8 @@ prefix_listed form start now waiting before segments others h = record {
 }
 
 -- a prefix of a longer list of segments
-pub prefix_wider : (form : ListForm) (start now : Device) (segments others all : List Segment) → HasListedPrefix form start now segments
+pub prefix_wider : (form : ListForm) (start now : Device) (segments others all : List Segment)
+    → HasListedPrefix form start now segments
     → all ≡ segments ++ others → HasListedPrefix form start now all
 prefix_wider form start now segments others all h same = record {
   taken = h.taken;
@@ -104,7 +107,8 @@ prefix_wider form start now segments others all h same = record {
 }
 
 -- the line of one more segment waits
-pub listed_pushed : (form : ListForm) (start now : Device) (waiting pushed line : List ℕ) (before : Option ListedSegment) (segments : List Segment)
+pub listed_pushed : (form : ListForm) (start now : Device) (waiting pushed line : List ℕ)
+    (before : Option ListedSegment) (segments : List Segment)
     (current : Option Segment) → HasListed form start now waiting before segments
     → IsLastLine form before (option_map listed_of current) line → pushed ≡ waiting ++ line
     → HasListed form start now pushed (option_or (option_map listed_of current) before)
@@ -121,7 +125,8 @@ listed_pushed form start now waiting pushed line before segments current h is sa
 }
 
 -- what waited was written, or some of it
-pub listed_passed : (form : ListForm) (start now next : Device) (waiting waits : List ℕ) (before : Option ListedSegment) (segments : List Segment)
+pub listed_passed : (form : ListForm) (start now next : Device) (waiting waits : List ℕ) (before : Option ListedSegment)
+    (segments : List Segment)
     → HasListed form start now waiting before segments → Passes now next waiting [] waits → IsCalm now next
     → HasListed form start next waits before segments
 listed_passed form start now next waiting waits before segments h passes calm =
@@ -137,8 +142,10 @@ listed_passed form start now next waiting waits before segments h passes calm =
       last = h.last;
     }
 
-pub listed_cut : (form : ListForm) (start now next : Device) (waiting waits : List ℕ) (before : Option ListedSegment) (segments : List Segment)
-    → HasListed form start now waiting before segments → Passes now next waiting [] waits → HasListedPrefix form start next segments
+pub listed_cut : (form : ListForm) (start now next : Device) (waiting waits : List ℕ) (before : Option ListedSegment)
+    (segments : List Segment)
+    → HasListed form start now waiting before segments → Passes now next waiting [] waits
+    → HasListedPrefix form start next segments
 listed_cut form start now next waiting waits before segments h passes =
     let f = flows_on form start now next waiting waiting waits [] before segments h (sym (append-nil waiting)) passes in
     record {
@@ -154,7 +161,8 @@ listed_cut form start now next waiting waits before segments h passes =
     }
 
 -- the line of the counts
-pub listed_all : (form : ListForm) (start now next : Device) (waiting pushed waits : List ℕ) (before : Option ListedSegment) (segments : List Segment)
+pub listed_all : (form : ListForm) (start now next : Device) (waiting pushed waits : List ℕ)
+    (before : Option ListedSegment) (segments : List Segment)
     (counts : Counts) → HasListed form start now waiting before segments → pushed ≡ waiting ++ last_line form counts
     → Passes now next pushed [] waits → waits ≡ [] → IsCalm now next → HasListedAll form start next segments counts
 listed_all form start now next waiting pushed waits before segments counts h same passes none calm =
@@ -163,7 +171,8 @@ listed_all form start now next waiting pushed waits before segments counts h sam
     ∙ append-nil f.taken in
     record { text = h.text; lines = h.lines; takes = rw all f.takes; calm = calm_calm start now next h.calm calm }
 
-pub listed_all_cut : (form : ListForm) (start now next : Device) (waiting pushed waits : List ℕ) (before : Option ListedSegment) (segments : List Segment)
+pub listed_all_cut : (form : ListForm) (start now next : Device) (waiting pushed waits : List ℕ)
+    (before : Option ListedSegment) (segments : List Segment)
     (counts : Counts) → HasListed form start now waiting before segments → pushed ≡ waiting ++ last_line form counts
     → Passes now next pushed [] waits → HasListedCut form start next segments counts
 listed_all_cut form start now next waiting pushed waits before segments counts h same passes =

@@ -1,5 +1,5 @@
 -- What writing the lines of segments does.
-use Rattle.std.specs.Prelude.{◌≡◌, ℕ, ◌+◌, ◌≤◌, ◌^◌, List, [], ◌∷◌, ◌++◌, length, Option, Some, None, option_map}
+use Rattle.std.specs.Prelude.{◌≡◌, ℕ, ◌+◌, ◌≤◌, ◌^◌, List, [], ◌∷◌, ◌++◌, Option, Some, None, option_map}
 use Rattle.msr_rows.specs.Records.{IsInTime}
 use Rattle.msr_devices.specs.Device.{Device, IsCalm, Takes}
 use Rattle.msr_segments.specs.declared.follow.Step.{Step}
@@ -64,7 +64,8 @@ pub record HasListed (form : ListForm) (start now : Device) (waiting : List ℕ)
   pub last : before ≡ option_map listed_of (last_after None segments)
 
 -- all lines were written, and that of these counts
-pub record HasListedAll (form : ListForm) (start now : Device) (segments : List Segment) (counts : Counts) : Type 0 where
+pub record HasListedAll (form : ListForm) (start now : Device) (segments : List Segment)
+    (counts : Counts) : Type 0 where
   pub text : List ℕ
   pub lines : AreListLines form segments text
   pub takes : Takes start now (text ++ last_line form counts)
@@ -77,7 +78,8 @@ pub record HasListedPrefix (form : ListForm) (start now : Device) (segments : Li
   pub prefix : IsPrefixOfList form segments taken
 
 -- a prefix of the lines of these segments and of that of the counts was written
-pub record HasListedCut (form : ListForm) (start now : Device) (segments : List Segment) (counts : Counts) : Type 0 where
+pub record HasListedCut (form : ListForm) (start now : Device) (segments : List Segment)
+    (counts : Counts) : Type 0 where
   pub text : List ℕ
   pub taken : List ℕ
   pub tail : List ℕ

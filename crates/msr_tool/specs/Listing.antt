@@ -96,5 +96,6 @@ ListAnswers form settings input written (Ok counts) = IsListed form settings inp
 ListAnswers form settings input written (Err (Input fault)) = IsListedTo form settings input written fault
 ListAnswers form settings input written (Err (Report line)) = ⊥
 ListAnswers form settings input written (Err Read) = IsListStopped form settings input written
-ListAnswers form settings input written (Err Write) = IsListStopped form settings input written ⊎ IsListCut form settings input written
+ListAnswers form settings input written (Err Write) = IsListStopped form settings input written
+    ⊎ IsListCut form settings input written
 ListAnswers form settings input written (Err Memory) = IsListStopped form settings input written

@@ -15,7 +15,8 @@ rows-init g c =
     (rw c.settings_of.ensures.same at c.new-reader.ensures.following)
     (rw c.settings_of.ensures.same at c.new-reader.ensures.strict)
     c.new-writer.ensures.form
-    (rw (← c.new-writer.ensures.form) at (c.new-writer.ensures.none (g.W.Sink.device c.args.sink.now))) c.new-writer.ensures.last c.new-writer.ensures.few_wait
+    (rw (← c.new-writer.ensures.form) at (c.new-writer.ensures.none (g.W.Sink.device c.args.sink.now)))
+    c.new-writer.ensures.last c.new-writer.ensures.few_wait
 
 pub returns-in_err-next : goal.returns-in_err-next
 returns-in_err-next g c =
@@ -77,7 +78,8 @@ returns-in_err-finish g c =
     c.counts-counts.ensures in
     let stops = rw u.same_form at (c.in_err-finish.ensures.written _ u.given u.joining.current listed u.last) in
     rw (p.1, p.2) (write_ends _ _ _ _ _ _ _ _ c.in_err-finish.field-0.0 end.none.read.came.steady
-    u.listed.calm.steady c.finish.ensures.few stops (list_all_failed _ _ _ _ _ _ _ c.in_err-finish.field-0.0 gave stops))
+    u.listed.calm.steady c.finish.ensures.few stops (list_all_failed _ _ _ _ _ _ _
+    c.in_err-finish.field-0.0 gave stops))
 
 pub returns : goal.returns
 returns g c =

@@ -32,7 +32,7 @@ returns-in_err-flush-clause-written g c start segments current h last =
     let pushed = listed_pushed _ start
     (g.W.Sink.device c.args.sink.now) c.self.inside.buffer.bytes.items _ line.0 _ segments current l
     (rw same at line.1.0) line.1.1 in
-    rw (p.1, p.2) (
+    rw (p.1, p.2, ← c.self.view_is) (
       listed_all_cut _ start (g.W.Sink.device c.args.sink.now)
           (g.W.Sink.device c.flush.new.sink) _ _ _ _ _ c.args.counts.now pushed c.in_ok-push_last_line.ensures.pushed
           c.in_err-flush.ensures.passes,
@@ -48,6 +48,6 @@ returns-clause-written g c start segments current h last =
     let pushed = listed_pushed _ start
     (g.W.Sink.device c.args.sink.now) c.self.inside.buffer.bytes.items _ line.0 _ segments current l
     (rw same at line.1.0) line.1.1 in
-    listed_all _ start (g.W.Sink.device c.args.sink.now)
+    rw (← c.self.view_is) (listed_all _ start (g.W.Sink.device c.args.sink.now)
     (g.W.Sink.device c.flush.new.sink) _ _ _ _ _ c.args.counts.now pushed c.in_ok-push_last_line.ensures.pushed
-    c.in_ok-flush.ensures.passes c.in_ok-flush.ensures.empty c.in_ok-flush.ensures.calm
+    c.in_ok-flush.ensures.passes c.in_ok-flush.ensures.empty c.in_ok-flush.ensures.calm)

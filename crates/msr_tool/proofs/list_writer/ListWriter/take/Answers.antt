@@ -25,7 +25,7 @@ returns-in_err-flush_full-in-Begins-clause-written g c start segments current h 
     let pushed = listed_pushed _ start
     (g.W.Sink.device c.args.sink.now) c.self.inside.buffer.bytes.items _ line.0 _ segments current l
     (rw same at line.1.0) line.1.1 in
-    rw (p.1, p.2, c.in-Begins.is) (
+    rw (p.1, p.2, c.in-Begins.is, ← c.self.view_is) (
       listed_cut _ start (g.W.Sink.device c.args.sink.now)
           (g.W.Sink.device c.flush_full.new.sink) _ _ _ _ pushed c.in_err-flush_full-in-Begins.ensures.passes,
       calm_failed start (g.W.Sink.device c.args.sink.now)
@@ -40,10 +40,10 @@ returns-in_ok-flush_full-in-Begins-clause-written g c start segments current h l
     let pushed = listed_pushed _ start
     (g.W.Sink.device c.args.sink.now) c.self.inside.buffer.bytes.items _ line.0 _ segments current l
     (rw same at line.1.0) line.1.1 in
-    rw c.in-Begins.is (listed_passed _ start (g.W.Sink.device c.args.sink.now)
-    (g.W.Sink.device c.flush_full.new.sink) _ _ _ _ pushed c.in_ok-flush_full-in-Begins.ensures.passes
-    c.in_ok-flush_full-in-Begins.ensures.calm)
+    rw (c.in-Begins.is, ← c.self.view_is, c.or-self-inside.ensures, same) (listed_passed _ start
+    (g.W.Sink.device c.args.sink.now) (g.W.Sink.device c.flush_full.new.sink) _ _ _ _ pushed
+    c.in_ok-flush_full-in-Begins.ensures.passes c.in_ok-flush_full-in-Begins.ensures.calm)
 
 pub returns-in-Joins-clause-written : goal.returns-in-Joins-clause-written
 returns-in-Joins-clause-written g c start segments current h last =
-    rw (c.in-Joins.is, append-nil segments) (rw (← c.self.view_is) at h)
+    rw (c.in-Joins.is, append-nil segments, ← c.self.view_is) (rw (← c.self.view_is) at h)
