@@ -142,11 +142,12 @@ pub fn called(words: &mut Words<'_>) -> Option<String> {
         told: told.as_str().as_bytes(),
     };
     let mut text = String::new(alloc);
-    let mut end = "";
     for odd in odds.split(" + ") {
         let line = with_odd(alloc, &asked, others, odd)?;
-        text = format!(in alloc; "{text}{end}{line}").ok()?;
-        end = "\n";
+        if !text.is_empty() {
+            text.push('\n').ok()?;
+        }
+        text.push_str(line.as_str()).ok()?;
     }
     Some(text)
 }
