@@ -1,6 +1,5 @@
 //! What the words of a command line ask for.
 ghost use Rattle.std.specs.Prelude.{◌≡◌, ◌≢◌, ◌<◌, ◌↔◌, ℕ, length, codes, false, Some, IfOk, IfErr, IfSome, IsSome, IsOk, IsOkAnd, IsTrue, Ok, Err, Any, map, option_map};
-ghost use Rattle.msr_kinds.specs.Lengths.{bytes_of};
 ghost use Rattle.msr_kinds.specs.RecordLength.{IsRecordLength};
 ghost use Rattle.clap.specs.Words.{first_value, found_of, kind_of, one_text, subcommand_name_of};
 ghost use Rattle.msr_arguments.specs.Found.{AsksArchive, AsksBelow, AsksCheck, AsksDays, AsksFolders, AsksOptions, AsksTask, AsksVerify, EndsFor, EndsWith, HoldsOptions, IsBadLine, IsFlagOf, IsFormOf, IsKindsOf, IsLengthOf, IsNumberOf, IsWrong, without_slash};
@@ -101,18 +100,8 @@ fn number_in(found: &ArgMatches<'_>, name: &str) -> Option<u32>
     found.get_one::<u32>(name)
 }
 
-/// What clap says of a length that is no number. It takes `-0` for 0, which is no record length.
-fn no_number(alloc: Global, text: &str) -> Result<NoTask, AllocError>
-    ensures { IfOk result IsBadLine }
-{
-    let words = ["msrepack", "--length", text];
-    match length_alone(alloc)?.try_get_matches_from(words.as_slice()) {
-        Ok(_) => Ok(NoTask::NotALength),
-        Err(error) => Ok(ending_with(alloc, &error, 2)),
-    }
-}
-
-/// The number of bytes that a length's text is, 512 without a text.
+/// The number of bytes that a length's text is, 512 without a text; or what clap says of one that is no number. It takes
+/// `-0` for 0, which is no record length.
 fn number_of(alloc: Global, length: Option<&str>) -> Result<u32, NoTask>
     ensures asked { IfOk result (IsLengthOf (option_map (λ text. text.now) length.entry)) }
     ensures given { (bytes : ℕ) → IsLengthOf (option_map (λ text. text.now) length.entry) bytes → result ≡ Ok bytes }
@@ -121,40 +110,20 @@ fn number_of(alloc: Global, length: Option<&str>) -> Result<u32, NoTask>
     let Some(text) = length else {
         return Ok(LENGTH);
     };
-    match text.parse() {
-        Ok(bytes) => Ok(bytes),
-        Err(_) => Err(no_number(alloc, text)?),
+    if let Ok(bytes) = text.parse() {
+        return Ok(bytes);
     }
-}
-
-/// The length of that text, 512 bytes without one.
-fn length_of(alloc: Global, length: Option<&str>) -> Result<Length, NoTask>
-    ensures asked { IfOk result (λ found. IsLengthOf (option_map (λ text. text.now) length.entry) (bytes_of found)) }
-    ensures given { (bytes : ℕ) → IsLengthOf (option_map (λ text. text.now) length.entry) bytes →
-        IsRecordLength bytes → IsOk result }
-    ensures other { (bytes : ℕ) → IsLengthOf (option_map (λ text. text.now) length.entry) bytes →
-        ¬ (IsRecordLength bytes) → result ≡ Err NotALength }
-    ensures status { IfErr result IsBadLine }
-{
-    let bytes = number_of(alloc, length)?;
-    Length::new(bytes).ok_or(NoTask::NotALength)
+    let words = ["msrepack", "--length", text];
+    match length_alone(alloc)?.try_get_matches_from(words.as_slice()) {
+        Ok(_) => Err(NoTask::NotALength),
+        Err(error) => Err(ending_with(alloc, &error, 2)),
+    }
 }
 
 fn flag_in(found: &ArgMatches<'_>, name: &str) -> bool
     ensures { IsFlagOf (one_text (found_of found.now) name.now) result }
 {
     found.get_flag(name)
-}
-
-/// The kinds of records that are written.
-fn kinds_in(found: &ArgMatches<'_>) -> Kinds
-    ensures { IsKindsOf (one_text (found_of found.now) (codes "no-int24")) result }
-{
-    if flag_in(found, "no-int24") {
-        Kinds::WithoutInt24
-    } else {
-        Kinds::All
-    }
 }
 
 /// The form of a list.
@@ -182,14 +151,15 @@ fn options_in(
     ensures tolerance { IfOk result (λ options. IsTolerance options.tolerance) }
     ensures status { IfErr result IsBadLine }
 {
-    let length = length_of(alloc, length)?;
+    let length = Length::new(number_of(alloc, length)?).ok_or(NoTask::NotALength)?;
     let tolerance = required(alloc, number_in(found, "tolerance"))?;
     let options = required(alloc, Options::new(length, tolerance))?;
-    Ok(
-        options
-            .strict(flag_in(found, "strict"))
-            .kinds(kinds_in(found)),
-    )
+    let kinds = if flag_in(found, "no-int24") {
+        Kinds::WithoutInt24
+    } else {
+        Kinds::All
+    };
+    Ok(options.strict(flag_in(found, "strict")).kinds(kinds))
 }
 
 /// The value of this name.

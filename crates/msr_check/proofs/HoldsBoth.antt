@@ -1,6 +1,6 @@
 -- Two samples that one run holds, by the starts at and before the first of them.
 use Rattle.std.proofs.Common.{◌≡◌, ◌↔◌, ℕ, ◌+◌, ◌-◌, ◌*◌, ◌<◌, ◌≤◌, ◌⊎◌, Bool, true, false, ◌||◌, IsTrue, IsFalse, nat_le, ℤ, pos, List, [], ◌∷◌, ◌++◌, length, map, arith, refl, sym, ap, ◌∙◌, subst, inl, inr}
-use Rattle.std.specs.Prelude.{All, count_by, slice_index_or}
+use Rattle.std.specs.Prelude.{All, count_by, not, slice_index_or}
 use Rattle.std.proofs.lemmas.Bool.{cases_lt}
 use Rattle.std.proofs.lemmas.Bool.Decides.{nat_tests}
 use Rattle.msr_kinds.specs.declared.kinds.Kind.{Kind}
@@ -11,7 +11,8 @@ use Rattle.msr_words.specs.Bounds.{BeginsWithFour, IsEnd, is_very_wide, is_wide}
 use Rattle.msr_words.specs.Segment.{difference_at, run_points}
 use Rattle.msr_words.specs.Fit.{Records, Fits, FitsIn, IsRun}
 use Rattle.msr_words.specs.Laws.{IsNarrow, look_back_of, most_of}
-use Rattle.msr_words.specs.Lemmas.KindLaws.{back_step_in, prefix_in, size_kind}
+use Rattle.msr_words.specs.Lemmas.KindLaws.{size_kind}
+use Rattle.msr_words.proofs.AnyKind.{back_step_in, prefix_in}
 use Rattle.msr_words.proofs.Runs.{back_step_run, length-run_points, prefix_run, run_points_cut, run_points_more, run_points_none}
 use Rattle.msr_words.proofs.Stretches.{no_further, none_with_halves, none_with_wide}
 use Rattle.msr_words.proofs.Dominance.{steim2_dominates}
@@ -248,33 +249,34 @@ module _ (records : Records) (samples : List ℤ) (first second : ℕ) (order : 
   pub none_says : (short middle long steim : Bool) → (IsTrue short ↔ HoldsBoth Int16 records samples first second)
       → (IsTrue middle ↔ HoldsBoth Int24 records samples first second)
       → (IsTrue long ↔ HoldsBoth Int32 records samples first second) → (IsTrue steim ↔ SteimHolds records samples first second)
-      → (IsFalse (((short || middle) || long) || steim) ↔ NoneHolds records samples first second)
+      → (IsTrue (not (((short || middle) || long) || steim)) ↔ NoneHolds records samples first second)
   unfolding Says
   none_says short middle long steim r m s p = (say short middle long steim r m s p, hear short middle long steim r m s p)
     where
-      not : (answer : Bool) (P : Type 0) → Says answer P → answer ≡ false → P → ⊥
-      not answer P says e holds = let t = says.1 holds in cc
+      never : (answer : Bool) (P : Type 0) → Says answer P → answer ≡ false → P → ⊥
+      never answer P says e holds = let t = says.1 holds in cc
 
       say : (short middle long steim : Bool) → Says short (HoldsBoth Int16 records samples first second)
           → Says middle (HoldsBoth Int24 records samples first second)
           → Says long (HoldsBoth Int32 records samples first second) → Says steim (SteimHolds records samples first second)
-          → IsFalse (((short || middle) || long) || steim) → NoneHolds records samples first second
+          → IsTrue (not (((short || middle) || long) || steim)) → NoneHolds records samples first second
       say true middle long steim r m s p h = absurd cc
       say false true long steim r m s p h = absurd cc
       say false false true steim r m s p h = absurd cc
-      say false false false steim r m s p h = none_of_any none
+      say false false false true r m s p h = absurd cc
+      say false false false false r m s p h = none_of_any none
         where
           none : (kind : Kind) → HoldsBoth kind records samples first second → ⊥
-          none Steim2 = λ two. not steim (SteimHolds records samples first second) p h (record { holds = inl two })
-          none Steim1 = λ one. not steim (SteimHolds records samples first second) p h (record { holds = inr one })
-          none Int16 = not false (HoldsBoth Int16 records samples first second) r refl
-          none Int24 = not false (HoldsBoth Int24 records samples first second) m refl
-          none Int32 = not false (HoldsBoth Int32 records samples first second) s refl
+          none Steim2 = λ two. never false (SteimHolds records samples first second) p refl (record { holds = inl two })
+          none Steim1 = λ one. never false (SteimHolds records samples first second) p refl (record { holds = inr one })
+          none Int16 = never false (HoldsBoth Int16 records samples first second) r refl
+          none Int24 = never false (HoldsBoth Int24 records samples first second) m refl
+          none Int32 = never false (HoldsBoth Int32 records samples first second) s refl
 
       hear : (short middle long steim : Bool) → Says short (HoldsBoth Int16 records samples first second)
           → Says middle (HoldsBoth Int24 records samples first second)
           → Says long (HoldsBoth Int32 records samples first second) → Says steim (SteimHolds records samples first second)
-          → NoneHolds records samples first second → IsFalse (((short || middle) || long) || steim)
+          → NoneHolds records samples first second → IsTrue (not (((short || middle) || long) || steim))
       hear true middle long steim r m s p none = absurd (some_of_any Int16 (r.0 refl) none)
       hear false true long steim r m s p none = absurd (some_of_any Int24 (m.0 refl) none)
       hear false false true steim r m s p none = absurd (some_of_any Int32 (s.0 refl) none)

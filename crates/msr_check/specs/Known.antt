@@ -12,8 +12,8 @@ pub record MeetsNarrow (bytes : ℕ) (samples : List ℤ) (start : ℕ) : Type 0
 
 -- the greatest end of a run of that kind from that start on; if it is told, Steim-2 meets narrow differences alone
 pub record IsReached (bytes : ℕ) (samples : List ℤ) (reach : Reach) : Type 0 where
-  pub end_is : IsEnd reach.kind bytes samples reach.start reach.to.end
-  pub narrow : IsTrue reach.to.narrow → MeetsNarrow bytes samples reach.start
+  pub end_is : IsEnd reach.kind bytes samples reach.start reach.end
+  pub narrow : IsTrue reach.narrow → MeetsNarrow bytes samples reach.start
 
 pub record IsKnown (bytes : ℕ) (samples : List ℤ) (known : Option Reach) : Type 0 where
   pub reach : IfSome known (IsReached bytes samples)

@@ -19,7 +19,7 @@ ghost use Rattle.msr_check.specs.Next.{IsNext};
 ghost use Rattle.msr_words.specs.Packing.{NoneHolds, IsPacking, IsSeparating, IsLeast};
 
 use crate::judge::{ends_sound, followed_by};
-use crate::reach::{Reach, is_of_steim2, known_end, meets_narrow};
+use crate::reach::{Known, is_of_steim2, known_end, meets_narrow};
 pub use judge::Judge;
 use msr_kinds::{Form, Kind, Length};
 use msr_words::{
@@ -34,7 +34,7 @@ fn holds_both(
     form: Form,
     first: usize,
     second: usize,
-    known: Option<Reach>,
+    known: Known,
 ) -> bool
     requires alone { look_back_of kind ≡ 0 }
     requires known { IsKnown (bytes_of form.length) samples.now known }
@@ -46,7 +46,7 @@ fn holds_both(
 }
 
 /// The greatest end of a run of Steim-1 from `start` on.
-fn steim1_end(samples: &[i32], record_length: Length, start: usize, known: Option<Reach>) -> usize
+fn steim1_end(samples: &[i32], record_length: Length, start: usize, known: Known) -> usize
     requires within { start ≤ length samples.now }
     requires known { IsKnown (bytes_of record_length) samples.now known }
     ensures { IsEnd Steim1 (bytes_of record_length) samples.now start result }
@@ -59,13 +59,7 @@ fn steim1_end(samples: &[i32], record_length: Length, start: usize, known: Optio
 
 /// Whether some run of Steim-1 holds both samples. One that starts before the first of them has to be tried only if its
 /// first difference shares a word with three others.
-fn steim1_holds_both(
-    samples: &[i32],
-    form: Form,
-    first: usize,
-    second: usize,
-    known: Option<Reach>,
-) -> bool
+fn steim1_holds_both(samples: &[i32], form: Form, first: usize, second: usize, known: Known) -> bool
     requires known { IsKnown (bytes_of form.length) samples.now known }
     requires chosen { IsChosen form.kinds Steim1 }
     requires order { first < second }
@@ -84,13 +78,7 @@ fn steim1_holds_both(
 /// Whether no record of Steim-1 holds both samples, given that none of Steim-2 does: there are too many, or each of
 /// their differences has as much room in Steim-2, which how far that reaches may tell. The contract promises nothing if
 /// the answer is `false`.
-fn steim1_is_short(
-    samples: &[i32],
-    form: Form,
-    first: usize,
-    second: usize,
-    known: Option<Reach>,
-) -> bool
+fn steim1_is_short(samples: &[i32], form: Form, first: usize, second: usize, known: Known) -> bool
     requires known { IsKnown (bytes_of form.length) samples.now known }
     requires none { HoldsBoth Steim2 (records_of form) samples.now first second → ⊥ }
     requires order { first < second }
@@ -139,13 +127,7 @@ fn steim2_has_no_room(samples: &[i32], record_length: Length, first: usize, seco
 }
 
 /// Whether some run of Steim-2 holds both samples. If it is known how far Steim-2 reaches, nothing is counted.
-fn steim2_holds_both(
-    samples: &[i32],
-    form: Form,
-    first: usize,
-    second: usize,
-    known: Option<Reach>,
-) -> bool
+fn steim2_holds_both(samples: &[i32], form: Form, first: usize, second: usize, known: Known) -> bool
     requires known { IsKnown (bytes_of form.length) samples.now known }
     requires order { first < second }
     requires within { second < length samples.now }
@@ -158,13 +140,7 @@ fn steim2_holds_both(
 }
 
 /// Whether some run of Steim-2 or Steim-1 holds both samples. If it is known how far Steim-2 reaches, nothing is counted.
-fn steim_holds_both(
-    samples: &[i32],
-    form: Form,
-    first: usize,
-    second: usize,
-    known: Option<Reach>,
-) -> bool
+fn steim_holds_both(samples: &[i32], form: Form, first: usize, second: usize, known: Known) -> bool
     requires known { IsKnown (bytes_of form.length) samples.now known }
     requires order { first < second }
     requires within { second < length samples.now }
@@ -182,32 +158,21 @@ fn steim_holds_both(
     steim1_holds_both(samples, form, first, second, known)
 }
 
-/// Whether some run of some kind that fits holds both samples.
-fn some_holds_both(
-    samples: &[i32],
-    form: Form,
-    first: usize,
-    second: usize,
-    known: Option<Reach>,
-) -> bool
-    requires known { IsKnown (bytes_of form.length) samples.now known }
-    requires order { first < second }
-    requires within { second < length samples.now }
-    ensures { IsFalse result ↔ NoneHolds (records_of form) samples.now first second }
-{
-    holds_both(Kind::Int16, samples, form, first, second, known)
-        | holds_both(Kind::Int24, samples, form, first, second, known)
-        | holds_both(Kind::Int32, samples, form, first, second, known)
-        | steim_holds_both(samples, form, first, second, known)
-}
-
-/// Whether the first sample stands before the second, and no run that fits holds both.
-fn none_between(samples: &[i32], form: Form, first: u64, second: u64, known: Option<Reach>) -> bool
+/// Whether the first sample stands before the second, and no run of any kind that fits holds both.
+fn none_between(samples: &[i32], form: Form, first: u64, second: u64, known: Known) -> bool
     requires known { IsKnown (bytes_of form.length) samples.now known }
     requires within { second < length samples.now }
     ensures { IsTrue result ↔ (first < second) × NoneHolds (records_of form) samples.now first second }
 {
-    first < second && !some_holds_both(samples, form, first as usize, second as usize, known)
+    if first >= second {
+        return false;
+    }
+    let first = first as usize;
+    let second = second as usize;
+    !(holds_both(Kind::Int16, samples, form, first, second, known)
+        | holds_both(Kind::Int24, samples, form, first, second, known)
+        | holds_both(Kind::Int32, samples, form, first, second, known)
+        | steim_holds_both(samples, form, first, second, known))
 }
 
 /// Whether the separator at that place is a sample of the segment, after the one before it, and no run that fits holds
@@ -244,14 +209,7 @@ pub fn separates_in(samples: &[i32], form: Form, separators: &[u64]) -> bool
 }
 
 /// Whether the samples `start` to `end - 1` fit one record of that kind, which the form has; Steim-1 word by word.
-fn fits(
-    kind: Kind,
-    samples: &[i32],
-    start: usize,
-    end: usize,
-    form: Form,
-    known: Option<Reach>,
-) -> bool
+fn fits(kind: Kind, samples: &[i32], start: usize, end: usize, form: Form, known: Known) -> bool
     requires order { start ≤ end }
     requires within { end ≤ length samples.now }
     requires known { IsKnown (bytes_of form.length) samples.now known }
@@ -269,7 +227,7 @@ fn fits(
 }
 
 /// Whether the run is not empty, lies in the segment, and fits a record of its kind, which the form has.
-fn is_run(samples: &[i32], form: Form, run: &Run, known: Option<Reach>) -> bool
+fn is_run(samples: &[i32], form: Form, run: &Run, known: Known) -> bool
     requires known { IsKnown (bytes_of form.length) samples.now known }
     ensures { IsTrue result ↔ (run.now.start < run.now.end)
         × IsRun (FitsIn run.now.kind (records_of form)) samples.now run.now.start run.now.end }

@@ -1,26 +1,26 @@
 -- How tasks end: done, stopped, or before they begin.
 use Rattle.std.specs.Prelude.{◌↔◌, ⊤, IsTrue}
-use Rattle.std.proofs.Common.{◌≡◌, ◌⊎◌, ℕ, Bool, List, [], codes, refl, subst, sym, inl, inr, append-nil, Result, Ok, Err}
+use Rattle.std.proofs.Common.{◌≡◌, ℕ, Bool, List, [], codes, refl, subst, sym, inl, inr, append-nil, Result, Ok, Err}
 use Rattle.msr_devices.specs.Device.{Device, HasLeft, Takes}
 use Rattle.msr_devices.proofs.Chaining.{left_of, takes_append, takes_none}
 use Rattle.msr_base.specs.declared.counts.Counts.{Counts}
 use Rattle.msr_report.specs.declared.report.Report.{Report}
 use Rattle.msr_devices.specs.declared.fault.DeviceFault.TheVariants as device_fault
-use Rattle.msr_verdict.specs.declared.verdict.Verdict.{Verdict}
 use Rattle.msr_options.specs.Choice.{Choice}
 use Rattle.msr_tool.specs.Settings.{settings_of}
 use Rattle.msr_tool.specs.Listing.{ListAnswers}
-use Rattle.msr_tool.specs.Tasks.{Reports, Tells, VerdictAnswers}
+use Rattle.msr_tool.specs.Tasks.{Reports, Tells}
 use Rattle.msr_tool.specs.declared.fault.ToolFault.{ToolFault}
 use Rattle.msr_tool.specs.declared.fault.ToolFault.TheVariants as fault
 use Rattle.msr_options.specs.declared.days.DayOptions.{DayOptions}
 use Rattle.msr_folders.specs.declared.found.WalkFound.{WalkFound}
-use Rattle.msr_walk.specs.Walk.{IsWalk, WalkEnds, Walks}
+use Rattle.msr_walk.specs.Walk.{IsWalk, Walks}
+use Rattle.msr_walk.specs.declared.folders.Walked.{Walked}
 use Rattle.msr_walk.proofs.EntriesTold.{none_told, stops_entries, walk_stops}
-use Rattle.msr_verify.specs.Walk.{IsWalk as IsVerifying, Verifies, WalkEnds as VerifyingEnds}
+use Rattle.msr_verify.specs.Walk.{IsWalk as IsVerifying, Verifies}
 use Rattle.msr_verify.proofs.EntriesFound.{none_told as none_found, stops_entries as stops_found, walk_stops as verifying_stops}
 use Rattle.msr_command.specs.declared.done.Done.{Done}
-use Rattle.msr_command.specs.declared.done.Done.TheVariants.{Written, Repacked, Checked}
+use Rattle.msr_command.specs.declared.done.Done.TheVariants.{Written, Repacked}
 use Rattle.msr_command.specs.declared.task_fault.TaskFault.{TaskFault}
 use Rattle.msr_command.specs.declared.task_fault.TaskFault.TheVariants.{Tool}
 use Rattle.msr_options.specs.declared.task.ListForm.{ListForm}
@@ -206,12 +206,12 @@ check_stops packed report out0 out why does = record {
   ends = inl does.answers;
 }
 
-pub archive_done : (asked : DayOptions) (out0 out : Device) (is_whole : Bool) (found : WalkFound)
-    → Walks asked out0 out (Ok found) → WalksArchive asked out0 out (Ok (done_of_archive is_whole found))
-archive_done asked out0 out is_whole found does = record {
+pub archive_done : (asked : DayOptions) (out0 out : Device) (is_whole : Bool) (walked : Walked)
+    → Walks asked out0 out (Ok walked) → WalksArchive asked out0 out (Ok (done_of_archive is_whole walked))
+archive_done asked out0 out is_whole walked does = record {
   printed = does.printed;
   prints = does.prints;
-  ends = record { found = found; is_whole = is_whole; walk = does.ends; is = refl };
+  ends = record { found = walked; is_whole = is_whole; walk = does.ends; is = refl };
 }
 
 pub archive_stops : (asked : DayOptions) (out0 out : Device) (why : ToolFault) → Walks asked out0 out (Err why) →

@@ -1,5 +1,5 @@
 -- What comparing two inputs prints, and how it stops.
-use Rattle.std.specs.Prelude.{◌≡◌, ℕ, ⊤, List, [], ◌++◌, codes, false, take, Result, Ok, Err}
+use Rattle.std.specs.Prelude.{◌≡◌, ℕ, List, [], ◌++◌, codes, false, take, Result, Ok, Err}
 use Rattle.msr_devices.specs.Device.{Device, Takes}
 use Rattle.msr_options.specs.Choice.{Choice}
 use Rattle.msr_input.specs.declared.settings.Settings.{Settings}

@@ -1,5 +1,5 @@
 -- How a task ends: what was read and printed, for what the files of the system hold.
-use Rattle.std.specs.Prelude.{if◌then◌else◌, ◌≡◌, ◌≢◌, ◌⊎◌, ◌↔◌, ◌<◌, ◌≤◌, ℕ, ⊤, Bool, false, true, IsTrue, List, [], codes, string_bytes, Result, Ok, Err}
+use Rattle.std.specs.Prelude.{if◌then◌else◌, ◌≡◌, ◌≢◌, ◌⊎◌, ◌↔◌, ◌<◌, ◌≤◌, ◌&&◌, ℕ, ⊤, Bool, false, true, IsTrue, List, [], codes, string_bytes, Option, None, Result, Ok, Err}
 use Rattle.std.specs.declared.io.Error.{Error}
 use Rattle.msr_devices.specs.Device.{Device, CountsError, HasFailed, HasLeft, Takes}
 use Rattle.msr_base.specs.declared.counts.Counts.{Counts}
@@ -9,22 +9,23 @@ use Rattle.msr_options.specs.declared.days.DayOptions.{DayOptions}
 use Rattle.msr_tool.specs.Settings.{settings_of}
 use Rattle.msr_tool.specs.Listing.{IsListed, ListAnswers}
 use Rattle.msr_tool.specs.Tasks.{IsReported, ReportAnswers, VerdictAnswers}
-use Rattle.msr_verdict.specs.declared.verdict.Verdict.{Verdict}
-use Rattle.msr_verdict.specs.declared.verdict.Verdict.TheVariants.{Least, NotShown}
+use Rattle.msr_verdict.specs.declared.verdict.Verdict.TheVariants.{NotShown}
 use Rattle.msr_tool.specs.declared.fault.ToolFault.{ToolFault}
 use Rattle.msr_folders.specs.declared.found.WalkFound.{WalkFound}
 use Rattle.msr_folders.specs.declared.found.WalkFound.TheVariants.{Well, Unwell, NoDay}
 use Rattle.msr_walk.specs.Walk.{WalkEnds}
+use Rattle.msr_walk.specs.declared.folders.Walked.{Walked as ArchiveWalked}
 use Rattle.msr_verify.specs.Walk.{WalkEnds as VerifyingEnds}
 use Rattle.msr_tool.specs.declared.fault.ToolFault.TheVariants as engine
-use Rattle.msr_compare.specs.declared.comparison.Comparison.TheVariants.{Same, Differ}
+use Rattle.msr_compare.specs.declared.comparison.Comparison.TheVariants.{Differ}
 use Rattle.msr_command.specs.declared.done.Done.{Done}
 use Rattle.msr_command.specs.declared.done.Done.TheVariants.{Written, Repacked, Checked, Compared, Walked}
 use Rattle.msr_command.specs.declared.task_fault.TaskFault.{TaskFault}
-use Rattle.msr_command.specs.declared.task_fault.TaskFault.TheVariants.{CannotOpen, Input, SameFile, SameOutput, Overlap, Closed, Tool}
+use Rattle.msr_command.specs.declared.task_fault.TaskFault.TheVariants.{CannotOpen, SameFile, SameOutput, Overlap, Closed, Tool}
 use Rattle.msr_command.specs.declared.comparing.Names.{Names}
 use Rattle.msr_command.specs.Comparing.{IsAnswered, IsAtFault, StopsComparison, names_of}
 use Rattle.msr_command.specs.Turns.{AreTurns}
+use Rattle.msr_options.specs.declared.hint.Unopened.{Unopened}
 use Rattle.msr_options.specs.declared.task.ListForm.{ListForm}
 use Rattle.msr_options.specs.declared.task.NoTask.{NoTask}
 use Rattle.msr_options.specs.declared.task.NoTask.TheVariants.{Ending, NotALength, Memory}
@@ -35,23 +36,17 @@ use Rattle.msr_options.specs.Tasks.{HasStatus, IsDefault}
 -- 0 for what was written, is least or is the same, 3 for what is not shown or differs, 1 for a walk on which an entry was
 -- refused, or not verified, or which had none to verify
 abbrev pub status_of_done : Done → ℕ
-status_of_done Written = 0
-status_of_done (Repacked in_turns) = 0
-status_of_done (Checked Least) = 0
 status_of_done (Checked NotShown) = 3
-status_of_done (Compared (Same told)) = 0
 status_of_done (Compared (Differ difference)) = 3
-status_of_done (Walked refused no_day) = if refused then 1 else 0
+status_of_done (Walked refused no_day unopened) = if refused then 1 else 0
+status_of_done _ = 0
 
 -- 2 if the output is the input, two outputs are one file, or folders overlap, which is a wrong command line, and else 1
 abbrev pub status_of_task_fault : TaskFault → ℕ
-status_of_task_fault (CannotOpen name why) = 1
-status_of_task_fault (Input name why) = 1
 status_of_task_fault SameFile = 2
 status_of_task_fault SameOutput = 2
 status_of_task_fault Overlap = 2
-status_of_task_fault Closed = 1
-status_of_task_fault (Tool fault) = 1
+status_of_task_fault _ = 1
 
 abbrev pub status_of : Result Done TaskFault → ℕ
 status_of (Ok done) = status_of_done done
@@ -60,12 +55,8 @@ status_of (Err stop) = status_of_task_fault stop
 -- an input could not be opened, or is the output
 abbrev pub IsUnread : TaskFault → Type 0
 IsUnread (CannotOpen name why) = ⊤
-IsUnread (Input name why) = ⊥
 IsUnread SameFile = ⊤
-IsUnread SameOutput = ⊥
-IsUnread Overlap = ⊥
-IsUnread Closed = ⊥
-IsUnread (Tool fault) = ⊥
+IsUnread _ = ⊥
 
 -- a file could not be made, or is the input or another output
 abbrev pub IsUncreated : TaskFault → Type 0
@@ -81,13 +72,8 @@ IsDoneBy of says done = (it : _) × (done ≡ of it) × says it
 
 -- what it says that the engine stopped a task
 abbrev pub IfTool : (ToolFault → Type 0) → TaskFault → Type 0
-IfTool says (CannotOpen name why) = ⊥
-IfTool says (Input name why) = ⊥
-IfTool says SameFile = ⊥
-IfTool says SameOutput = ⊥
-IfTool says Overlap = ⊥
-IfTool says Closed = ⊥
 IfTool says (Tool fault) = says fault
+IfTool says _ = ⊥
 
 -- How a task ends: it is done, or the engine stops, with what that says; or nothing is printed, since a file stops it
 -- that may do so, or standard output is closed.
@@ -227,21 +213,22 @@ abbrev pub ComparesNamed : Choice → Names → (standard out0 out : Device) →
 ComparesNamed choice names standard out0 out result =
     OverTwo (IsOneStandard names) (IsOtherStandard names) (CompareEnds choice names result) standard standard out0 out
 
--- what repacking an archive ends with, which was walked whole, or in part
-abbrev pub done_of_archive : (is_whole : Bool) → WalkFound → Done
-done_of_archive is_whole Well = Walked false false
-done_of_archive is_whole Unwell = Walked true false
-done_of_archive is_whole NoDay = Walked false is_whole
+-- what a walk through an archive ends with, or through a part of it, and whether the whole has to have a day
+abbrev pub done_of_walk : Option Unopened → (is_whole wants_day : Bool) → WalkFound → Done
+done_of_walk unopened is_whole wants_day Well = Walked false false unopened
+done_of_walk unopened is_whole wants_day Unwell = Walked true false unopened
+done_of_walk unopened is_whole wants_day NoDay = Walked (wants_day && is_whole) is_whole unopened
 
--- and verifying it: the whole archive has to have a day
+-- what repacking an archive ends with, and verifying it
+abbrev pub done_of_archive : (is_whole : Bool) → ArchiveWalked → Done
+done_of_archive is_whole walked = done_of_walk walked.unopened is_whole false walked.found
+
 abbrev pub done_of_verifying : (is_whole : Bool) → WalkFound → Done
-done_of_verifying is_whole Well = Walked false false
-done_of_verifying is_whole Unwell = Walked true false
-done_of_verifying is_whole NoDay = Walked is_whole is_whole
+done_of_verifying is_whole found = done_of_walk None is_whole true found
 
 -- A walk of an archive, or of a part of it, ended so.
-pub record IsEndOf (done_of : (is_whole : Bool) → WalkFound → Done) (ends : WalkFound → Type 0) (done : Done) : Type 0 where
-  pub found : WalkFound
+pub record IsEndOf {W : Type 0} (done_of : (is_whole : Bool) → W → Done) (ends : W → Type 0) (done : Done) : Type 0 where
+  pub found : W
   pub is_whole : Bool
   pub walk : ends found
   pub is : done ≡ done_of is_whole found
@@ -281,13 +268,8 @@ OpensOutput out0 out (Err stop) = Takes out0 out [] × (stop ≡ Closed) × WasR
 
 -- a task ends so if nothing can be printed: the report of a feed is made even then, which may fail
 abbrev pub EndsClosed : Task → TaskFault → Type 0
-EndsClosed (Repack asked) stop = stop ≡ Closed
-EndsClosed (Listing asked) stop = stop ≡ Closed
-EndsClosed (Check asked) stop = stop ≡ Closed
-EndsClosed (Compare asked) stop = stop ≡ Closed
-EndsClosed (Archive asked) stop = stop ≡ Closed
-EndsClosed (Verify asked) stop = stop ≡ Closed
 EndsClosed (Feed asked) stop = IsUncreated stop ⊎ (stop ≡ Closed)
+EndsClosed _ stop = stop ≡ Closed
 
 -- what doing a task reads and prints, and how it ends
 abbrev pub Does : Task → (standard out0 out : Device) → Result Done TaskFault → Type 0

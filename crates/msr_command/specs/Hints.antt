@@ -1,17 +1,18 @@
 -- What a person is told when a task has ended.
 use Rattle.std.specs.Prelude.{if◌then◌else◌, ◌≡◌, ◌≢◌, ◌⊎◌, ℕ, Bool, false, true, List, codes, IfSome, IsSomeAnd, Option, None, Some, Result, Ok, Err}
 use Rattle.std.specs.Io.KnownBytes.{Appends}
+use Rattle.std.specs.Option.{option_map}
 use Rattle.msr_options.specs.Hints.{IsOfBytes, IsOfUnread, line_of}
 use Rattle.msr_options.specs.declared.hint.Hint.{Hint}
-use Rattle.msr_options.specs.declared.hint.Hint.TheVariants.{Folder, Lengths, NoArchive, System, Turns}
+use Rattle.msr_options.specs.declared.hint.Hint.TheVariants.{FirstDay, Folder, Lengths, NoArchive, System, Turns}
 use Rattle.msr_options.specs.declared.task.Task.{Task}
-use Rattle.msr_options.specs.declared.task.Task.TheVariants.{Repack, List as Listing, Check, Compare, Archive, Verify, Feed}
+use Rattle.msr_options.specs.declared.task.Task.TheVariants.{Repack, List as Listing, Check}
 use Rattle.msr_tool.specs.declared.fault.ToolFault.{ToolFault}
 use Rattle.msr_tool.specs.declared.fault.ToolFault.TheVariants as fault
 use Rattle.msr_command.specs.declared.done.Done.{Done}
-use Rattle.msr_command.specs.declared.done.Done.TheVariants.{Written, Repacked, Checked, Compared, Walked}
+use Rattle.msr_command.specs.declared.done.Done.TheVariants.{Repacked, Walked}
 use Rattle.msr_command.specs.declared.task_fault.TaskFault.{TaskFault}
-use Rattle.msr_command.specs.declared.task_fault.TaskFault.TheVariants.{CannotOpen, Input, SameFile, SameOutput, Overlap, Closed, Tool}
+use Rattle.msr_command.specs.declared.task_fault.TaskFault.TheVariants.{CannotOpen, Input, Tool}
 use Rattle.msr_command.specs.declared.hints.FilesRead.{FilesRead}
 
 -- the records are read from the file of this name, which is standard input for `-`
@@ -25,10 +26,7 @@ abbrev pub AreFilesOf : Task → FilesRead → Type 0
 AreFilesOf (Repack asked) read = IsInput asked.input.now read
 AreFilesOf (Listing asked) read = IsInput asked.input.now read
 AreFilesOf (Check asked) read = (read.records ≡ Some asked.packed) × (read.report ≡ Some asked.report)
-AreFilesOf (Compare asked) read = (read.records ≡ None) × (read.report ≡ None)
-AreFilesOf (Archive asked) read = (read.records ≡ None) × (read.report ≡ None)
-AreFilesOf (Verify asked) read = (read.records ≡ None) × (read.report ≡ None)
-AreFilesOf (Feed asked) read = (read.records ≡ None) × (read.report ≡ None)
+AreFilesOf _ read = (read.records ≡ None) × (read.report ≡ None)
 
 -- the bytes of a file tell it, if there is a file
 abbrev pub HintsBytes : {A : Type 0} → Option A → Option Hint → Type 0
@@ -42,18 +40,16 @@ HintsUnread None (Some name) hint = IfSome hint (λ it. it ≡ Folder)
 HintsUnread (Some name) records hint = IfSome hint (λ it. (it ≡ Folder) ⊎ IsOfUnread it)
 
 abbrev pub HintsDone : Done → Option Hint → Type 0
-HintsDone Written hint = hint ≡ None
 HintsDone (Repacked in_turns) hint = hint ≡ (if in_turns then Some Turns else None)
-HintsDone (Checked verdict) hint = hint ≡ None
-HintsDone (Compared comparison) hint = hint ≡ None
-HintsDone (Walked refused no_day) hint = hint ≡ (if no_day then Some NoArchive else None)
+HintsDone (Walked refused no_day unopened) hint =
+    hint ≡ (if no_day then Some NoArchive else option_map FirstDay unopened)
+HintsDone _ hint = hint ≡ None
 
 abbrev pub HintsEngine : FilesRead → ToolFault → Option Hint → Type 0
 HintsEngine read (fault.Input found) hint = HintsBytes read.records hint
 HintsEngine read (fault.Report line) hint = HintsBytes read.report hint
 HintsEngine read fault.Read hint = HintsUnread read.report read.records hint
-HintsEngine read fault.Write hint = hint ≡ None
-HintsEngine read fault.Memory hint = hint ≡ None
+HintsEngine read _ hint = hint ≡ None
 
 -- The input with this name, which has this fault, tells it as records do that are the only input.
 pub record HintsInput (name : List ℕ) (why : ToolFault) (hint : Option Hint) : Type 0 where
@@ -64,11 +60,8 @@ pub record HintsInput (name : List ℕ) (why : ToolFault) (hint : Option Hint) :
 abbrev pub HintsFault : FilesRead → TaskFault → Option Hint → Type 0
 HintsFault read (CannotOpen name why) hint = hint ≡ Some (System why)
 HintsFault read (Input name why) hint = HintsInput name.now why hint
-HintsFault read SameFile hint = hint ≡ None
-HintsFault read SameOutput hint = hint ≡ None
-HintsFault read Overlap hint = hint ≡ None
-HintsFault read Closed hint = hint ≡ None
 HintsFault read (Tool why) hint = HintsEngine read why hint
+HintsFault read _ hint = hint ≡ None
 
 -- what is certain beside how a task ended
 abbrev pub HintsEnd : FilesRead → Result Done TaskFault → Option Hint → Type 0

@@ -22,17 +22,6 @@ pub(crate) struct Names<'a> {
     pub other: &'a str,
 }
 
-/// How both inputs are read with these options: never strictly.
-fn compare_settings(options: Options) -> Settings
-    ensures same { result ≡ compare_settings options }
-    ensures in_range { (1 ≤ result.tolerance) × (result.tolerance ≤ 1_000_000) }
-{
-    Settings {
-        tolerance: options.tolerance(),
-        strict: false,
-    }
-}
-
 /// What the task ends with at that fault of one of its inputs. Memory that was refused has no name.
 fn stop_at<'a>(names: Names<'a>, fault: CompareFault) -> TaskFault<'a>
     ensures { result ≡ stop_of names.entry fault }
@@ -71,7 +60,11 @@ fn compare_sources<'a, One: Source, Other: Source, O: Sink>(
     ensures { Compares options names.entry (One.device one.old) (Other.device other.old)
         (O.device output.old) (O.device output.new) result }
 {
-    match compare(alloc, one, other, compare_settings(options)) {
+    let settings = Settings {
+        tolerance: options.tolerance(),
+        strict: false,
+    };
+    match compare(alloc, one, other, settings) {
         Ok(comparison) => {
             tell(alloc, comparison, output)?;
             Ok(Done::Compared(comparison))

@@ -1,9 +1,10 @@
 //! What a task that was done ends with.
 ghost use Rattle.std.specs.Prelude.{◌≡◌};
-ghost use Rattle.msr_command.specs.Ends.{done_of_archive, done_of_verifying, status_of_done};
+ghost use Rattle.msr_command.specs.Ends.{done_of_walk, status_of_done};
 
 use msr_compare::Comparison;
 use msr_folders::WalkFound;
+use msr_options::Unopened;
 use msr_tool::Verdict;
 
 /// What a task that was done ends with.
@@ -12,54 +13,43 @@ pub(crate) enum Done {
     /// Everything was written.
     Written,
     /// Records and report were written; `in_turns` says whether channels seem to alternate.
-    Repacked { in_turns: bool },
+    Repacked {
+        in_turns: bool,
+    },
     /// A verdict was printed.
     Checked(Verdict),
     /// An answer was printed.
     Compared(Comparison),
     /// An archive was walked to its end; `refused` says whether an entry was refused or not verified, or there was none
-    /// to verify, and `no_day` whether the whole archive has no day.
-    Walked { refused: bool, no_day: bool },
+    /// to verify, and `no_day` whether the whole archive has no day; `unopened` what could not be opened of the first day
+    /// that was refused for that.
+    Walked {
+        refused: bool,
+        no_day: bool,
+        unopened: Option<Unopened>,
+    },
 }
 
 impl Done {
-    /// What repacking an archive ends with that was walked whole, or in part.
-    pub(crate) fn of_archive(found: WalkFound, is_whole: bool) -> Done
-        ensures { result ≡ done_of_archive is_whole found }
+    /// What a walk ends with that went through the whole archive, or a part of it, and if `wants_day` is refused if the
+    /// whole archive has no day.
+    pub(crate) fn of_walk(
+        found: WalkFound,
+        unopened: Option<Unopened>,
+        is_whole: bool,
+        wants_day: bool,
+    ) -> Done
+        ensures { result ≡ done_of_walk unopened is_whole wants_day found }
     {
-        match found {
-            WalkFound::Well => Done::Walked {
-                refused: false,
-                no_day: false,
-            },
-            WalkFound::Unwell => Done::Walked {
-                refused: true,
-                no_day: false,
-            },
-            WalkFound::NoDay => Done::Walked {
-                refused: false,
-                no_day: is_whole,
-            },
-        }
-    }
-
-    /// What verifying an archive ends with that was walked whole, or in part. A folder of it need not have a day.
-    pub(crate) fn of_verifying(found: WalkFound, is_whole: bool) -> Done
-        ensures { result ≡ done_of_verifying is_whole found }
-    {
-        match found {
-            WalkFound::Well => Done::Walked {
-                refused: false,
-                no_day: false,
-            },
-            WalkFound::Unwell => Done::Walked {
-                refused: true,
-                no_day: false,
-            },
-            WalkFound::NoDay => Done::Walked {
-                refused: is_whole,
-                no_day: is_whole,
-            },
+        let (refused, no_day) = match found {
+            WalkFound::Well => (false, false),
+            WalkFound::Unwell => (true, false),
+            WalkFound::NoDay => (wants_day && is_whole, is_whole),
+        };
+        Done::Walked {
+            refused,
+            no_day,
+            unopened,
         }
     }
 

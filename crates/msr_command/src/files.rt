@@ -5,22 +5,26 @@ ghost use Rattle.msr_command.specs.Ends.{IsUncreated, IsUnread};
 use crate::task_fault::TaskFault;
 use msr_folders::{FileId, settle};
 use msr_tool::ToolFault;
-use std::fs;
 use std::fs::{File, OpenFile, OpenOptions};
 use std::rt::Files;
+use std::{fs, io};
 
 /// Which file standard output is redirected to, if the system tells it.
 fn id_of_standard_output<R: Files>(rt: &R) -> Option<FileId> {
-    match fs::metadata(rt, "/dev/stdout") {
-        Ok(metadata) => FileId::of_regular(&metadata),
-        Err(_) => None,
-    }
+    FileId::of_regular(&fs::metadata(rt, "/dev/stdout").ok()?)
 }
 
 /// Whether standard output is redirected to an input: what is printed would be read again, or stand in the place of
 /// what is still to be read.
 fn is_printed_to<R: Files>(rt: &R, input: Option<FileId>) -> bool {
     input.is_some() && input == id_of_standard_output(rt)
+}
+
+/// What the system answers that opens the file with this name, looks at it or cuts it.
+fn opened<'a, T>(name: &'a str, answer: io::Result<T>) -> Result<T, TaskFault<'a>>
+    ensures { IfErr result IsUnread }
+{
+    answer.map_err(|error| TaskFault::CannotOpen(name, error))
 }
 
 /// A file that was opened to be read.
@@ -37,14 +41,8 @@ pub(crate) fn open_file<'a, R: Files>(
 ) -> Result<OpenedFile<R::File>, TaskFault<'a>>
     ensures { IfErr result IsUnread }
 {
-    let file = match File::open(rt, name) {
-        Ok(file) => file,
-        Err(error) => return Err(TaskFault::CannotOpen(name, error)),
-    };
-    let id = match file.metadata() {
-        Ok(metadata) => FileId::of_regular(&metadata),
-        Err(error) => return Err(TaskFault::CannotOpen(name, error)),
-    };
+    let file = opened(name, File::open(rt, name))?;
+    let id = FileId::of_regular(&opened(name, file.metadata())?);
     if is_printed_to(rt, id) {
         return Err(TaskFault::SameFile);
     }
@@ -76,15 +74,9 @@ pub(crate) fn create_output<'a, R: Files>(
 {
     // Asked before the file is opened: if standard output is closed, the file gets its descriptor.
     let output = id_of_standard_output(rt);
-    let file = match OpenOptions::new().write(true).create(true).open(rt, name) {
-        Ok(file) => file,
-        Err(error) => return Err(TaskFault::CannotOpen(name, error)),
-    };
-    let metadata = match file.metadata() {
-        Ok(metadata) => metadata,
-        Err(error) => return Err(TaskFault::CannotOpen(name, error)),
-    };
-    let Some(id) = FileId::of_regular(&metadata) else {
+    let answer = OpenOptions::new().write(true).create(true).open(rt, name);
+    let file = opened(name, answer)?;
+    let Some(id) = FileId::of_regular(&opened(name, file.metadata())?) else {
         return Ok(file);
     };
     if input == Some(id) {
@@ -93,10 +85,8 @@ pub(crate) fn create_output<'a, R: Files>(
     if output == Some(id) {
         return Err(TaskFault::SameOutput);
     }
-    match file.set_len(0) {
-        Ok(()) => Ok(file),
-        Err(error) => Err(TaskFault::CannotOpen(name, error)),
-    }
+    opened(name, file.set_len(0))?;
+    Ok(file)
 }
 
 /// Creates the report of a feed, or cuts it to nothing, before anything is read.
@@ -112,11 +102,9 @@ pub(crate) fn create_report<'a, R: Files>(rt: &R, name: &'a str) -> Result<R::Fi
 pub(crate) fn settle_standard_output<R: Files>(rt: &R) -> Result<(), ToolFault>
     ensures { IfErr result (λ fault. fault ≡ ToolFault.Write) }
 {
-    let Ok(metadata) = fs::metadata(rt, "/dev/stdout") else {
-        return Ok(());
-    };
-    if !metadata.is_file() {
-        return Ok(());
+    match fs::metadata(rt, "/dev/stdout") {
+        Ok(metadata) if metadata.is_file() => {}
+        _ => return Ok(()),
     }
     match OpenOptions::new().write(true).open(rt, "/dev/stdout") {
         Ok(file) => Ok(settle(&file)?),

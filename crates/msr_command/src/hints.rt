@@ -49,8 +49,9 @@ fn hint_of_done(done: &Done) -> Option<Hint>
     ensures { HintsDone done.now result }
 {
     match done {
-        Done::Repacked { in_turns } => { if *in_turns { Some(Hint::Turns) } else { None } }
-        Done::Walked { no_day, .. } => { if *no_day { Some(Hint::NoArchive) } else { None } }
+        Done::Repacked { in_turns } => in_turns.then_some(Hint::Turns),
+        Done::Walked { no_day: true, .. } => Some(Hint::NoArchive),
+        Done::Walked { unopened, .. } => unopened.map(|unopened| Hint::FirstDay(unopened)),
         Done::Written | Done::Checked(_) | Done::Compared(_) => None,
     }
 }

@@ -41,19 +41,6 @@ fn write_fault<E: Write>(errors: &mut E, fault: &TaskFault<'_>) -> io::Result<()
     writeln!(errors, "msrepack: {fault}")
 }
 
-/// Prints the line of a task's fault, if it has one, and gives the status.
-fn tell<E: Write>(errors: &mut E, ended: &Result<Done, TaskFault<'_>>) -> u8
-    ensures { result ≡ status_of ended.now }
-{
-    match ended {
-        Ok(done) => done.status(),
-        Err(fault) => {
-            write_fault(errors, fault).ok();
-            fault.status()
-        }
-    }
-}
-
 /// Prints a hint after that, if there is one and a person reads it. No file is looked at for a script.
 fn tell_person<R: Files, E: Write>(
     rt: &R,
@@ -115,7 +102,13 @@ where
         Ok(task) => {
             let read = FilesRead::of(&task);
             let ended = do_task(rt, alloc, task, input, output);
-            let status = tell(&mut errors.to, &ended);
+            let status = match &ended {
+                Ok(done) => done.status(),
+                Err(fault) => {
+                    write_fault(&mut errors.to, fault).ok();
+                    fault.status()
+                }
+            };
             tell_person(rt, errors, read, &ended).ok();
             status
         }

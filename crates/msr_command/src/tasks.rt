@@ -19,8 +19,8 @@ use msr_tool::{
     FromRead, FromWrite, Options, Sink, Source, ToolFault, check_and_tell, feed_and_report,
     list_segments, repack_and_report,
 };
-use msr_verify::{RepackedArchive, verify};
-use msr_walk::{Archive, LockFile, walk};
+use msr_verify::verify;
+use msr_walk::{LockFile, walk};
 use std::alloc::Global;
 use std::fs::OpenFile;
 use std::io;
@@ -123,36 +123,20 @@ fn repack_file<'a, R: Files, I: Source, O: Sink>(
         output: to,
     } = asked;
     if name == "-" {
-        let target = Target {
-            name: to,
-            input: standard_input(rt)?,
-        };
-        return repack_from(rt, alloc, options, target, input, output);
+        return repack_from(rt, alloc, options, to, standard_input(rt)?, input, output);
     }
     let opened = open_file(rt, name)?;
-    let target = Target {
-        name: to,
-        input: opened.id,
-    };
     let mut source = FromRead::new(opened.file);
-    repack_from(rt, alloc, options, target, &mut source, output)
+    repack_from(rt, alloc, options, to, opened.id, &mut source, output)
 }
 
-/// Where the records of a repack go.
-#[derive(Clone, Copy)]
-struct Target<'a> {
-    /// The name of the file, or none for nowhere.
-    name: Option<&'a str>,
-    /// The file that is read, if it is one: the other must not be the same.
-    input: Option<FileId>,
-}
-
-/// Repacks the source to the target.
+/// Repacks the source to the file of that name, or to nowhere. What is read, if it is a file, must not be the same.
 fn repack_from<'a, R: Files, I: Source, O: Sink>(
     rt: &R,
     alloc: Global,
     options: Options,
-    target: Target<'a>,
+    to: Option<&'a str>,
+    input: Option<FileId>,
     source: &mut I,
     output: &mut O,
 ) -> Result<Done, TaskFault<'a>>
@@ -160,14 +144,14 @@ fn repack_from<'a, R: Files, I: Source, O: Sink>(
     requires output { CanCountCall (O.device output.old) }
     ensures { Repacks options (I.device source.old) (O.device output.old) (O.device output.new) result }
 {
-    let Some(name) = target.name else {
+    let Some(name) = to else {
         let mut nowhere = FromWrite::new(io::sink());
         let report = repack_and_report(alloc, source, &mut nowhere, output, options)?;
         return Ok(Done::Repacked {
             in_turns: is_in_turns(&report),
         });
     };
-    let mut file = create_output(rt, name, target.input)?;
+    let mut file = create_output(rt, name, input)?;
     let report = repack_and_report(
         alloc,
         source,
@@ -316,21 +300,9 @@ where
     requires output { CanCountCall (O.device output.old) }
     ensures { WalksArchive asked.entry.days (O.device output.old) (O.device output.new) result }
 {
-    let Archiving {
-        folders,
-        below,
-        days,
-    } = asked;
-    let archive = Archive {
-        root: folders.root,
-        out: folders.out,
-        reports: folders.reports,
-        below: below.as_slice(),
-        days,
-    };
-    require_apart(rt, alloc, folders)?;
-    let found = walk(rt, alloc, &archive, output)?;
-    Ok(Done::of_archive(found, archive.below.is_empty()))
+    require_apart(rt, alloc, asked.folders)?;
+    let walked = walk(rt, alloc, &asked, output)?;
+    Ok(Done::of_walk(walked.found, walked.unopened, asked.below.is_empty(), false))
 }
 
 fn verify_archive<'a, R: Files, O: Sink>(
@@ -342,14 +314,7 @@ fn verify_archive<'a, R: Files, O: Sink>(
     requires { CanCountCall (O.device output.old) }
     ensures { VerifiesArchive (O.device output.old) (O.device output.new) result }
 {
-    let Verifying { folders, below } = asked;
-    require_apart(rt, alloc, folders)?;
-    let archive = RepackedArchive {
-        root: folders.root,
-        out: folders.out,
-        reports: folders.reports,
-        below: below.as_slice(),
-    };
-    let found = verify(rt, alloc, &archive, output)?;
-    Ok(Done::of_verifying(found, archive.below.is_empty()))
+    require_apart(rt, alloc, asked.folders)?;
+    let found = verify(rt, alloc, &asked, output)?;
+    Ok(Done::of_walk(found, None, asked.below.is_empty(), true))
 }

@@ -13,7 +13,6 @@ use Rattle.msr_input.specs.declared.fault.ReadFault.{ReadFault}
 use Rattle.msr_input.specs.declared.fault.ReadFault.TheVariants as fault
 use Rattle.msr_compare.specs.declared.comparison.Comparison.{Comparison}
 use Rattle.msr_compare.specs.declared.comparison.Comparison.TheVariants.{Same}
-use Rattle.msr_compare.specs.declared.comparison.SameSegments.{SameSegments}
 use Rattle.msr_compare.specs.declared.comparison.Difference.{Difference}
 use Rattle.msr_compare.specs.declared.fault.CompareFault.{CompareFault}
 use Rattle.msr_compare.specs.declared.fault.CompareFault.TheVariants as failing
@@ -352,20 +351,20 @@ answered settings start_one one_now start_other other_now answer a t few other_f
 }
 
 pub answered_same : (settings : Settings) (start_one one_now start_other other_now : Device) (one other : Standing)
-    (told : SameSegments) → HaveMet settings start_one one_now start_other other_now one other None
-    → told ≡ record {
+    → HaveMet settings start_one one_now start_other other_now one other None
+    → CountsFew start_one one_now → CountsFew start_other other_now
+    → IsAnswered settings start_one one_now start_other other_now (Ok (Same (record {
       segments = one.tally.segments;
       samples = one.tally.samples;
       moved_one = one.tally.moved;
       moved_other = other.tally.moved;
-    } → CountsFew start_one one_now → CountsFew start_other other_now
-    → IsAnswered settings start_one one_now start_other other_now (Ok (Same told))
-answered_same settings start_one one_now start_other other_now one other told m e few other_few =
+    })))
+answered_same settings start_one one_now start_other other_now one other m few other_few =
     let t = m.fetched.taken in
-    rw e (answered settings start_one one_now start_other other_now _
+    answered settings start_one one_now start_other other_now _
     (same_answer settings start_one one_now start_other other_now one other m)
     (tells_ok start_one one_now start_other other_now _ t.one_taken.read.came.steady t.other_taken.read.came.steady)
-    few other_few)
+    few other_few
 
 pub answered_one : (settings : Settings) (start_one one_now start_other other_now : Device) (why : ReadFault)
     → StopsReading settings start_one one_now [] why × IsSteady start_other other_now → CountsFew start_one one_now

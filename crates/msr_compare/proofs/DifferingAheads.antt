@@ -13,10 +13,10 @@ use Rattle.msr_compare.specs.Differences.{IsFirstDifference, IsOnlyIn}
 use Rattle.msr_compare.specs.declared.comparison.Which.TheVariants.{One, Other}
 use Rattle.msr_compare.specs.declared.comparison.DifferenceKind.{DifferenceKind}
 use Rattle.msr_compare.specs.declared.comparison.DifferenceKind.TheVariants as kind
-use Rattle.msr_compare.specs.Symbols.{Symbol, Opens, Holds, symbols_of, held_in, opened_in, count_after}
+use Rattle.msr_compare.specs.Symbols.{Symbol, Opens, Holds, symbols_of, held_in, count_after}
 use Rattle.msr_compare.specs.Sides.{Standing, HasTaken}
 use Rattle.msr_compare.specs.Meetings.{AheadsDiffer, BeginsMore, HoldsMore, KeysDiffer, StartsDiffer, ValuesDiffer, place_of, side_of}
-use Rattle.msr_compare.proofs.Symbols.{count_append, count_held, count_last, held_map, opened_append, opened_held, opened_symbols}
+use Rattle.msr_compare.proofs.Symbols.{opened_in, count_append, count_held, count_last, held_map, opened_append, opened_held, opened_symbols}
 use Rattle.msr_compare.proofs.Aheads.{none_held_more}
 use Rattle.msr_compare.proofs.FirstDifferences.{LongerAt, keys_first, longer_at, only_first, starts_first, values_first}
 

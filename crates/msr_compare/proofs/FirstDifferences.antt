@@ -5,9 +5,9 @@ use Rattle.msr_rows.specs.declared.row.Key.{Key}
 use Rattle.msr_segments.specs.declared.joiner.Segment.{Segment}
 use Rattle.msr_compare.specs.Differences.{IsFirstDifference, IsLonger, IsOnlyIn}
 use Rattle.msr_compare.specs.declared.comparison.DifferenceKind.TheVariants as kind
-use Rattle.msr_compare.specs.Symbols.{Symbol, Opens, Holds, symbols_of, opened_in, count_after}
+use Rattle.msr_compare.specs.Symbols.{Symbol, Opens, Holds, symbols_of, count_after}
 use Rattle.msr_compare.specs.Meetings.{HoldsNone}
-use Rattle.msr_compare.proofs.Symbols.{opens_next, opens_so, holds_so, no_sample_first, no_symbols}
+use Rattle.msr_compare.proofs.Symbols.{opened_in, opens_next, opens_so, holds_so, no_sample_first, no_symbols}
 
 abbrev pub segment_so : Key → ℤ → List ℤ → Segment
 segment_so key start samples = record { key = key; start = start; samples = samples }

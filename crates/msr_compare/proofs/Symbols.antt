@@ -5,7 +5,7 @@ use Rattle.std.proofs.lemmas.List.{append-nil, drop-drop, drop_all, take_all, le
 use Rattle.msr_rows.specs.declared.row.Key.{Key}
 use Rattle.msr_rows.specs.declared.row.Row.{Row}
 use Rattle.msr_segments.specs.declared.joiner.Segment.{Segment}
-use Rattle.msr_compare.specs.Symbols.{Symbol, Opens, Holds, symbols_of, held_in, opened_in, count_after, opening_ahead, row_ahead}
+use Rattle.msr_compare.specs.Symbols.{Symbol, Opens, Holds, symbols_of, held_in, count_after, opening_ahead, row_ahead}
 
 pub held_map : (xs : List ℤ) → held_in (map Holds xs) ≡ xs
 held_map [] = refl
@@ -34,6 +34,12 @@ pub symbols_snoc : (xs : List Segment) (x : Segment)
 symbols_snoc xs x =
     symbols_append xs (x ∷ []) ∙ ap (λ (l : List Symbol). symbols_of xs ++ Opens x.key x.start ∷ l)
     (append-nil (map Holds x.samples))
+
+-- how many segments symbols begin
+abbrev pub opened_in : List Symbol → ℕ
+opened_in [] = 0
+opened_in (Opens key start ∷ symbols) = 1 + opened_in symbols
+opened_in (Holds sample ∷ symbols) = opened_in symbols
 
 pub opened_append : (xs ys : List Symbol) → opened_in (xs ++ ys) ≡ opened_in xs + opened_in ys
 opened_append [] ys = omega arith

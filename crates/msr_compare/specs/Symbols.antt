@@ -27,12 +27,6 @@ held_in [] = []
 held_in (Opens key start ∷ symbols) = held_in symbols
 held_in (Holds sample ∷ symbols) = sample ∷ held_in symbols
 
--- how many segments symbols begin
-abbrev pub opened_in : List Symbol → ℕ
-opened_in [] = 0
-opened_in (Opens key start ∷ symbols) = 1 + opened_in symbols
-opened_in (Holds sample ∷ symbols) = opened_in symbols
-
 -- how many samples the last segment has, if there were `count` before
 abbrev pub count_after : ℕ → List Symbol → ℕ
 count_after count [] = count

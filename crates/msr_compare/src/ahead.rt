@@ -1,6 +1,5 @@
 //! What was read of an input and not yet compared.
-ghost use Rattle.std.specs.Prelude.{◌≡◌, drop};
-
+use msr_input::{NextRecord, NextRow, RowReader};
 use msr_rows::{Key, Row};
 use msr_segments::Step;
 use std::marker::Model;
@@ -15,16 +14,6 @@ pub(crate) enum Next {
     Samples,
     /// Nothing is at hand.
     Nothing,
-}
-
-/// The samples from that place on.
-fn rest_of(samples: &[i32], at: usize) -> &[i32]
-    ensures { result.now ≡ drop at samples.now }
-{
-    match samples.get(at..) {
-        Some(rest) => rest,
-        None => &[],
-    }
 }
 
 /// The row at hand, as far as it was not compared. When all of it was, it is spent: its memory can be used again.
@@ -78,8 +67,11 @@ impl Ahead {
     pub(crate) fn samples(&self) -> &[i32]
         ensures { result.now ≡ held_in self.now }
     {
-        match &self.row {
-            Some(row) => rest_of(row.samples.as_slice(), self.passed),
+        let Some(row) = &self.row else {
+            return &[];
+        };
+        match row.samples.as_slice().get(self.passed..) {
+            Some(rest) => rest,
             None => &[],
         }
     }
@@ -131,10 +123,19 @@ impl Ahead {
         }
     }
 
-    /// Gives the row that was compared last, if it was not given yet.
-    pub(crate) fn take_spent(&mut self) -> Option<Row>
-        ensures { self.new ≡ self.old }
+    /// Gives the row that was compared last back to the reader, whose next row then stands in its memory.
+    pub(crate) fn give_back(&mut self, reader: &mut RowReader)
+        ensures ahead { self.new ≡ self.old }
+        ensures reading { reader.new ≡ reader.old }
     {
-        self.spent.take()
+        if let Some(row) = self.spent.take() {
+            reader.give_back(NextRecord {
+                length: 0,
+                row: Some(NextRow {
+                    step: Step::Joins,
+                    row,
+                }),
+            });
+        }
     }
 }

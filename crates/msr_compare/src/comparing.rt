@@ -1,5 +1,5 @@
 //! Comparing the segments of two inputs.
-ghost use Rattle.std.specs.Prelude.{◌≡◌, ◌↔◌, ◌≤◌, ℕ, List, IsErrOf, MatchResult};
+ghost use Rattle.std.specs.Prelude.{◌↔◌, ◌≤◌, ℕ, List, IsErrOf, MatchResult};
 ghost use Rattle.msr_devices.specs.Device.{Device, CanCountCall, CountsFew, HasFailed, HasLeft};
 ghost use Rattle.msr_input.specs.declared.settings.Settings.{Settings as How};
 ghost use Rattle.msr_compare.specs.Answers.{CompareAnswers};
@@ -102,23 +102,6 @@ fn refuse<One: Source>(side: &mut Side, one: &mut One, why: ReadFault) -> Compar
     }
 }
 
-/// What is told of two sides whose segments are the same.
-fn same_segments(one: &Side, other: &Side) -> SameSegments
-    ensures { result ≡ record {
-      segments = one.now.tally.segments;
-      samples = one.now.tally.samples;
-      moved_one = one.now.tally.moved;
-      moved_other = other.now.tally.moved;
-    } }
-{
-    SameSegments {
-        segments: one.tally().segments,
-        samples: one.tally().samples,
-        moved_one: one.tally().moved,
-        moved_other: other.tally().moved,
-    }
-}
-
 /// What is answered for two sides before their first records.
 fn answer<One: Source, Other: Source>(
     one_side: &mut Side,
@@ -136,7 +119,16 @@ fn answer<One: Source, Other: Source>(
         (Other.device other.new) result }
 {
     match agree(one_side, one, other_side, other) {
-        Ok(None) => Ok(Comparison::Same(same_segments(one_side, other_side))),
+        Ok(None) => {
+            let first = one_side.tally();
+            let second = other_side.tally();
+            Ok(Comparison::Same(SameSegments {
+                segments: first.segments,
+                samples: first.samples,
+                moved_one: first.moved,
+                moved_other: second.moved,
+            }))
+        }
         Ok(Some(difference)) => finish(one_side, one, other_side, other, difference),
         Err(CompareFault::One(why)) => Err(CompareFault::One(why)),
         Err(CompareFault::Other(why)) => Err(refuse(one_side, one, why)),

@@ -93,7 +93,7 @@ fn meet_samples(one: &mut Side, other: &mut Side) -> Met
     requires other { HoldsNext other.old.ahead }
     ensures { Meets one.old other.old result one.new other.new }
 {
-    if let Some(unequal) = first_unequal(one.samples(), other.samples()) {
+    if let Some(unequal) = first_unequal(one.ahead().samples(), other.ahead().samples()) {
         return differs(
             one,
             DifferenceKind::Sample {
@@ -103,7 +103,11 @@ fn meet_samples(one: &mut Side, other: &mut Side) -> Met
             },
         );
     }
-    let count = one.samples().len().min(other.samples().len());
+    let count = one
+        .ahead()
+        .samples()
+        .len()
+        .min(other.ahead().samples().len());
     one.pass(count);
     other.pass(count);
     Met::Agree
@@ -130,19 +134,19 @@ fn meet_beginnings(one: &mut Side, other: &mut Side, keys: (Key, Key), starts: (
 pub(crate) fn meet(one: &mut Side, other: &mut Side) -> Met
     ensures { Meets one.old other.old result one.new other.new }
 {
-    match one.next() {
-        Next::Begins(key, start) => match other.next() {
+    match one.ahead().next() {
+        Next::Begins(key, start) => match other.ahead().next() {
             Next::Begins(other_key, other_start) => {
                 meet_beginnings(one, other, (key, other_key), (start, other_start))
             }
             Next::Samples => holds_more(other, Which::Other),
             Next::Nothing => differs(one, DifferenceKind::SegmentOnlyIn(Which::One)),
         },
-        Next::Samples => match other.next() {
+        Next::Samples => match other.ahead().next() {
             Next::Samples => meet_samples(one, other),
             _ => holds_more(one, Which::One),
         },
-        Next::Nothing => match other.next() {
+        Next::Nothing => match other.ahead().next() {
             Next::Begins(_, _) => differs(other, DifferenceKind::SegmentOnlyIn(Which::Other)),
             Next::Samples => holds_more(other, Which::Other),
             Next::Nothing => Met::End,

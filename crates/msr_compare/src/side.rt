@@ -1,9 +1,8 @@
 //! One of two inputs while they are compared.
-use crate::ahead::{Ahead, Next};
+use crate::ahead::Ahead;
 use crate::tally::RowTally;
 use msr_devices::Source;
-use msr_input::{NextRecord, NextRow, ReadFault, RowReader, Settings};
-use msr_segments::Step;
+use msr_input::{NextRow, ReadFault, RowReader, Settings};
 use std::alloc::Global;
 use std::marker::Model;
 
@@ -31,7 +30,7 @@ impl Side {
     ghost use Rattle.msr_input.specs.declared.settings.Settings.{Settings as How};
     ghost use Rattle.msr_compare.specs.Symbols.{Symbol, Holds, held_in};
     ghost use Rattle.msr_compare.specs.Sides.{HasBegun, HasTaken, IsFetched, IsDrained, TakesNext, weight};
-    ghost use Rattle.msr_compare.specs.Meetings.{IsNext, PassesOnly, place_of};
+    ghost use Rattle.msr_compare.specs.Meetings.{PassesOnly, place_of};
 
     /// A side before the first record, with a tolerance in its range. It takes no memory yet.
     pub(crate) fn new(alloc: Global, settings: Settings) -> Side
@@ -57,21 +56,6 @@ impl Side {
         self.ahead = Ahead::of_row(next.step, next.row);
     }
 
-    /// Gives the row that was compared last back to the reader, whose next row then stands in its memory.
-    fn give_back(&mut self)
-        ensures { self.new ≡ self.old }
-    {
-        if let Some(row) = self.ahead.take_spent() {
-            self.reader.give_back(NextRecord {
-                length: 0,
-                row: Some(NextRow {
-                    step: Step::Joins,
-                    row,
-                }),
-            });
-        }
-    }
-
     /// Reads on if nothing is ahead, until something is, or the input has ended.
     pub(crate) fn fetch<R: Source>(&mut self, source: &mut R) -> Result<(), ReadFault>
         requires { CanCountCall (R.device source.old) }
@@ -88,7 +72,7 @@ impl Side {
         if self.ended {
             return Ok(());
         }
-        self.give_back();
+        self.ahead.give_back(&mut self.reader);
         'records: while self.ahead.is_empty() {
             let Some(next) = self.reader.next_record(source)? else {
                 self.ended = true;
@@ -118,18 +102,11 @@ impl Side {
         Ok(())
     }
 
-    /// What comes next.
-    pub(crate) fn next(&self) -> Next
-        ensures { IsNext result self.now.ahead }
+    /// What is ahead.
+    pub(crate) fn ahead(&self) -> &Ahead
+        ensures { result.now ≡ self.now.ahead }
     {
-        self.ahead.next()
-    }
-
-    /// The samples that are ahead, after a segment's beginning if that is ahead.
-    pub(crate) fn samples(&self) -> &[i32]
-        ensures { result.now ≡ held_in self.now.ahead }
-    {
-        self.ahead.samples()
+        &self.ahead
     }
 
     /// How many samples of the open segment were compared.

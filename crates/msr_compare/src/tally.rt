@@ -61,16 +61,15 @@ impl RowTally {
                 count: more,
                 segments: self.segments.saturating_add(1),
                 samples,
-                moved: self.moved,
+                ..self
             },
             Step::Joins => RowTally {
-                start: self.start,
                 count: self.count.saturating_add(more),
-                segments: self.segments,
                 samples,
                 moved: self
                     .moved
                     .max(distance(row.key.rate, self.start, self.count, row.start)),
+                ..self
             },
         }
     }

@@ -2,10 +2,10 @@
 use Rattle.std.proofs.Common.{◌≡◌, ◌<◌, ◌≤◌, ◌+◌, ℕ, ℤ, List, Option, drop, take, length, sym, subst, arith}
 use Rattle.std.proofs.lemmas.List.{length-drop}
 use Rattle.msr_kinds.specs.declared.storage.Version.TheVariants.{One}
-use Rattle.msr_steim.specs.Word.{IsGroup, group_code, group_word}
+use Rattle.msr_steim.specs.Word.{IsGroup, group_word}
 use Rattle.msr_filling.specs.declared.filling.SteimWord.{SteimWord}
 use Rattle.msr_words.specs.FirstGroup.{IsCanonicalFirst}
-use Rattle.msr_filling.specs.NextWord.{IsNextWord}
+use Rattle.msr_filling.specs.NextWord.{IsCoded, IsNextWord}
 use Rattle.msr_words.specs.Segment.{differences}
 use Rattle.msr_words.proofs.FirstGroups.{first_few, first_is_group, first_some}
 use Rattle.msr_words.proofs.Plain.{length-differences}
@@ -37,20 +37,18 @@ size_there before run at size less first =
 
 -- the word of that group
 pub word_there : (before : Option ℤ) (run : List ℤ) (at size : ℕ) (next : SteimWord) → at < length run
-    → IsSizeThere before run at size → next.size ≡ size
-    → next.code ≡ group_code One size → next.code < 4
-    → next.word ≡ group_word One (take size (drop at (differences before run)))
+    → IsSizeThere before run at size → IsCoded One size next → next.word ≡ group_word One (take size (drop at (differences before run)))
     → IsNextWord One (drop at (differences before run)) next
-word_there before run at size next less is size_is code_is small word_is =
+word_there before run at size next less is coded word_is =
     let ds = drop at (differences before run) in
     let m = length-differences before run in
     let l = length-drop at (differences before run) in
     let first : IsCanonicalFirst (drop at (differences before run)) next.size =
-    subst (IsCanonicalFirst (drop at (differences before run))) (sym size_is) is.first in
+    subst (IsCanonicalFirst (drop at (differences before run))) (sym coded.size_is) is.first in
     record {
       within = omega (arith, is.within);
       follows = λ gs chosen. next_first ds next.size first.0 first.1 gs chosen;
-      code_is = rw size_is code_is;
-      small = small;
-      word_is = rw size_is word_is;
+      code_is = rw coded.size_is coded.code_is;
+      small = coded.small;
+      word_is = rw coded.size_is word_is;
     }

@@ -12,6 +12,12 @@ pub record IsNext (version : Version) (gs : List (List ℤ)) (ds : List ℤ) (si
   pub none : size ≡ 0 → length gs ≡ 0
   pub some : 0 < size → length gs ≡ length (drop 1 gs) + 1
 
+-- it is taken for the word of a group of this size, by its code
+pub record IsCoded (version : Version) (size : ℕ) (next : SteimWord) : Type 0 where
+  pub size_is : next.size ≡ size
+  pub code_is : next.code ≡ group_code version size
+  pub small : next.code < 4
+
 -- the word of the first group of these differences, if they can be divided at all
 pub record IsNextWord (version : Version) (ds : List ℤ) (next : SteimWord) : Type 0 where
   pub within : next.size ≤ length ds

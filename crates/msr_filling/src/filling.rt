@@ -112,25 +112,20 @@ pub(crate) fn fields_seen(window: &Window, place: usize, size: usize, width: u32
     ((fields.wrapping_add(halves) ^ halves) & u64::from(u32::MAX)) as u32
 }
 
-/// The word of this longest group, of this form, from a place of the window on.
+/// The word of this longest group from a place of the window on. It is inlined with a literal as size, so that the form
+/// is known.
 #[inline(always)]
-fn formed(window: &Window, place: usize, size: usize, form: Steim2Form) -> SteimWord
+fn formed(window: &Window, place: usize, size: usize) -> SteimWord
     requires room { place + 7 ≤ 64 }
     requires full { 1 ≤ size }
     requires most { size ≤ 7 }
-    requires width { group_width Two size ≡ Some form.width }
-    requires positive { 0 < form.width }
-    requires within { size * form.width ≤ 32 }
-    requires code { form.code ≡ group_code Two size }
-    requires small { form.code < 4 }
-    requires top { form.top ≡ group_top Two size }
-    requires space { form.top * 2 ^ 30 + 2 ^ (size * form.width) ≤ 2 ^ 32 }
     ensures size { result.size ≡ size }
     ensures code { result.code ≡ group_code Two result.size }
     ensures small { result.code < 4 }
     ensures word { (ds : List ℤ) → Shows window.now ds place
         → IsLongestGroup ds result.size → result.word ≡ group_word Two (take result.size ds) }
 {
+    let form = form_of(size);
     let fields = fields_seen(window, place, size, form.width);
     SteimWord {
         size,
@@ -151,13 +146,13 @@ fn word_seen(window: &Window, place: usize) -> SteimWord
         → IsLongestGroup ds result.size → result.word ≡ group_word Two (take result.size ds) }
 {
     match window.longest_from(place) {
-        1 => formed(window, place, 1, form_of(1)),
-        2 => formed(window, place, 2, form_of(2)),
-        3 => formed(window, place, 3, form_of(3)),
-        4 => formed(window, place, 4, form_of(4)),
-        5 => formed(window, place, 5, form_of(5)),
-        6 => formed(window, place, 6, form_of(6)),
-        7 => formed(window, place, 7, form_of(7)),
+        1 => formed(window, place, 1),
+        2 => formed(window, place, 2),
+        3 => formed(window, place, 3),
+        4 => formed(window, place, 4),
+        5 => formed(window, place, 5),
+        6 => formed(window, place, 6),
+        7 => formed(window, place, 7),
         _ => SteimWord {
             size: 0,
             code: 0,

@@ -8,7 +8,7 @@ ghost use Rattle.msr_words.specs.Bounds.{BeginsWithFour};
 ghost use Rattle.msr_words.specs.Division.{CanDivide};
 ghost use Rattle.msr_filling.specs.Filled.{IsFilledArea};
 ghost use Rattle.msr_words.specs.FirstGroup.{AreSizes, IsCanonicalFirst, IsSizeAt};
-ghost use Rattle.msr_filling.specs.NextWord.{IsNextWord};
+ghost use Rattle.msr_filling.specs.NextWord.{IsCoded, IsNextWord};
 ghost use Rattle.msr_words.specs.Segment.{differences};
 ghost use Rattle.msr_words.specs.Window.{IsWindow, Shows};
 
@@ -46,24 +46,17 @@ fn form_of(size: usize) -> Steim1Form
     Steim1Form { code, width, left }
 }
 
-/// The word of this group, of this form, from a place of the window on.
+/// The word of this group from a place of the window on, with a literal as size, so that its form is known.
 #[inline(always)]
-fn formed(window: &Window, place: usize, size: usize, form: Steim1Form) -> SteimWord
+fn formed(window: &Window, place: usize, size: usize) -> SteimWord
     requires room { place + 7 ≤ 64 }
     requires full { 1 ≤ size }
     requires most { size ≤ 4 }
-    requires width { group_width One size ≡ Some form.width }
-    requires positive { 0 < form.width }
-    requires code { form.code ≡ group_code One size }
-    requires small { form.code < 4 }
-    requires left { form.left ≡ padding_of One size * form.width }
-    requires within { size * form.width + form.left ≤ 32 }
-    ensures size { result.size ≡ size }
-    ensures code { result.code ≡ group_code One size }
-    ensures small { result.code < 4 }
+    ensures coded { IsCoded One size result }
     ensures word { (ds : List ℤ) → Shows window.now ds place → IsGroup One (take size ds)
         → result.word ≡ group_word One (take size ds) }
 {
+    let form = form_of(size);
     let fields = fields_seen(window, place, size, form.width);
     SteimWord {
         size,
@@ -87,9 +80,7 @@ fn chosen(first: u32, second: u32, is_second: u32) -> u32
 fn of_two(one: SteimWord, two: SteimWord, size: usize) -> SteimWord
     requires full { 1 ≤ size }
     requires most { size ≤ 2 }
-    ensures size { result.size ≡ size }
-    ensures code { result.code ≡ group_code One size }
-    ensures small { result.code < 4 }
+    ensures coded { IsCoded One size result }
     ensures one { size ≡ 1 → result.word ≡ one.word }
     ensures two { size ≡ 2 → result.word ≡ two.word }
 {
@@ -108,14 +99,12 @@ fn pair_seen(window: &Window, place: usize, size: usize) -> SteimWord
     requires room { place + 7 ≤ 64 }
     requires full { 1 ≤ size }
     requires most { size ≤ 2 }
-    ensures size { result.size ≡ size }
-    ensures code { result.code ≡ group_code One size }
-    ensures small { result.code < 4 }
+    ensures coded { IsCoded One size result }
     ensures word { (ds : List ℤ) → Shows window.now ds place → IsGroup One (take size ds)
         → result.word ≡ group_word One (take size ds) }
 {
-    let one = formed(window, place, 1, form_of(1));
-    let two = formed(window, place, 2, form_of(2));
+    let one = formed(window, place, 1);
+    let two = formed(window, place, 2);
     of_two(one, two, size)
 }
 
@@ -125,15 +114,13 @@ fn word_seen(window: &Window, place: usize, size: usize) -> SteimWord
     requires room { place + 7 ≤ 64 }
     requires full { 1 ≤ size }
     requires most { size ≤ 4 }
-    ensures size { result.size ≡ size }
-    ensures code { result.code ≡ group_code One size }
-    ensures small { result.code < 4 }
+    ensures coded { IsCoded One size result }
     ensures word { (ds : List ℤ) → Shows window.now ds place → IsGroup One (take size ds)
         → result.word ≡ group_word One (take size ds) }
 {
     match size {
-        3 => formed(window, place, 3, form_of(3)),
-        4 => formed(window, place, 4, form_of(4)),
+        3 => formed(window, place, 3),
+        4 => formed(window, place, 4),
         _ => pair_seen(window, place, size),
     }
 }
@@ -144,9 +131,7 @@ fn word_outside(before: Option<i32>, run: &[i32], at: usize, size: usize) -> Ste
     requires most { size ≤ 4 }
     requires room { at + size ≤ length run.now }
     requires group { IsGroup One (take size (drop at (differences before run.now))) }
-    ensures size { result.size ≡ size }
-    ensures code { result.code ≡ group_code One size }
-    ensures small { result.code < 4 }
+    ensures coded { IsCoded One size result }
     ensures word { result.word ≡ group_word One (take size (drop at (differences before run.now))) }
 {
     let form = form_of(size);
@@ -306,24 +291,18 @@ fn fields_at(run: &[i32], at: usize, size: usize, width: u32) -> u32
     ((fields.wrapping_add(halves) ^ halves) & u64::from(u32::MAX)) as u32
 }
 
-/// The word of this group, of this form, of the differences from `at` on.
+/// The word of this group of the differences from `at` on, with a literal as size, so that its form is known.
 #[inline(always)]
-fn formed_inside(run: &[i32], at: usize, size: usize, form: Steim1Form) -> SteimWord
+fn formed_inside(run: &[i32], at: usize, size: usize) -> SteimWord
     requires later { 0 < at }
     requires full { 1 ≤ size }
+    requires most { size ≤ 4 }
     requires room { at + size ≤ length run.now }
-    requires width { group_width One size ≡ Some form.width }
-    requires positive { 0 < form.width }
-    requires code { form.code ≡ group_code One size }
-    requires small { form.code < 4 }
-    requires left { form.left ≡ padding_of One size * form.width }
-    requires within { size * form.width + form.left ≤ 32 }
-    ensures size { result.size ≡ size }
-    ensures code { result.code ≡ group_code One size }
-    ensures small { result.code < 4 }
+    ensures coded { IsCoded One size result }
     ensures word { (before : Option ℤ) → IsGroup One (take size (drop at (differences before run.now)))
         → result.word ≡ group_word One (take size (drop at (differences before run.now))) }
 {
+    let form = form_of(size);
     let fields = fields_at(run, at, size, form.width);
     SteimWord {
         size,
@@ -339,14 +318,12 @@ fn pair_inside(run: &[i32], at: usize, size: usize) -> SteimWord
     requires full { 1 ≤ size }
     requires most { size ≤ 2 }
     requires room { at + 2 ≤ length run.now }
-    ensures size { result.size ≡ size }
-    ensures code { result.code ≡ group_code One size }
-    ensures small { result.code < 4 }
+    ensures coded { IsCoded One size result }
     ensures word { (before : Option ℤ) → IsGroup One (take size (drop at (differences before run.now)))
         → result.word ≡ group_word One (take size (drop at (differences before run.now))) }
 {
-    let one = formed_inside(run, at, 1, form_of(1));
-    let two = formed_inside(run, at, 2, form_of(2));
+    let one = formed_inside(run, at, 1);
+    let two = formed_inside(run, at, 2);
     of_two(one, two, size)
 }
 
@@ -357,15 +334,13 @@ fn word_inside(run: &[i32], at: usize, size: usize) -> SteimWord
     requires full { 1 ≤ size }
     requires most { size ≤ 4 }
     requires room { at + 4 ≤ length run.now }
-    ensures size { result.size ≡ size }
-    ensures code { result.code ≡ group_code One size }
-    ensures small { result.code < 4 }
+    ensures coded { IsCoded One size result }
     ensures word { (before : Option ℤ) → IsGroup One (take size (drop at (differences before run.now)))
         → result.word ≡ group_word One (take size (drop at (differences before run.now))) }
 {
     match size {
-        3 => formed_inside(run, at, 3, form_of(3)),
-        4 => formed_inside(run, at, 4, form_of(4)),
+        3 => formed_inside(run, at, 3),
+        4 => formed_inside(run, at, 4),
         _ => pair_inside(run, at, size),
     }
 }

@@ -2,11 +2,11 @@
 ghost use Rattle.std.specs.Prelude.{◌≡◌, IfErr};
 
 use msr_devices::DeviceFault;
-use std::fs;
 use std::fs::{File, Metadata, OpenFile};
 use std::io::ErrorKind;
 use std::os::unix::fs::MetadataExt;
 use std::rt::Files;
+use std::{fs, io};
 
 /// Which file or folder it is, whatever its names: its device, and its number there.
 #[derive(Clone, Copy, PartialEq, Eq)]
@@ -47,17 +47,17 @@ pub fn is_gone<R: Files>(rt: &R, path: &str) -> bool {
 pub enum Look {
     Found(Metadata),
     /// Nothing stands there, or a link that leads nowhere.
-    Nothing,
+    Nothing(io::Error),
     /// The system does not tell.
-    Unknown,
+    Unknown(io::Error),
 }
 
 impl Look {
     pub fn at<R: Files>(rt: &R, path: &str) -> Look {
         match fs::metadata(rt, path) {
             Ok(metadata) => Look::Found(metadata),
-            Err(error) if tells_none(error.kind()) => Look::Nothing,
-            Err(_) => Look::Unknown,
+            Err(error) if tells_none(error.kind()) => Look::Nothing(error),
+            Err(error) => Look::Unknown(error),
         }
     }
 
@@ -65,37 +65,35 @@ impl Look {
     pub fn regular(&self) -> Option<&Metadata> {
         match self {
             Look::Found(metadata) => metadata.is_file().then_some(metadata),
-            Look::Nothing | Look::Unknown => None,
+            Look::Nothing(_) | Look::Unknown(_) => None,
         }
     }
 
     /// Whether it is one file or folder with what the other look found, or the system does not tell. Nothing is none.
     pub fn may_be(&self, other: &Look) -> bool {
         match (self, other) {
-            (Look::Nothing, _) => false,
-            (Look::Unknown, _) => true,
-            (Look::Found(_), Look::Nothing) => false,
-            (Look::Found(_), Look::Unknown) => true,
+            (Look::Nothing(_), _) | (Look::Found(_), Look::Nothing(_)) => false,
+            (Look::Unknown(_), _) | (Look::Found(_), Look::Unknown(_)) => true,
             (Look::Found(first), Look::Found(second)) => FileId::of(first) == FileId::of(second),
         }
     }
 
-    /// Opens what was found under that name to be read, if it is a regular file; `None` if that cannot be done. Nothing
-    /// else is opened, since opening a pipe waits for somebody who writes to it.
-    pub fn open<R: Files>(&self, rt: &R, path: &str) -> Option<R::File> {
-        self.regular()?;
-        File::open(rt, path).ok()
+    /// Opens what was found under that name to be read, if it is a regular file; else there is the system's reason, if it
+    /// gave one. Nothing else is opened, since opening a pipe waits for somebody who writes to it.
+    pub fn open<R: Files>(&self, rt: &R, path: &str) -> Result<R::File, Option<io::Error>> {
+        match self {
+            Look::Found(metadata) if metadata.is_file() => match File::open(rt, path) {
+                Ok(file) => Ok(file),
+                Err(error) => Err(Some(error)),
+            },
+            Look::Found(_) => Err(None),
+            Look::Nothing(error) | Look::Unknown(error) => Err(Some(*error)),
+        }
     }
 }
 
-/// Whether both names lead to one file or folder, by whatever paths or links, or the system does not tell. If nothing
-/// stands under one of them they do not.
-pub fn may_be_one<R: Files>(rt: &R, a: &str, b: &str) -> bool {
-    Look::at(rt, a).may_be(&Look::at(rt, b))
-}
-
-/// Opens a regular file to be read; `None` if that cannot be done.
-pub fn open_regular<R: Files>(rt: &R, path: &str) -> Option<R::File> {
+/// Opens a regular file to be read; else there is the system's reason, if it gave one.
+pub fn open_regular<R: Files>(rt: &R, path: &str) -> Result<R::File, Option<io::Error>> {
     Look::at(rt, path).open(rt, path)
 }
 

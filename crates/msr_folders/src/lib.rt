@@ -11,7 +11,7 @@ mod places;
 mod totals;
 mod visitor;
 
-pub use files::{FileId, Look, is_gone, may_be_one, open_regular, settle, settle_regular};
+pub use files::{FileId, Look, is_gone, open_regular, settle, settle_regular};
 pub use found::WalkFound;
 pub use kind::FileKind;
 pub use paths::{Shown, ended, folder_of, join, shown_path};

@@ -11,7 +11,7 @@ use Rattle.msr_rows.proofs.UnseenBytes.{record_fits, shown_record}
 use Rattle.msr_rows.proofs.WritableRows.{row_is_writable}
 use Rattle.msr_devices.specs.Device.{Device}
 use Rattle.msr_devices.proofs.Chaining.{left_of}
-use Rattle.msr_segments.specs.Spans.{Overruns}
+use Rattle.msr_segments.specs.Spans.{Following, Overruns}
 use Rattle.msr_segments.specs.Segments.{row_span, row_segment, with_row, LastEndsOutOfRange}
 use Rattle.msr_segments.specs.Joining.{Joining, HasJoined, IsPush, following_of}
 use Rattle.msr_segments.specs.declared.joiner.Segment.{Segment}
@@ -22,7 +22,6 @@ use Rattle.msr_input.specs.Records.{Position, HaveCome, HasGiven, IsRefusedAfter
 use Rattle.msr_input.specs.Reading.{IsWritable, GaveReadable, StopsAfter, StopsAtFault, StopsReading}
 use Rattle.msr_input.specs.declared.settings.Settings.{Settings}
 use Rattle.msr_input.specs.declared.fault.Fault.{Fault}
-use Rattle.msr_input.specs.Steps.{OverrunsWith}
 use Rattle.msr_input.specs.declared.fault.ReadFault.{ReadFault}
 use Rattle.msr_input.specs.declared.fault.ReadFault.TheVariants as fault
 use Rattle.msr_input.proofs.Records.{rows_snoc}
@@ -90,6 +89,12 @@ pub rows_without : (records : List Record) (found : Record) → found.row ≡ No
 rows_without records found none =
     rows_snoc records found ∙ ap (λ (option : Option Row). rows_of_records records ++ option_to_list option) none
     ∙ append-nil (rows_of_records records)
+
+-- the row ends the segment that was begun last out of range
+pub record OverrunsWith (old : Following) (row : Option Row) : Type 0 where
+  pub the_row : Row
+  pub has_row : row ≡ Some the_row
+  pub overruns : Overruns old (row_span the_row)
 
 -- the row of the next record ends its segment out of range
 pub overrun_stops : (s a : Device) (position : Position) (joining : Joining) (records : List Record)

@@ -1,6 +1,6 @@
 -- What a reader of rows has read, step by step, and why it stops.
 use Rattle.std.proofs.Common.{◌≡◌, ℕ, ◌≤◌, ◌∷◌, ◌++◌, [], List, map, refl, sym, ap, subst, ◌∙◌, Option, Some, None, IfSome, MatchOption}
-use Rattle.std.specs.Prelude.{option_map}
+use Rattle.std.specs.Prelude.{IsSomeAnd, option_map}
 use Rattle.std.specs.Option.{option_to_list}
 use Rattle.std.proofs.lemmas.List.{append-nil, map-append}
 use Rattle.msr_rows.specs.Records.{IsRecordOf, RowIsInTime}
@@ -20,7 +20,7 @@ use Rattle.msr_input.specs.Records.{Position, HaveCome, StopsRecords}
 use Rattle.msr_input.specs.Reading.{GaveReadable, IsWritable, StopsReading, room_with}
 use Rattle.msr_input.specs.Outlines.{outline_of, row_outline, outline_span}
 use Rattle.msr_input.specs.Rows.{RowReading, HasReadRows, ReadsNoRow, ReadsOne, ReadsOutline, ReadsRecord, ReadsRow, ReadsToEnd, StepsTo, StopsRows, AllRowsAreReadable, answer_told, next_outline, next_row, row_settings, row_told}
-use Rattle.msr_input.specs.Steps.{CanJoin, Follows, IsGiven, IsJudged, IsNext, OverrunsAt, OverrunsWith, StopsFollowing}
+use Rattle.msr_input.specs.Steps.{CanJoin, Follows, IsGiven, IsJudged, IsNext, StopsFollowing}
 use Rattle.msr_input.specs.declared.outline.Outline.{Outline}
 use Rattle.msr_input.specs.declared.outline.RowOutline.{RowOutline}
 use Rattle.msr_input.specs.declared.settings.Settings.{Settings}
@@ -29,7 +29,7 @@ use Rattle.msr_input.specs.declared.fault.ReadFault.TheVariants as fault
 use Rattle.msr_input.specs.declared.row_reader.NextOutline.{NextOutline}
 use Rattle.msr_input.specs.declared.row_reader.NextRecord.{NextRecord}
 use Rattle.msr_input.specs.declared.row_reader.NextRow.{NextRow}
-use Rattle.msr_input.proofs.Histories.{in_range_more, none_overrun, overrun_stops, readable_at_end, row_writable, rows_with, rows_without, stops_reading}
+use Rattle.msr_input.proofs.Histories.{OverrunsWith, in_range_more, none_overrun, overrun_stops, readable_at_end, row_writable, rows_with, rows_without, stops_reading}
 
 -- a joiner of the same rows, at the follower's place
 record Stands (following : Following) (rows : List Row) : Type 0 where
@@ -101,18 +101,10 @@ rows_stop settings s a records why stop none =
     λ given begun. stops_reading settings s a records given why stop none begun
 
 -- a row lies where its outline does
-overruns_row : (following : Following) (row : Option Row) → OverrunsAt following (option_map row_outline row)
-    → OverrunsWith following row
-overruns_row following None over = let none = over.has_row in absurd cc
-overruns_row following (Some row) over =
-    let some = over.has_row in
-    let same : row_outline row ≡ over.the_row = cc in
-    record {
-      the_row = row;
-      has_row = refl;
-      overruns =
-          subst (λ (at : RowOutline). Overruns following (outline_span at)) (sym same) over.overruns;
-    }
+overruns_row : (following : Following) (row : Option Row)
+    → IsSomeAnd (option_map row_outline row) (λ at. Overruns following (outline_span at)) → OverrunsWith following row
+overruns_row following None over = absurd over
+overruns_row following (Some row) over = record { the_row = row; has_row = refl; overruns = over }
 
 -- the row of the next record ends its segment out of range
 pub follow_stops : (s a : Device) (reading : RowReading) (records : List Record) (answers : List Step)

@@ -1,7 +1,6 @@
 -- Refusals for a reverse constant that does not agree, beside those of a record by itself.
 use Rattle.std.proofs.Common.{◌≡◌, ◌≢◌, ℕ, inl, inr, Bool, true, false, List, refl, sym, subst, ◌∙◌}
-use Rattle.msr_rows.specs.Records.{IsRecordOf, IsRefused}
-use Rattle.msr_rows.specs.Reverse.{HasReverse, IsRefusedBeforeTime}
+use Rattle.msr_rows.specs.Records.{IsRecordOf, IsRefused, HasReverse, IsRefusedBeforeTime}
 use Rattle.msr_rows.specs.declared.row.Record.{Record}
 use Rattle.msr_rows.specs.declared.fault.FaultKind.{FaultKind}
 use Rattle.msr_rows.specs.declared.fault.FaultKind.TheVariants.{ReverseMismatch, TimeRange}

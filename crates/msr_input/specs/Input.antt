@@ -2,8 +2,7 @@
 -- is refused. Each record is judged by all bytes that are left from its first one on.
 use Rattle.std.specs.Prelude.{◌≡◌, ◌≢◌, ◌⊎◌, ℕ, ◌+◌, ◌<◌, Bool, false, IsTrue, if◌then◌else◌, List, [], ◌∷◌, ◌++◌, length, drop, is_some, Some}
 use Rattle.std.specs.Option.{option_to_list}
-use Rattle.msr_rows.specs.Records.{IsRecordOf, IsRefused}
-use Rattle.msr_rows.specs.Reverse.{HasReverse}
+use Rattle.msr_rows.specs.Records.{IsRecordOf, IsRefused, HasReverse}
 use Rattle.msr_rows.specs.declared.row.Record.{Record}
 use Rattle.msr_rows.specs.declared.row.Row.{Row}
 use Rattle.msr_rows.specs.declared.fault.FaultKind.{FaultKind}

@@ -1,9 +1,8 @@
 -- What reading does, and why it stops.
-use Rattle.std.specs.Prelude.{◌≡◌, ◌⊎◌, ℕ, ◌*◌, ◌≤◌, max, false, List, length, IsTrue, Ok}
+use Rattle.std.specs.Prelude.{◌≡◌, ℕ, ◌*◌, ◌≤◌, max, false, List, length, IsTrue, Ok}
 use Rattle.msr_header.specs.Reading.{header_of, is_quality}
 use Rattle.msr_header.specs.declared.header.Header.{Header}
 use Rattle.msr_rows.specs.Correction.{is_pending}
-use Rattle.msr_rows.specs.Records.{TakesMemory}
 use Rattle.msr_rows.specs.declared.row.Record.{Record}
 use Rattle.msr_devices.specs.Device.{Device, HasLeft, HasFailed, IsSteady}
 use Rattle.msr_segments.specs.Segments.{SegmentIsInTime}
@@ -23,10 +22,6 @@ HoldsRecord bytes = (header : Header) × (header_of bytes ≡ Ok header)
 -- or for twice as many as the record has, or for as many as before
 abbrev pub room_with : ℕ → ℕ → ℕ
 room_with size before = max (max before 65_536) (2 * size)
-
--- Memory is taken: for more bytes, if these fill the room that there is, or for the samples of the record.
-abbrev pub TakesMemoryFor : List ℕ → ℕ → Type 0
-TakesMemoryFor bytes room = (room ≤ length bytes) ⊎ TakesMemory bytes
 
 -- the segment can be written: its quality is D, R, Q or M, its correction in normal form, its samples are of
 -- the supported years, and it has some

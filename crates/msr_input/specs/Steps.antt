@@ -1,5 +1,5 @@
 -- What the steps of reading do: bytes are read ahead, a record is read, and its row is followed.
-use Rattle.std.specs.Prelude.{◌≡◌, ◌⊎◌, ℕ, ◌<◌, ◌≤◌, Bool, false, nat_lt, List, ◌++◌, length, Option, None, Some, IfSome}
+use Rattle.std.specs.Prelude.{◌≡◌, ◌⊎◌, ℕ, ◌<◌, ◌≤◌, Bool, false, nat_lt, List, ◌++◌, length, Option, None, Some, IfSome, IsSomeAnd}
 use Rattle.msr_time.specs.Instant.{IsInstant}
 use Rattle.msr_rows.specs.Records.{IsRecordOf}
 use Rattle.msr_rows.specs.declared.row.Record.{Record}
@@ -11,7 +11,6 @@ use Rattle.msr_devices.specs.ReadBuffer.{Window, IsFilled}
 use Rattle.msr_devices.specs.declared.fault.DeviceFault.{DeviceFault}
 use Rattle.msr_devices.specs.declared.fault.DeviceFault.TheVariants as filling
 use Rattle.msr_segments.specs.Spans.{Following, Overruns, IsStep}
-use Rattle.msr_segments.specs.Segments.{row_span}
 use Rattle.msr_segments.specs.declared.follow.Step.{Step}
 use Rattle.msr_input.specs.Input.{Agrees, IsRefusedAlone}
 use Rattle.msr_input.specs.Outlines.{outline_of, outline_span}
@@ -100,19 +99,9 @@ abbrev pub Follows : Following → Option RowOutline → Option Step → Followi
 Follows old None step new = (step ≡ None) × (new ≡ old)
 Follows old (Some row) step new = FollowsRow old row step new
 
--- the row ends the segment that was begun last out of range
-pub record OverrunsWith (old : Following) (row : Option Row) : Type 0 where
-  pub the_row : Row
-  pub has_row : row ≡ Some the_row
-  pub overruns : Overruns old (row_span the_row)
-
-pub record OverrunsAt (old : Following) (row : Option RowOutline) : Type 0 where
-  pub the_row : RowOutline
-  pub has_row : row ≡ Some the_row
-  pub overruns : Overruns old (outline_span the_row)
-
 -- why a row was not followed, which takes no memory: it ends its segment out of range
 abbrev pub StopsFollowing : Following → Option RowOutline → ℕ → ReadFault → Type 0
-StopsFollowing old row offset (fault.Input f) = (f.offset ≡ offset) × (f.kind ≡ refusal.TimeRange) × OverrunsAt old row
+StopsFollowing old row offset (fault.Input f) =
+    (f.offset ≡ offset) × (f.kind ≡ refusal.TimeRange) × IsSomeAnd row (λ at. Overruns old (outline_span at))
 StopsFollowing old row offset fault.Read = ⊥
 StopsFollowing old row offset fault.Memory = ⊥

@@ -56,16 +56,17 @@ impl Model for RowReader {
 }
 
 impl RowReader {
-    ghost use Rattle.std.specs.Prelude.{◌≡◌, ◌≢◌, ◌↔◌, ◌≤◌, ◌<◌, List, [], ◌∷◌, ◌++◌, length, None, IsTrue, OnOk, OnErr, IfOk, IfErr, IsErrOf, IfSome, MatchResult, MatchOption};
+    ghost use Rattle.std.specs.Prelude.{◌≡◌, ◌≢◌, ◌↔◌, ◌≤◌, ◌<◌, ◌⊎◌, List, [], ◌∷◌, ◌++◌, length, None, IsTrue, OnOk, OnErr, IfOk, IfErr, IsErrOf, IfSome, MatchResult, MatchOption};
     ghost use Rattle.std.specs.Option.{option_to_list};
     ghost use Rattle.msr_devices.specs.Device.{Device, CanCountCall, CountsFew, IsSteady};
+    ghost use Rattle.msr_rows.specs.Records.{TakesMemory};
     ghost use Rattle.msr_rows.specs.declared.row.Record.{Record as Found};
     ghost use Rattle.msr_segments.specs.Spans.{IsInBounds, IsStep};
     ghost use Rattle.msr_segments.specs.Segments.{row_segment};
     ghost use Rattle.msr_segments.specs.declared.follow.Step.{Step as Answer};
     ghost use Rattle.msr_input.specs.Outlines.{outline_span};
     ghost use Rattle.msr_input.specs.Records.{HaveComeShort, left_with};
-    ghost use Rattle.msr_input.specs.Reading.{HoldsRecord, IsWritable, TakesMemoryFor, room_with};
+    ghost use Rattle.msr_input.specs.Reading.{HoldsRecord, IsWritable, room_with};
     ghost use Rattle.msr_input.specs.Rows.{HasReadRows, ReadsNoRow, ReadsNone, ReadsOne, ReadsOutline, ReadsRecord, ReadsToEnd, StepsTo, StopsRows, row_settings};
     ghost use Rattle.msr_input.specs.Steps.{CanFollow, CanJoin, Follows, IsNext};
 
@@ -167,7 +168,7 @@ impl RowReader {
             IsInBounds self.new.following.current))) }
         ensures settings { row_settings self.new ≡ row_settings self.old }
         ensures memory { IsErrOf result ReadFault.Memory
-            → TakesMemoryFor self.new.position.waiting self.new.position.room }
+            → (self.new.position.room ≤ length self.new.position.waiting) ⊎ TakesMemory self.new.position.waiting }
 
         // Room is taken for 64 KiB, and for more only if a record needs it.
         ensures room { IfOk result (λ next. IfSome next (λ given.

@@ -1,13 +1,14 @@
 //! The steps of reading: bytes ahead, a record, its row, its counts.
-ghost use Rattle.std.specs.Prelude.{◌≡◌, ◌≢◌, ◌+◌, ◌<◌, ◌-◌, ◌^◌, true, List, [], ◌∷◌, ◌++◌, length, IfOk, IfErr, IfSome, IsErrOf, OnErr, MatchResult, MatchOption, if◌then◌else◌};
+ghost use Rattle.std.specs.Prelude.{◌≡◌, ◌≢◌, true, [], IfOk, IfErr, IfSome, IsErrOf, OnErr, MatchResult, MatchOption};
 ghost use Rattle.msr_rows.specs.Records.{IsRefused};
 ghost use Rattle.msr_rows.specs.declared.row.Record.{Record as Found};
 ghost use Rattle.msr_devices.specs.Device.{CanCountCall, CountsFew};
 ghost use Rattle.msr_devices.specs.ReadBuffer.{IsFilled};
 ghost use Rattle.msr_segments.specs.Spans.{IsInBounds};
-ghost use Rattle.msr_input.specs.Input.{IsRefusedAlone, counts_of};
+ghost use Rattle.msr_input.specs.Input.{IsRefusedAlone};
 ghost use Rattle.msr_input.specs.Outlines.{outline_of};
 ghost use Rattle.msr_input.specs.Reading.{HoldsRecord};
+ghost use Rattle.msr_input.specs.Records.{CountsOneMore};
 ghost use Rattle.msr_input.specs.Rows.{next_outline, next_row};
 ghost use Rattle.msr_input.specs.Steps.{CanFollow, CameBefore, Follows, IsGiven, IsJudged, StopsDecoding, StopsFollowing, may_change};
 
@@ -160,21 +161,12 @@ pub(crate) fn next_outline(step: Option<Step>, row: Option<RowOutline>) -> Optio
     }
 }
 
-/// 0 if that holds, else 1.
-fn one_unless(holds: bool) -> u64
-    ensures { result ≡ (if holds then 0 else 1) }
-{
-    if holds { 0 } else { 1 }
-}
-
 /// The counts with those of one record more. A source has fewer than 2^64 bytes, so none saturates.
 pub(crate) fn counted(counts: Counts, outline: &Outline) -> Counts
-    ensures { (records : List Found) (found : Found) → outline.now ≡ outline_of found
-        → counts ≡ counts_of records → length records < 2 ^ 64 - 1
-        → result ≡ counts_of (records ++ found ∷ []) }
+    ensures { (found : Found) → outline.now ≡ outline_of found → CountsOneMore counts result found }
 {
-    let empty = one_unless(outline.row.is_some());
-    let mismatched = one_unless(outline.reverse_agrees);
+    let empty = u64::from(outline.row.is_none());
+    let mismatched = u64::from(!outline.reverse_agrees);
     Counts {
         read: counts.read.saturating_add(1),
         empty: counts.empty.saturating_add(empty),

@@ -1,7 +1,6 @@
 //! The kinds of records.
 ghost use Rattle.std.specs.Prelude.{◌≡◌, ◌↔◌, Some};
-ghost use Rattle.msr_kinds.specs.Kinds.{contains};
-ghost use Rattle.msr_kinds.specs.Codes.{code_of};
+ghost use Rattle.msr_kinds.specs.Kinds.{code_of, contains};
 ghost use Rattle.msr_kinds.specs.Storage.{storage_of};
 
 use crate::storage::{Storage, Version, Width};

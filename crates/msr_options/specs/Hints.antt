@@ -1,9 +1,23 @@
 -- What is told to people, and when.
 use Rattle.std.specs.Prelude.{if◌then◌else◌, ◌≡◌, ◌⊎◌, ◌==◌, ℕ, List, [], ◌∷◌, ◌++◌, codes, Option, None, Some}
 use Rattle.std.specs.List.{starts_with}
+use Rattle.std.specs.declared.io.Error.{Error}
 use Rattle.std.specs.Option.{option_map}
 use Rattle.msr_options.specs.declared.hint.Hint.{Hint}
-use Rattle.msr_options.specs.declared.hint.Hint.TheVariants.{Gzip, MiniSeed3, Folder, UnreadReport, UnreadRecords, Turns, NoArchive, Waiting, Lengths, System}
+use Rattle.msr_options.specs.declared.hint.Hint.TheVariants.{Gzip, MiniSeed3, Folder, UnreadReport, UnreadRecords, Turns, NoArchive, Waiting, Lengths, System, FirstDay}
+use Rattle.msr_options.specs.declared.hint.Side.{Side}
+use Rattle.msr_options.specs.declared.hint.Side.TheVariants.{File, Records, Report, Outputs}
+
+-- what of a day could not be opened or made
+abbrev pub side_text : Side → List ℕ
+side_text File = codes "its file in ROOT"
+side_text Records = codes "its records in OUT"
+side_text Report = codes "its report in REPORTS"
+side_text Outputs = codes "its records or report might stand in ROOT"
+
+abbrev pub unopened_text : Side → Option Error → Option (List ℕ)
+unopened_text side None = Some (codes "the first day refused as cannot open: " ++ side_text side)
+unopened_text side (Some error) = None
 
 -- the text of a hint; that of the system's reason is the system's own
 abbrev pub text_of : Hint → Option (List ℕ)
@@ -20,6 +34,7 @@ text_of Waiting =
 text_of Lengths =
     Some (codes "msrepack writes records of 256, 512, 1024, 2048, 4096, 8192, 16384, 32768 or 65536 bytes")
 text_of (System error) = None
+text_of (FirstDay unopened) = unopened_text unopened.side unopened.why
 
 -- the line of a hint
 abbrev pub line_of : Hint → Option (List ℕ)

@@ -28,16 +28,10 @@ impl DayOptions {
     pub fn in_length(&self, length: Length) -> DayOptions
         ensures { result ≡ in_length length self.now }
     {
-        let options = Options::new(length, self.options.tolerance()).unwrap();
-        DayOptions {
-            options: options
-                .kinds(self.options.form().kinds)
-                .strict(self.options.is_strict()),
-            same_length: self.same_length,
-            resume: self.resume,
-            check: self.check,
-            only_smaller: self.only_smaller,
-            bytes: self.bytes,
-        }
+        let options = Options::new(length, self.options.tolerance())
+            .unwrap()
+            .kinds(self.options.form().kinds)
+            .strict(self.options.is_strict());
+        DayOptions { options, ..*self }
     }
 }

@@ -7,6 +7,48 @@ use crate::errors::Errors;
 use std::io::Write;
 use std::{fmt, io};
 
+/// What of a day could not be opened or made.
+#[derive(Clone, Copy, Debug)]
+pub enum Side {
+    /// Its own file.
+    File,
+    Records,
+    Report,
+    /// What is made of it: that might stand in the archive.
+    Outputs,
+}
+
+impl fmt::Display for Side {
+    ghost use Rattle.std.specs.Prelude.{Some};
+    ghost use Rattle.msr_options.specs.Hints.{side_text};
+
+    ghost output = { λ side. Some (side_text side) };
+
+    fn fmt<W: fmt::Write>(&self, f: &mut fmt::Formatter<W>) -> fmt::Result {
+        f.write_str(match self {
+            Side::File => "its file in ROOT",
+            Side::Records => "its records in OUT",
+            Side::Report => "its report in REPORTS",
+            Side::Outputs => "its records or report might stand in ROOT",
+        })
+    }
+}
+
+/// What of a day could not be opened or made, and the system's reason, if it gave one.
+#[derive(Clone, Copy, Debug)]
+pub struct Unopened {
+    pub side: Side,
+    pub why: Option<io::Error>,
+}
+
+impl Unopened {
+    /// What is made might stand in the archive, and is not made.
+    pub const OUTPUTS: Unopened = Unopened {
+        side: Side::Outputs,
+        why: None,
+    };
+}
+
 /// What a person is told.
 #[derive(Clone, Copy, Debug)]
 pub enum Hint {
@@ -30,6 +72,8 @@ pub enum Hint {
     Lengths,
     /// Why a file cannot be opened, in the system's words.
     System(io::Error),
+    /// Why the first of the days was refused that could not be opened.
+    FirstDay(Unopened),
 }
 
 impl fmt::Display for Hint {
@@ -55,6 +99,16 @@ impl fmt::Display for Hint {
                 "msrepack writes records of 256, 512, 1024, 2048, 4096, 8192, 16384, 32768 or 65536 bytes",
             ),
             Hint::System(error) => write!(f, "{error}"),
+            Hint::FirstDay(unopened) => {
+                let side = unopened.side;
+                match unopened.why {
+                    Some(error) => write!(
+                        f,
+                        "the first day refused as cannot open: {side}: {error}"
+                    ),
+                    None => write!(f, "the first day refused as cannot open: {side}"),
+                }
+            }
         }
     }
 }

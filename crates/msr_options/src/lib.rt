@@ -11,7 +11,7 @@ mod task;
 pub use days::DayOptions;
 pub use errors::Errors;
 pub use files::{hint_of_file, hint_of_folder, hint_of_report};
-pub use hint::{Hint, write_hint};
+pub use hint::{Hint, Side, Unopened, write_hint};
 pub use options::Options;
 pub use task::{
     Archiving, Checking, Comparing, Ending, Feeding, Folders, ListForm, Listing, NoTask, Repacking,

@@ -59,12 +59,7 @@ impl Options {
     pub fn kinds(self, kinds: Kinds) -> Options
         ensures { result ≡ of_kinds kinds self }
     {
-        Options {
-            length: self.length,
-            kinds,
-            tolerance: self.tolerance,
-            strict: self.strict,
-        }
+        Options { kinds, ..self }
     }
 
     /// The same options, strict or not. A strict reading refuses a record whose last sample is not its reverse
@@ -72,12 +67,7 @@ impl Options {
     pub fn strict(self, strict: bool) -> Options
         ensures { result ≡ as_strict strict self }
     {
-        Options {
-            length: self.length,
-            kinds: self.kinds,
-            tolerance: self.tolerance,
-            strict,
-        }
+        Options { strict, ..self }
     }
 
     /// The length and the kinds of the written records.

@@ -19,12 +19,13 @@ use Rattle.msr_packer.proofs.Least.{found}
 use Rattle.msr_rows.specs.declared.row.Row.{Row}
 use Rattle.msr_record.proofs.Existing.{has_record}
 use Rattle.msr_segments.specs.declared.joiner.Segment.{Segment}
-use Rattle.msr_output.specs.Output.{Packed, IsPacked, Cut, IsRecordOfRun, IsWritableSegment, AreWritten, IsOutput, IsPrefixOfOutput, next_number, number_after, sample_before, cuts_at, cuts_of, segment_of_packed}
+use Rattle.msr_output.specs.Output.{Packed, IsPacked, Cut, IsRecordOfRun, IsWritableSegment, AreWritten, IsOutput, IsPrefixOfOutput, next_number, number_after, cuts_at, cuts_of, segment_of_packed}
 use Rattle.msr_output.proofs.Appending.{written_append, cuts_further}
 use Rattle.msr_output.proofs.CutRows.{IsFitting}
 use Rattle.msr_output.proofs.Runs.{points_of_run, record_of_run}
 use Rattle.msr_output.proofs.Times.{nominal_between}
 use Rattle.msr_time.proofs.NominalLemmas.{rounded_parts}
+use Rattle.msr_packer.specs.HeldSamples.{before_place}
 
 -- if one sample has a rounded instant, each has
 nominal_exists : (rate : SampleRate) (t0 last : ℤ) (n m : ℕ) → IsRoundedNominal rate t0 m last
@@ -84,7 +85,7 @@ one_record form n segment run writable some fits =
     let instant = nominal_between rate segment.start nominal.0 in_time.last run.start
     (count - 1) earlier nominal.1 in_time.nominal in_time.first_in in_time.last_in in
     let samples = slice_range segment.samples run.start run.end in
-    let before = sample_before segment.samples run.start in
+    let before = before_place segment.samples run.start in
     let left : length (drop run.start segment.samples) ≡ count - run.start = length-drop run.start segment.samples in
     let long : 1 ≤ length samples = omega (arith, length-take (run.end - run.start) (drop run.start segment.samples)) in
     let fit : All (FitsSigned w32) samples = All-take (FitsSigned w32) (run.end - run.start)
@@ -258,7 +259,7 @@ get_longer [] ys i lt = absurd (omega arith)
 get_longer (x ∷ xs) ys zero lt = refl
 get_longer (x ∷ xs) ys (suc i) lt = get_longer xs ys i (omega arith)
 
-before_longer : (xs ys : List ℤ) (a : ℕ) → a ≤ length xs → sample_before (xs ++ ys) a ≡ sample_before xs a
+before_longer : (xs ys : List ℤ) (a : ℕ) → a ≤ length xs → before_place (xs ++ ys) a ≡ before_place xs a
 before_longer xs ys zero le = refl
 before_longer xs ys (suc i) le = get_longer xs ys i (omega arith)
 

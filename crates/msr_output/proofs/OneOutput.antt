@@ -15,7 +15,8 @@ use Rattle.msr_record.specs.Written.{IsWrittenRecord}
 use Rattle.msr_rows.proofs.OneAnswer.{rows_equal}
 use Rattle.msr_record.proofs.OneWritten.{written_once}
 use Rattle.msr_segments.specs.declared.joiner.Segment.{Segment}
-use Rattle.msr_output.specs.Output.{Packed, IsPacked, Cut, IsRowOfRun, AreWritten, IsOutput, next_number, sample_before, cuts_of, segment_of_packed}
+use Rattle.msr_output.specs.Output.{Packed, IsPacked, Cut, IsRowOfRun, AreWritten, IsOutput, next_number, cuts_of, segment_of_packed}
+use Rattle.msr_packer.specs.HeldSamples.{before_place}
 
 one_row : (segment : Segment) (run : Run) (a b : Row) → IsRowOfRun segment run a → IsRowOfRun segment run b → a ≡ b
 one_row segment run a b first second =
@@ -30,7 +31,7 @@ one_written size n (cut ∷ cuts) rows more bytes text first second =
     let w = first.2 in
     let v = second.2 in
     let row : w.row ≡ v.row = one_row cut.segment cut.run w.row v.row w.is_record.of_run v.is_record.of_run in
-    let before = sample_before cut.segment.samples cut.run.start in
+    let before = before_place cut.segment.samples cut.run.start in
     let other : IsWrittenRecord v.first cut.segment.key w.row.start n before w.row.samples cut.run.kind size =
     subst (λ (r : Row). IsWrittenRecord v.first cut.segment.key r.start n before r.samples cut.run.kind size)
     (sym row) v.is_record.written in

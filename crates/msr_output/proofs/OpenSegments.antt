@@ -26,7 +26,7 @@ use Rattle.msr_rows.specs.declared.row.Row.{Row}
 use Rattle.msr_segments.specs.Spans.{SpanIsInTime, span_of}
 use Rattle.msr_segments.specs.declared.joiner.Segment.{Segment}
 use Rattle.msr_output.specs.Opened.{AppendsMore, AppendsSome, CanEncode, CanGoOn, Gives, HasBegun, IsOpen, Opened, empty_segment, longer_by}
-use Rattle.msr_output.specs.Output.{AreWritten, Cut, IsPrefixOfOutput, IsPacked, IsWritableSegment, Packed, cuts_at, cuts_of, next_number, number_after, sample_before, segment_of_packed}
+use Rattle.msr_output.specs.Output.{AreWritten, Cut, IsPrefixOfOutput, IsPacked, IsWritableSegment, Packed, cuts_at, cuts_of, next_number, number_after, segment_of_packed}
 use Rattle.msr_output.specs.Writing.{AppendsRecordOfRun, HasWritten, StopsWriting, Writing}
 use Rattle.msr_devices.specs.declared.fault.DeviceFault.TheVariants.{Failed, Memory}
 use Rattle.msr_output.proofs.Appending.{appends_more, appends_nothing, cuts_further, number_after-append, written_append}
@@ -70,10 +70,6 @@ given_fits form samples runs run separators rest =
           fits);
     }
 
-pub before_same : (samples : List ℤ) (i : ℕ) → before_place samples i ≡ sample_before samples i
-before_same samples zero = refl
-before_same samples (suc i) = refl
-
 -- and can be encoded when it is shown
 pub can_encode : (whole : Bool) (opened : Opened) (piece : Piece) (separators : List ℕ) (packer : Holding)
     → (can : CanGoOn whole opened) → Gives whole opened.form can.segment.samples
@@ -100,7 +96,6 @@ can_encode whole opened piece separators packer can gives shows =
       fits = rw (
         shows.run,
         shows.before_run,
-        before_same samples piece.run.start,
         points_of_run samples
             piece.run.start piece.run.end first,
       ) f.fits.2.1;

@@ -8,12 +8,12 @@ use Rattle.msr_words.specs.declared.kinds.Run.{Run}
 use Rattle.msr_words.proofs.Runs.{run_from_start, run_from}
 use Rattle.msr_record.specs.Written.{AppendsRecord}
 use Rattle.msr_segments.specs.declared.joiner.Segment.{Segment}
-use Rattle.msr_output.specs.Output.{sample_before}
 use Rattle.msr_output.specs.Writing.{AppendsRecordOfRun}
+use Rattle.msr_packer.specs.HeldSamples.{before_place}
 
 -- the samples of a run with their differences are those of the segment at its place
 pub points_of_run : (samples : List ℤ) (a b : ℕ) → a ≤ length samples
-    → points (sample_before samples a) (slice_range samples a b) ≡ run_points samples a b
+    → points (before_place samples a) (slice_range samples a b) ≡ run_points samples a b
 points_of_run samples zero b within = let e : b - 0 ≡ b = omega arith in
     rw e (run_from_start samples b ∙ ap (λ n. take n (points None samples)) e)
 points_of_run samples (suc i) b within =
@@ -23,7 +23,7 @@ points_of_run samples (suc i) b within =
 
 pub record_of_run : (size number : ℕ) (segment : Segment) (run : Run) (start : ℤ) (old new : List ℕ)
     → IsRoundedNominal segment.key.rate segment.start run.start start
-    → AppendsRecord old new segment.key start number (sample_before segment.samples run.start)
+    → AppendsRecord old new segment.key start number (before_place segment.samples run.start)
     (slice_range segment.samples run.start run.end) run.kind size
     → AppendsRecordOfRun size number segment run old new
 record_of_run size number segment run start old new h a = record {

@@ -1,6 +1,6 @@
 -- The output: the written records of segments, one after another (SEED Reference Manual 2.4, data record). Each
 -- segment is cut into the runs of its one canonical packing; each run is a record.
-use Rattle.std.specs.Prelude.{◌≡◌, ℕ, zero, suc, ◌+◌, ◌*◌, ◌≤◌, ◌==◌, if◌then◌else◌, ℤ, List, [], ◌∷◌, ◌++◌, length, All, map, slice_range, slice_get, Option, Some, None, true, FitsSigned}
+use Rattle.std.specs.Prelude.{◌≡◌, ℕ, ◌+◌, ◌*◌, ◌≤◌, ◌==◌, if◌then◌else◌, ℤ, List, [], ◌∷◌, ◌++◌, length, All, map, slice_range, Some, true, FitsSigned}
 use Rattle.std.specs.Int.{w32}
 use Rattle.std.specs.List.{flat_map}
 use Rattle.msr_time.specs.SampleRate.{IsRoundedNominal}
@@ -8,6 +8,7 @@ use Rattle.msr_words.specs.Fit.{records_of}
 use Rattle.msr_words.specs.Packing.{IsPacking, IsLeast, IsSeparating, IsCanonical}
 use Rattle.msr_kinds.specs.declared.forms.Form.{Form}
 use Rattle.msr_kinds.specs.Lengths.{bytes_of}
+use Rattle.msr_packer.specs.HeldSamples.{before_place}
 use Rattle.msr_words.specs.declared.kinds.Run.{Run}
 use Rattle.msr_rows.specs.Records.{IsRowOf, IsRecordOf, RowIsInTime}
 use Rattle.msr_record.specs.Written.{IsWrittenRecord, IsWritableKey}
@@ -33,11 +34,6 @@ pub record IsPacked (form : Form) (packed : Packed) : Type 0 where
   pub as_many : length packed.runs ≡ length packed.separators
   pub canonical : IsCanonical (records_of form) packed.segment.samples packed.runs packed.separators
 
--- the sample before a run of a segment, if there is one
-abbrev pub sample_before : List ℤ → ℕ → Option ℤ
-sample_before samples zero = None
-sample_before samples (suc i) = slice_get samples i
-
 -- The row of a run: the segment's key, the rounded nominal instant of its first sample, counted from the
 -- segment's start, and its samples.
 pub record IsRowOfRun (segment : Segment) (run : Run) (row : Row) : Type 0 where
@@ -53,7 +49,7 @@ pub record IsRecordOfRun (size number : ℕ) (segment : Segment) (run : Run) (ro
   pub of_run : IsRowOfRun segment run row
   pub size_is : length bytes ≡ size
   pub written : IsWrittenRecord bytes segment.key row.start number
-      (sample_before segment.samples run.start) row.samples run.kind size
+      (before_place segment.samples run.start) row.samples run.kind size
   pub decodes : (rest : List ℕ) → IsRowOf (bytes ++ rest) row
   pub reads : (rest : List ℕ) → RowIsInTime row
       → IsRecordOf (bytes ++ rest) (record { length = size; row = Some row; reverse_agrees = true })

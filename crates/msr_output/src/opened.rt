@@ -1,6 +1,5 @@
 //! A segment that is written while its samples come.
-ghost use Rattle.std.specs.Prelude.{◌≡◌, ℕ, ℤ, List, [], ◌++◌, ◌+◌, ◌<◌, ◌≤◌, ◌^◌, length, IfOk, IfSome, IsNone, OnOk, IsTrue, MatchResult, true, false};
-ghost use Rattle.msr_header.specs.Reading.{is_quality};
+ghost use Rattle.std.specs.Prelude.{◌≡◌, ℕ, ℤ, List, ◌++◌, ◌+◌, ◌<◌, ◌≤◌, ◌^◌, length, IfOk, IfSome, IsNone, OnOk, IsTrue, MatchResult, true, false};
 ghost use Rattle.msr_words.specs.Fit.{records_of};
 ghost use Rattle.msr_words.specs.declared.kinds.Run.{Run};
 ghost use Rattle.msr_kinds.specs.declared.forms.Form.{Form};
@@ -9,12 +8,11 @@ ghost use Rattle.msr_words.specs.Packing.{IsCanonical};
 ghost use Rattle.msr_packer.specs.Blocks.{HoldsFew, left_of, pushed};
 ghost use Rattle.msr_packer.specs.HeldSamples.{Shows, pieces_of, runs_of, separators_of};
 ghost use Rattle.msr_packer.specs.declared.held.Piece.{Piece};
-ghost use Rattle.msr_rows.specs.Correction.{is_pending};
 ghost use Rattle.msr_record.specs.Written.{IsKey};
 ghost use Rattle.msr_time.specs.Instant.{IsInstant};
 ghost use Rattle.msr_segments.specs.Spans.{SpanIsInTime, span_of};
 ghost use Rattle.msr_segments.specs.declared.joiner.Segment.{Segment};
-ghost use Rattle.msr_output.specs.Opened.{AppendsMore, CanEncode, CanGoOn, EncodesNext, Gives, IsOpen, empty_segment, longer_by};
+ghost use Rattle.msr_output.specs.Opened.{AppendsMore, CanEncode, CanGoOn, EncodesNext, Gives, IsOpen, longer_by};
 ghost use Rattle.msr_output.specs.Output.{next_number};
 ghost use Rattle.msr_output.specs.Writing.{AppendsRecordOfRun};
 
@@ -29,12 +27,12 @@ use std::marker::Model;
 /// A segment whose samples still come. It holds no more of them than its packer does.
 #[derive(Drop)]
 pub struct OpenSegment {
-    key: Key,
-    start: i64,
-    form: Form,
-    packer: BlockPacker,
+    pub(crate) key: Key,
+    pub(crate) start: i64,
+    pub(crate) form: Form,
+    pub(crate) packer: BlockPacker,
     /// One for each record that was encoded.
-    separators: Vec<u64>,
+    pub(crate) separators: Vec<u64>,
 }
 
 impl Model for OpenSegment {
@@ -56,12 +54,12 @@ fn number_after_this(number: u32) -> u32
 }
 
 /// A key has fields of the widths of a header's, and a rate of which neither part is 0.
-fn key_has_header_widths(key: Key)
+pub(crate) fn key_has_header_widths(key: Key)
     ensures { IsKey key }
 {}
 
 /// If no sample is there yet, the times are those of the start.
-fn empty_span_is_in_time(key: &Key, start: i64)
+pub(crate) fn empty_span_is_in_time(key: &Key, start: i64)
     requires { IsInstant start }
     ensures { SpanIsInTime (span_of key.now start 0) }
 {
@@ -92,29 +90,6 @@ fn next_piece(packer: &mut BlockPacker, whole: bool) -> Option<Piece>
 }
 
 impl OpenSegment {
-    /// A segment of that key and start, without a sample yet. It takes no memory yet.
-    pub(crate) fn begin(alloc: Global, form: Form, key: Key, start: i64) -> OpenSegment
-        requires quality { IsTrue (is_quality key.quality) }
-        requires normal { is_pending key.activity key.correction ≡ false }
-        requires start { IsInstant start }
-        ensures form { result.form ≡ form }
-        ensures begun { IsOpen false (empty_segment key start) [] result }
-        ensures can { CanGoOn false result }
-        ensures key { result.key ≡ key }
-        ensures start { result.start ≡ start }
-        ensures count { pushed result.packer ≡ 0 }
-    {
-        key_has_header_widths(key);
-        empty_span_is_in_time(&key, start);
-        OpenSegment {
-            key,
-            start,
-            form,
-            packer: BlockPacker::new(alloc, form),
-            separators: Vec::new(alloc),
-        }
-    }
-
     /// Takes more samples. If memory is refused, none was taken.
     pub(crate) fn push(&mut self, samples: &[i32]) -> Result<(), AllocError>
         requires { pushed self.old.packer + length samples.now < 2 ^ 64 }

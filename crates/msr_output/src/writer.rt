@@ -1,7 +1,8 @@
 //! A writer of segments.
-use crate::opened::OpenSegment;
+use crate::opened::{OpenSegment, empty_span_is_in_time, key_has_header_widths};
 use msr_devices::{DeviceFault, Sink, WriteBuffer};
 use msr_kinds::Form;
+use msr_packer::BlockPacker;
 use msr_record::{Key, samples_have_32_bits};
 use msr_report::SegmentLine;
 use std::alloc::Global;
@@ -72,7 +73,15 @@ impl SegmentWriter {
         ensures start { result.start ≡ start }
         ensures count { pushed result.packer ≡ 0 }
     {
-        OpenSegment::begin(self.alloc, self.form, key, start)
+        key_has_header_widths(key);
+        empty_span_is_in_time(&key, start);
+        OpenSegment {
+            key,
+            start,
+            form: self.form,
+            packer: BlockPacker::new(self.alloc, self.form),
+            separators: Vec::new(self.alloc),
+        }
     }
 
     /// Takes more samples of the segment, and puts the records that they decide after those that wait; then writes

@@ -10,7 +10,8 @@ use Rattle.msr_kinds.specs.Kinds.{IsChosen}
 use Rattle.msr_kinds.proofs.KindLemmas.{int32_is_chosen}
 use Rattle.msr_words.specs.Laws.{BackStepLaw, look_back_of, most_of}
 use Rattle.msr_words.specs.Segment.{difference_at, run_points}
-use Rattle.msr_words.specs.Lemmas.KindLaws.{back_step_in, back_step_kind, empty_kind, prefix_kind, size_kind}
+use Rattle.msr_words.specs.Lemmas.KindLaws.{back_step_kind, empty_kind, prefix_kind, size_kind}
+use Rattle.msr_words.proofs.AnyKind.{back_step_in}
 use Rattle.msr_words.proofs.Runs.{back_step_run, length-run_points, prefix_run, run_points_cut, run_points_more, run_points_none}
 use Rattle.msr_words.proofs.DivisionsExist.{few_kinds, rank_same}
 use Rattle.msr_words.proofs.WordRoom.{rest_of_run}

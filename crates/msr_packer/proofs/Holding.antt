@@ -8,7 +8,7 @@ use Rattle.msr_words.specs.declared.kinds.Run.{Run}
 use Rattle.msr_words.specs.Segment.{run_points}
 use Rattle.msr_words.specs.Fit.{Records, records_of, FitsIn, FitsAny, IsRun, IsFirstKind}
 use Rattle.msr_words.specs.Laws.{most_any}
-use Rattle.msr_words.specs.Lemmas.KindLaws.{back_step_any, short_any, size_any}
+use Rattle.msr_words.proofs.AnyKind.{back_step_any, short_any, size_any}
 use Rattle.msr_words.specs.Packing.{IsCanonical, IsStep, Joins}
 use Rattle.msr_words.proofs.Runs.{length-run_points, run_points_stay}
 use Rattle.msr_packer.specs.SoFar.{IsSoFar}

@@ -4,7 +4,7 @@ use Rattle.msr_words.specs.Fit.{Records, records_of}
 use Rattle.msr_words.specs.declared.kinds.Run.{Run}
 use Rattle.msr_words.specs.Packing.{IsCanonical}
 use Rattle.msr_packer.specs.Blocks.{Holding, LeftAt, Packs, PacksLast, holding_of}
-use Rattle.msr_packer.specs.HeldSamples.{GivesPiece, HoldsRest, IsWindow, Stays, pieces_of, runs_of, separators_of}
+use Rattle.msr_packer.specs.HeldSamples.{GivesPiece, HoldsNeeded, HoldsRest, HoldsSame, IsWindow, Stays, pieces_of, runs_of, separators_of}
 use Rattle.msr_packer.specs.declared.held.HeldSamples.{HeldSamples}
 use Rattle.msr_packer.specs.declared.held.Piece.{Piece}
 use Rattle.msr_packer.proofs.PackingsExist.{HasRest}
@@ -57,30 +57,25 @@ module _ (records : Records) (samples : List ℤ) (runs : List Run) (separators 
 
   -- ---- samples were pushed
 
-  pub packs_held : (ended : Bool) → new.form ≡ old.form
-      → (HoldsRest samples runs separators old → HoldsRest samples runs separators new)
-      → (Stays old.current (length old.samples.items) → Stays new.current (length new.samples.items))
-      → Packs records samples runs separators (holding_of old ended)
+  pub packs_held : (ended : Bool) → HoldsNeeded old new → Packs records samples runs separators (holding_of old ended)
       → Packs records samples runs separators (holding_of new ended)
-  packs_held ended same holds stays p =
-      let same_form = ap records_of same ∙ p.of_form in
+  packs_held ended needed p =
+      let same_form = ap records_of needed.form ∙ p.of_form in
       record {
         of_form = same_form;
         holds = held_in records samples runs separators new same_form
-            (holds (holds_in records samples runs separators old p.of_form p.holds));
-        stays = stays p.stays;
+            (needed.holds samples runs separators (holds_in records samples runs separators old p.of_form p.holds));
+        stays = needed.stays p.stays;
         goes_on = p.goes_on;
       }
 
   -- nothing else changed
-  pub packs_same : (ended : Bool) → new.form ≡ old.form → new.samples.items ≡ old.samples.items
-      → new.offset ≡ old.offset → new.current ≡ old.current
-      → Packs records samples runs separators (holding_of old ended)
+  pub packs_same : (ended : Bool) → HoldsSame old new → Packs records samples runs separators (holding_of old ended)
       → Packs records samples runs separators (holding_of new ended)
-  packs_same ended same items offset current p = record {
-    of_form = ap records_of same ∙ p.of_form;
-    holds = rw (items, offset, current) p.holds;
-    stays = rw (items, current) p.stays;
+  packs_same ended same p = record {
+    of_form = ap records_of same.form ∙ p.of_form;
+    holds = rw (same.held, same.offset, same.current) p.holds;
+    stays = rw (same.held, same.current) p.stays;
     goes_on = p.goes_on;
   }
 
@@ -121,14 +116,12 @@ module _ (records : Records) (samples : List ℤ) (runs : List Run) (separators 
 -- the same, after the samples were forgotten that no step needs any more
 pub packs_pushed : (records : Records) (samples : List ℤ) (runs : List Run) (separators : List ℕ)
     (old held new : HeldSamples)
-    (more : List ℤ) (ended : Bool) → held.form ≡ old.form
-    → (HoldsRest samples runs separators old → HoldsRest samples runs separators held)
-    → Stays held.current (length held.samples.items) → new.form ≡ held.form
+    (more : List ℤ) (ended : Bool) → HoldsNeeded old held → new.form ≡ held.form
     → new.offset ≡ held.offset → new.current ≡ held.current → new.samples.items ≡ held.samples.items ++ more
     → Packs records samples runs separators (holding_of old ended)
     → Packs records (samples ++ more) runs separators (holding_of new ended)
-packs_pushed records samples runs separators old held new more ended forgot holds stays same offset current items p =
-    let q = packs_held records samples runs separators old held ended forgot holds (λ _. stays) p in
+packs_pushed records samples runs separators old held new more ended needed same offset current items p =
+    let q = packs_held records samples runs separators old held ended needed p in
     packs_more records samples runs separators held new more ended
     (subst (λ r. 256 ≤ r.bytes) q.of_form held.form.length.least) same offset current items q
 

@@ -7,8 +7,8 @@ use Rattle.msr_kinds.specs.declared.kinds.Kind.{Kind}
 use Rattle.msr_words.specs.declared.kinds.Run.{Run}
 use Rattle.msr_words.specs.Segment.{run_points}
 use Rattle.msr_words.specs.Fit.{Records, FitsIn, FitsAny, IsRun, IsFirstKind}
-use Rattle.msr_words.specs.Laws.{BackStepLaw, FitsShort}
-use Rattle.msr_words.specs.Lemmas.KindLaws.{short_any, back_step_any, prefix_in}
+use Rattle.msr_words.specs.Laws.{BackStepLaw}
+use Rattle.msr_words.proofs.AnyKind.{FitsShort, back_step_any, prefix_in, short_any}
 use Rattle.msr_words.proofs.Runs.{prefix_run, back_step_run, length-run_points}
 use Rattle.msr_words.specs.Packing.{Joins, IsPacking, IsLeast, NoneHolds, IsSeparating, IsStep, CanonicalTo, IsCanonical}
 use Rattle.msr_packer.specs.SoFar.{IsSoFar}

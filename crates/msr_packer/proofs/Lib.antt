@@ -5,7 +5,6 @@ pub mod PackingsExist
 pub mod Holding
 pub mod InBlocks
 pub mod Least
-pub mod OfBits
 pub mod Search
 pub mod ToldSizes
 pub mod Streaming

@@ -5,7 +5,7 @@ use Rattle.msr_kinds.specs.declared.kinds.Kind.{Kind}
 use Rattle.msr_words.specs.declared.kinds.Run.{Run}
 use Rattle.msr_words.specs.Segment.{run_points}
 use Rattle.msr_words.specs.Fit.{Records, FitsAny, IsRun}
-use Rattle.msr_words.specs.Lemmas.KindLaws.{empty_any}
+use Rattle.msr_words.proofs.AnyKind.{empty_any}
 use Rattle.msr_words.specs.Packing.{IsStep, IsCanonical}
 use Rattle.msr_words.proofs.Runs.{run_points_none}
 use Rattle.msr_words.specs.Existence.{Decided}

@@ -5,7 +5,7 @@ use Rattle.msr_kinds.specs.declared.kinds.Kind.{Kind}
 use Rattle.msr_words.specs.declared.kinds.Run.{Run}
 use Rattle.msr_words.specs.Fit.{Records, FitsIn, FitsAny, IsFirstKind}
 use Rattle.msr_words.specs.Laws.{PrefixLaw, BackStepLaw}
-use Rattle.msr_words.specs.Lemmas.KindLaws.{prefix_any, back_step_any}
+use Rattle.msr_words.proofs.AnyKind.{prefix_any, back_step_any}
 use Rattle.msr_words.specs.Packing.{Joins, IsStep, CanonicalTo}
 use Rattle.msr_words.proofs.LastSamples.{run_in_window, run_of_window, run_stays, run_was}
 use Rattle.msr_words.proofs.Runs.{back_step_run, prefix_run, run_points_stay}

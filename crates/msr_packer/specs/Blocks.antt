@@ -1,12 +1,13 @@
 -- Which pieces a packer of blocks of samples has given.
-use Rattle.std.specs.Prelude.{◌≡◌, ℕ, ◌+◌, ◌-◌, ◌≤◌, Bool, true, false, ℤ, List, ◌++◌, length, Option, if◌then◌else◌}
+use Rattle.std.specs.Prelude.{◌≡◌, ℕ, ◌+◌, ◌-◌, ◌≤◌, Bool, true, false, ℤ, List, ◌++◌, length, take, Option, IfSome, if◌then◌else◌}
 use Rattle.msr_words.specs.Fit.{Records, records_of}
 use Rattle.msr_words.specs.declared.kinds.Run.{Run}
 use Rattle.msr_words.specs.Laws.{most_any}
 use Rattle.msr_words.specs.Packing.{IsCanonical}
-use Rattle.msr_packer.specs.HeldSamples.{BeginsAll, IsWindow, LeavesFew, Stays, before_shown, frontier_of, shown_by, sizes_shown, words_shown, IsSound, KnowsSizes}
+use Rattle.msr_packer.specs.HeldSamples.{BeginsAll, IsWindow, LeavesFew, Shows, Stays, before_shown, frontier_of, pieces_of, runs_of, separators_of, shown_by, sizes_shown}
 use Rattle.msr_packer.specs.declared.held.RunToCut.{RunToCut}
 use Rattle.msr_packer.specs.declared.held.HeldSamples.{HeldSamples}
+use Rattle.msr_packer.specs.declared.held.Piece.{Piece}
 
 -- What a packer of blocks shows: its records, the samples that it holds and how many stand before them,
 -- the step whose piece comes next, the samples of the piece that was given last with the one before them, the sizes and
@@ -31,14 +32,9 @@ holding_of held ended = record {
   shown = shown_by held;
   before = before_shown held;
   groups = sizes_shown held;
-  words = words_shown held;
+  words = take held.sizes.shown.count held.sizes.shown.words.items;
   ended = ended;
 }
-
--- what is always known of the samples that a packer holds
-pub record IsKept (held : HeldSamples) : Type 0 where
-  pub sound : IsSound held
-  pub sizes : KnowsSizes held
 
 -- how many samples were pushed
 abbrev pub pushed : Holding → ℕ
@@ -63,6 +59,14 @@ pub record PacksLast (records : Records) (samples : List ℤ) (runs : List Run) 
     (packer : Holding) : Type 0 where
   pub of_form : packer.records ≡ records
   pub left : LeftAt packer.ended records samples runs separators packer
+
+-- The piece, if there is one, was given after those of which `packs` tells, and is shown.
+pub record GivesNext (packs : List ℤ → List Run → List ℕ → Holding → Type 0) (old new : Holding)
+    (piece : Option Piece) : Type 0 where
+  pub given : (samples : List ℤ) (runs : List Run) (separators : List ℕ) → packs samples runs separators old
+      → packs samples (runs ++ runs_of (pieces_of piece)) (separators ++ separators_of (pieces_of piece)) new
+  pub shows : (samples : List ℤ) (runs : List Run) (separators : List ℕ) → packs samples runs separators old
+      → IfSome piece (Shows samples new.shown new.before new.groups)
 
 -- how many steps can be left at most
 abbrev pub left_of : Holding → ℕ

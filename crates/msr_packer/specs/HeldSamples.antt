@@ -154,8 +154,23 @@ pub record KnowsSizes (held : HeldSamples) : Type 0 where
 abbrev pub sizes_shown : HeldSamples → List ℕ
 sizes_shown held = take held.sizes.shown.count held.sizes.shown.places.items
 
-abbrev pub words_shown : HeldSamples → List ℕ
-words_shown held = take held.sizes.shown.count held.sizes.shown.words.items
+-- the samples that are held are the same, with the same step
+pub record HoldsSame (old new : HeldSamples) : Type 0 where
+  pub sound : IsSound new
+  pub form : new.form ≡ old.form
+  pub held : new.samples.items ≡ old.samples.items
+  pub offset : new.offset ≡ old.offset
+  pub current : new.current ≡ old.current
+
+-- at most samples that no step needs any more were removed
+pub record HoldsNeeded (old new : HeldSamples) : Type 0 where
+  pub sound : IsSound new
+  pub holds : (samples : List ℤ) (runs : List Run) (separators : List ℕ) → HoldsRest samples runs separators old
+      → HoldsRest samples runs separators new
+  pub stays : Stays old.current (length old.samples.items) → Stays new.current (length new.samples.items)
+  pub form : new.form ≡ old.form
+  pub number : new.offset + length new.samples.items ≡ old.offset + length old.samples.items
+  pub sizes : KnowsSizes old → KnowsSizes new
 
 -- What giving a piece does: the piece, if there is one, was given and is shown, and the samples that are held are the
 -- same.

@@ -1,16 +1,18 @@
 -- Steps from a frontier with records of some kinds.
 use Rattle.std.specs.Prelude.{◌≡◌, ℕ, ◌+◌, ◌<◌, ◌≤◌, ◌⊎◌, ℤ, List, [], ◌∷◌, length, map, take}
 use Rattle.msr_words.specs.Bounds.{IsEnd}
-use Rattle.msr_words.specs.Fit.{Records, Fits, FitsIn, IsRun, rank}
+use Rattle.msr_words.specs.Fit.{Records, Fits, FitsAny, FitsIn, IsRun, rank}
 use Rattle.msr_kinds.specs.declared.kinds.Kind.{Kind}
 use Rattle.msr_kinds.specs.declared.kinds.Kind.TheVariants.{Int16, Int24, Int32, Steim1, Steim2}
 use Rattle.msr_kinds.specs.Kinds.{IsChosen}
 use Rattle.msr_words.specs.Groups.{AreGroupSizesIfKnown}
+use Rattle.msr_words.specs.Packing.{IsStep}
 use Rattle.msr_words.specs.Segment.{run_points}
 use Rattle.msr_filling.specs.GroupWords.{AreGroupWords}
 use Rattle.msr_packer.specs.declared.step.Ends.{Ends}
 use Rattle.msr_packer.specs.declared.step.Steim1Step.{Steim1Step}
 use Rattle.msr_packer.specs.declared.step.StepRun.{StepRun}
+use Rattle.msr_packer.specs.declared.step.StepWithEnds.{StepWithEnds}
 
 -- the kind is one of these
 abbrev pub Among : List Kind → Kind → Type 0
@@ -82,6 +84,13 @@ every_kind = Int32 ∷ Int24 ∷ longer_kinds
 
 abbrev pub AreEnds : Records → List ℤ → ℕ → ℕ → Ends → Type 0
 AreEnds records samples g end ends = AreEndsAmong every_kind records samples g end ends
+
+-- the step from the frontier g with any of the records, a kind that its run fits, and the ends that tell its kind when it
+-- is cut
+pub record IsFound (records : Records) (samples : List ℤ) (g : ℕ) (found : StepWithEnds) : Type 0 where
+  pub step : IsStep (FitsAny records) samples g found.step.end found.step.start
+  pub kind : IsRun (FitsIn found.step.kind records) samples found.step.start found.step.end
+  pub ends : AreEnds records samples g found.step.end found.ends
 
 -- the first `count` of these are the sizes and the words of the groups of the samples a to b-1; they are not known if it
 -- is 0

@@ -7,8 +7,7 @@ ghost use Rattle.msr_words.specs.Laws.{most_any};
 ghost use Rattle.msr_words.specs.Packing.{IsCanonical};
 ghost use Rattle.msr_words.specs.Segment.{differences};
 ghost use Rattle.msr_filling.specs.GroupWords.{AreGroupWords};
-ghost use Rattle.msr_packer.specs.Blocks.{BlocksBeginAll, BlocksEnd, BlocksLeaveFew, HoldsFew, LastBlocksBegin, Packs, PacksLast, left_of, pushed};
-ghost use Rattle.msr_packer.specs.HeldSamples.{Shows, pieces_of, runs_of, separators_of};
+ghost use Rattle.msr_packer.specs.Blocks.{BlocksBeginAll, BlocksEnd, BlocksLeaveFew, GivesNext, HoldsFew, LastBlocksBegin, Packs, PacksLast, left_of, pushed};
 
 use crate::held::{HeldSamples, Piece};
 use msr_kinds::Form;
@@ -27,13 +26,14 @@ pub struct BlockPacker {
 }
 
 impl Model for BlockPacker {
-    ghost use Rattle.msr_packer.specs.Blocks.{Holding, IsKept, holding_of};
+    ghost use Rattle.msr_packer.specs.Blocks.{Holding, holding_of};
+    ghost use Rattle.msr_packer.specs.HeldSamples.{IsSound, KnowsSizes};
 
     ghost Value = { Holding };
 
     ghost view = { λ p. holding_of p.held p.ended };
 
-    ghost invariant = { λ p. IsKept p.held };
+    ghost invariant = { λ p. IsSound p.held × KnowsSizes p.held };
 }
 
 impl BlockPacker {
@@ -72,13 +72,7 @@ impl BlockPacker {
 
     /// The next piece, if it is decided whatever samples follow.
     pub fn next_piece(&mut self) -> Option<Piece>
-        ensures given { (records : Records) (samples : List ℤ) (runs : List Run) (separators : List ℕ)
-            → Packs records samples runs separators self.old
-            → Packs records samples (runs ++ runs_of (pieces_of result))
-            (separators ++ separators_of (pieces_of result)) self.new }
-        ensures shows { (records : Records) (samples : List ℤ) (runs : List Run) (separators : List ℕ)
-            → Packs records samples runs separators self.old
-            → IfSome result (Shows samples self.new.shown self.new.before self.new.groups) }
+        ensures gives { (records : Records) → GivesNext (Packs records) self.old self.new result }
         ensures few { IsNone result → HoldsFew self.new }
         ensures fewer { IfSome result (λ _. left_of self.new < left_of self.old) }
         ensures count { pushed self.new ≡ pushed self.old }
@@ -89,16 +83,10 @@ impl BlockPacker {
 
     /// The next piece, if no sample follows. If there is none, all pieces were given.
     pub fn last_piece(&mut self) -> Option<Piece>
-        ensures given { (records : Records) (samples : List ℤ) (runs : List Run) (separators : List ℕ)
-            → PacksLast records samples runs separators self.old
-            → PacksLast records samples (runs ++ runs_of (pieces_of result))
-            (separators ++ separators_of (pieces_of result)) self.new }
+        ensures gives { (records : Records) → GivesNext (PacksLast records) self.old self.new result }
         ensures all { (records : Records) (samples : List ℤ) (runs : List Run) (separators : List ℕ)
             → PacksLast records samples runs separators self.old
             → IsNone result → IsCanonical records samples runs separators }
-        ensures shows { (records : Records) (samples : List ℤ) (runs : List Run) (separators : List ℕ)
-            → PacksLast records samples runs separators self.old
-            → IfSome result (Shows samples self.new.shown self.new.before self.new.groups) }
         ensures fewer { IfSome result (λ _. left_of self.new < left_of self.old) }
         ensures count { pushed self.new ≡ pushed self.old }
     {
@@ -123,7 +111,7 @@ impl BlockPacker {
     pub fn run_samples(&self) -> &[i32]
         ensures { result.now ≡ self.now.shown }
     {
-        self.held.shown()
+        &self.held.samples.as_slice()[self.held.from..self.held.to]
     }
 
     /// The sizes of the groups of Steim-2 in which the piece that was given last stands, one after another, if they are

@@ -13,7 +13,7 @@ use msr_words::{Codec, Int16, Int24, Int32, Steim1, Steim2, difference};
 
 /// A tracker of one of the kinds.
 #[derive(Clone, Copy)]
-pub(crate) enum KindTracker {
+pub(crate) enum Tracker {
     Steim2(Steim2),
     Steim1(Steim1),
     Int16(Int16),
@@ -42,23 +42,23 @@ fn all_taken<C: Codec + Drop>(mut tracker: C, samples: &[i32], from: usize) -> O
     Some(tracker)
 }
 
-impl KindTracker {
+impl Tracker {
     /// A tracker that nothing was pushed to.
-    fn new(kind: Kind, record_length: Length) -> KindTracker
+    fn new(kind: Kind, record_length: Length) -> Tracker
         ensures follows { Follows (bytes_of record_length) [] result }
         ensures kind { kind_of_tracker result ≡ kind }
     {
         match kind {
-            Kind::Steim2 => KindTracker::Steim2(Steim2::start(record_length)),
-            Kind::Steim1 => KindTracker::Steim1(Steim1::start(record_length)),
-            Kind::Int16 => KindTracker::Int16(Int16::start(record_length)),
-            Kind::Int24 => KindTracker::Int24(Int24::start(record_length)),
-            Kind::Int32 => KindTracker::Int32(Int32::start(record_length)),
+            Kind::Steim2 => Tracker::Steim2(Steim2::start(record_length)),
+            Kind::Steim1 => Tracker::Steim1(Steim1::start(record_length)),
+            Kind::Int16 => Tracker::Int16(Int16::start(record_length)),
+            Kind::Int24 => Tracker::Int24(Int24::start(record_length)),
+            Kind::Int32 => Tracker::Int32(Int32::start(record_length)),
         }
     }
 
     /// The tracker after the samples from one on, if it takes them all.
-    fn after(&self, samples: &[i32], from: usize) -> Option<KindTracker>
+    fn after(&self, samples: &[i32], from: usize) -> Option<Tracker>
         requires { from ≤ length samples.now }
         ensures all { (records : Records) (start : ℕ) → start ≤ from → IsTracked records samples.now start from self.now
             → IfSome result (IsTracked records samples.now start (length samples.now)) }
@@ -67,21 +67,11 @@ impl KindTracker {
             (run_points samples.now start (length samples.now)) → ⊥ }
     {
         match self {
-            KindTracker::Steim2(tracker) => {
-                Some(KindTracker::Steim2(all_taken(*tracker, samples, from)?))
-            }
-            KindTracker::Steim1(tracker) => {
-                Some(KindTracker::Steim1(all_taken(*tracker, samples, from)?))
-            }
-            KindTracker::Int16(tracker) => {
-                Some(KindTracker::Int16(all_taken(*tracker, samples, from)?))
-            }
-            KindTracker::Int24(tracker) => {
-                Some(KindTracker::Int24(all_taken(*tracker, samples, from)?))
-            }
-            KindTracker::Int32(tracker) => {
-                Some(KindTracker::Int32(all_taken(*tracker, samples, from)?))
-            }
+            Tracker::Steim2(tracker) => Some(Tracker::Steim2(all_taken(*tracker, samples, from)?)),
+            Tracker::Steim1(tracker) => Some(Tracker::Steim1(all_taken(*tracker, samples, from)?)),
+            Tracker::Int16(tracker) => Some(Tracker::Int16(all_taken(*tracker, samples, from)?)),
+            Tracker::Int24(tracker) => Some(Tracker::Int24(all_taken(*tracker, samples, from)?)),
+            Tracker::Int32(tracker) => Some(Tracker::Int32(all_taken(*tracker, samples, from)?)),
         }
     }
 }
@@ -90,7 +80,7 @@ impl KindTracker {
 #[derive(Clone, Copy)]
 pub(crate) struct GrowingRun {
     pub start: usize,
-    pub tracker: KindTracker,
+    pub tracker: Tracker,
 }
 
 impl GrowingRun {
@@ -100,7 +90,7 @@ impl GrowingRun {
         ensures start { result.start ≡ start }
         ensures tracked { IsTracked (records_of form) samples.now start (length samples.now) result.tracker }
     {
-        let begun = KindTracker::new(kind, form.length);
+        let begun = Tracker::new(kind, form.length);
         match begun.after(samples, start) {
             Some(tracker) => GrowingRun { start, tracker },
             None => GrowingRun {
@@ -115,7 +105,7 @@ impl GrowingRun {
         requires { length samples.now ≡ frontier + 1 }
         ensures { IsGrowing (records_of form) samples.now frontier (length samples.now) result }
     {
-        let begun = KindTracker::new(tried_first(form), form.length);
+        let begun = Tracker::new(tried_first(form), form.length);
         match begun.after(samples, frontier) {
             Some(tracker) => GrowingRun {
                 start: frontier,
@@ -131,7 +121,7 @@ impl GrowingRun {
     {
         GrowingRun {
             start: 0,
-            tracker: KindTracker::new(tried_first(form), form.length),
+            tracker: Tracker::new(tried_first(form), form.length),
         }
     }
 

@@ -2,11 +2,11 @@
 
 ghost use Rattle.std.specs.Prelude.{◌≡◌, ℕ, ℤ, List, [], ◌++◌, ◌+◌, ◌-◌, ◌*◌, ◌<◌, ◌≤◌, ◌⊎◌, length, drop, IfSome, IsNone, IsSome, Some};
 ghost use Rattle.msr_words.specs.declared.kinds.Run.{Run};
-ghost use Rattle.msr_words.specs.Fit.{FitsAny, FitsIn, IsRun, records_of};
+ghost use Rattle.msr_words.specs.Fit.{FitsAny, IsRun, records_of};
 ghost use Rattle.msr_words.specs.Laws.{most_any};
-ghost use Rattle.msr_words.specs.Packing.{IsCanonical, IsStep};
-ghost use Rattle.msr_packer.specs.HeldSamples.{GivesPiece, HasPlaces, HoldsRest, IsNext, IsSound, KnowsNext, KnowsSizes, ShowsRun, Stays, before_shown, frontier_of, piece_of, pieces_of, runs_of, separators_of, shown_by, start_of};
-ghost use Rattle.msr_packer.specs.Steps.{AreEnds, HaveSizes};
+ghost use Rattle.msr_words.specs.Packing.{IsCanonical};
+ghost use Rattle.msr_packer.specs.HeldSamples.{GivesPiece, HasPlaces, HoldsNeeded, HoldsRest, HoldsSame, IsNext, IsSound, KnowsNext, KnowsSizes, ShowsRun, Stays, before_shown, frontier_of, piece_of, pieces_of, runs_of, separators_of, shown_by, start_of};
+ghost use Rattle.msr_packer.specs.Steps.{HaveSizes, IsFound};
 
 use crate::kind_of;
 use crate::sizes::StepSizes;
@@ -119,10 +119,7 @@ impl RunToCut {
         found: StepWithEnds,
     ) -> RunToCut
         requires inside { frontier_of current < length samples.now }
-        requires step { IsStep (FitsAny (records_of form)) samples.now
-            (frontier_of current) found.step.end found.step.start }
-        requires kind { IsRun (FitsIn found.step.kind (records_of form)) samples.now found.step.start found.step.end }
-        requires ends { AreEnds (records_of form) samples.now (frontier_of current) found.step.end found.ends }
+        requires step { IsFound (records_of form) samples.now (frontier_of current) found }
         ensures next { IsNext (records_of form) samples.now current result }
         ensures end { result.end ≡ found.step.end }
         ensures sizes { (sizes words : List ℕ)
@@ -290,11 +287,7 @@ impl HeldSamples {
     pub(crate) fn last_piece(&mut self) -> Option<Piece>
         requires sound { IsSound self.old }
         requires end { length self.old.samples.items ≤ frontier_of self.old.current }
-        ensures sound { IsSound self.new }
-        ensures form { self.new.form ≡ self.old.form }
-        ensures held { self.new.samples.items ≡ self.old.samples.items }
-        ensures offset { self.new.offset ≡ self.old.offset }
-        ensures current { self.new.current ≡ self.old.current }
+        ensures same { HoldsSame self.old self.new }
         ensures canonical { (samples : List ℤ) (runs : List Run) (separators : List ℕ)
             → HoldsRest samples runs separators self.old
             → IsCanonical (records_of self.old.form) samples (runs ++ runs_of (pieces_of result))
@@ -321,22 +314,13 @@ impl HeldSamples {
     /// Removes the samples that no step needs any more. No samples are shown afterwards.
     pub(crate) fn forget(&mut self)
         requires { IsSound self.old }
-        ensures sound { IsSound self.new }
-        ensures holds { (samples : List ℤ) (runs : List Run) (separators : List ℕ)
-            → HoldsRest samples runs separators self.old
-            → HoldsRest samples runs separators self.new }
-        ensures stays { Stays self.old.current (length self.old.samples.items)
-            → Stays self.new.current (length self.new.samples.items) }
-        ensures form { self.new.form ≡ self.old.form }
+        ensures needed { HoldsNeeded self.old self.new }
         ensures samples { self.new.samples.items ≡ drop (start_of self.old.current - 1) self.old.samples.items }
-        ensures number { self.new.offset + length self.new.samples.items
-            ≡ self.old.offset + length self.old.samples.items }
         ensures frontier { frontier_of self.new.current + (start_of self.old.current - 1)
             ≡ frontier_of self.old.current }
         ensures start { start_of self.new.current + (start_of self.old.current - 1) ≡ start_of self.old.current }
         ensures from { self.new.from ≡ 0 }
         ensures to { self.new.to ≡ 0 }
-        ensures sizes { KnowsSizes self.old → KnowsSizes self.new }
     {
         self.from = 0;
         self.to = 0;
@@ -364,18 +348,9 @@ impl HeldSamples {
     /// sample that is moved at least one is removed.
     pub(crate) fn make_room(&mut self)
         requires { IsSound self.old }
-        ensures sound { IsSound self.new }
-        ensures holds { (samples : List ℤ) (runs : List Run) (separators : List ℕ)
-            → HoldsRest samples runs separators self.old
-            → HoldsRest samples runs separators self.new }
-        ensures stays { Stays self.old.current (length self.old.samples.items)
-            → Stays self.new.current (length self.new.samples.items) }
-        ensures form { self.new.form ≡ self.old.form }
-        ensures number { self.new.offset + length self.new.samples.items
-            ≡ self.old.offset + length self.old.samples.items }
+        ensures needed { HoldsNeeded self.old self.new }
         ensures few { length self.old.samples.items ≤ frontier_of self.old.current + most_any
             (records_of self.old.form) → length self.new.samples.items ≤ 4 * most_any (records_of self.old.form) + 2 }
-        ensures sizes { KnowsSizes self.old → KnowsSizes self.new }
     {
         let unneeded = self.unneeded();
         if unneeded >= self.samples.len() - unneeded {
@@ -386,23 +361,11 @@ impl HeldSamples {
     /// Takes places for the groups of a record, if that was not done.
     pub(crate) fn take_places(&mut self) -> Result<(), AllocError>
         requires { IsSound self.old }
-        ensures sound { IsSound self.new }
-        ensures form { self.new.form ≡ self.old.form }
-        ensures held { self.new.samples.items ≡ self.old.samples.items }
-        ensures offset { self.new.offset ≡ self.old.offset }
-        ensures current { self.new.current ≡ self.old.current }
+        ensures same { HoldsSame self.old self.new }
         ensures sizes { KnowsSizes self.old → KnowsSizes self.new }
     {
         let places = self.form.length.data_words() as usize;
         self.sizes.take_places(places)
-    }
-
-    /// The samples that are shown.
-    pub(crate) fn shown(&self) -> &[i32]
-        requires { IsSound self.now }
-        ensures { result.now ≡ shown_by self.now }
-    {
-        &self.samples.as_slice()[self.from..self.to]
     }
 
     /// The sample before those that are shown, if there is one.

@@ -2,7 +2,6 @@
 #![tactic(auto)]
 
 mod blocks;
-mod existence;
 mod growing;
 mod held;
 mod sizes;
@@ -15,12 +14,12 @@ ghost use Rattle.msr_kinds.specs.Kinds.{IsChosen};
 ghost use Rattle.msr_words.specs.declared.kinds.Run.{Run};
 ghost use Rattle.msr_words.specs.Segment.{run_points};
 ghost use Rattle.msr_words.specs.Fit.{FitsIn, IsRun, IsFirstKind, Records, records_of};
+ghost use Rattle.msr_packer.specs.Existence.{PackingExists, StepOfWindow};
 ghost use Rattle.msr_packer.specs.HeldSamples.{pieces_of, runs_of, separators_of};
 ghost use Rattle.msr_packer.specs.Steps.{AreEnds};
 ghost use Rattle.msr_words.specs.Packing.{IsPacking, IsSeparating, IsLeast, IsCanonical};
 
 pub use blocks::{BlockPacker, blocks_begin_all, blocks_end, blocks_leave_few, last_blocks_begin};
-pub use existence::{packing_exists, step_of_window};
 pub use held::Piece;
 use held::{RunToCut, frontier_of, piece_of};
 use msr_kinds::{Form, Kind, Length};
@@ -124,6 +123,16 @@ pub fn pack_in(alloc: Global, samples: &[i32], form: Form) -> Result<Packing, Al
     packing.add(piece_of(0, current, samples.len()))?;
     Ok(packing)
 }
+
+/// Each list of samples has a canonical packing for each record length.
+pub fn packing_exists()
+    ensures { PackingExists }
+{}
+
+/// The step from a frontier in the last samples of a segment is that of the segment.
+pub fn step_of_window()
+    ensures { StepOfWindow }
+{}
 
 /// For each segment and form of records at most one packing with its separators is the canonical one.
 pub fn one_packing()

@@ -5,16 +5,14 @@ ghost use Rattle.msr_kinds.specs.declared.kinds.Kind.TheVariants.{Int32 as Integ
 ghost use Rattle.msr_words.specs.Bounds.{AreIntegers, AreNarrowThrough, IsEnd};
 ghost use Rattle.msr_kinds.specs.Kinds.{IsChosen};
 ghost use Rattle.msr_kinds.specs.Lengths.{bytes_of};
-ghost use Rattle.msr_words.specs.Fit.{Fits, FitsAny, FitsIn, IsRun, records_of};
-ghost use Rattle.msr_words.specs.Packing.{IsStep};
+ghost use Rattle.msr_words.specs.Fit.{Fits, FitsIn, IsRun, records_of};
 ghost use Rattle.msr_words.specs.Laws.{look_back_of};
-ghost use Rattle.msr_packer.specs.Steps.{AreEnds, AreEndsAmong, HaveSizes, IsBetter, IsEndIn, IsSteim1Step, IsStepAmong, NonePast, NotLess, longer_kinds};
+ghost use Rattle.msr_packer.specs.Steps.{AreEndsAmong, HaveSizes, IsBetter, IsEndIn, IsFound, IsSteim1Step, IsStepAmong, NonePast, NotLess, longer_kinds};
 
 use msr_filling::steim2_words;
 use msr_kinds::{Form, Kind, Length};
 use msr_words::{
-    Codec, Fitting, Int32, Steim2Reach, begins_with_four, count_halves, count_wide,
-    leading_of_bits, steim1_reach,
+    Fitting, Steim2Reach, begins_with_four, count_halves, count_wide, leading_of_bits, steim1_reach,
 };
 
 /// One record more: it starts at `start`, reaches to `end`, and is of that kind.
@@ -146,7 +144,7 @@ fn int32_end(samples: &[i32], record_length: Length, frontier: usize) -> usize
     ensures { IsEnd Integers32 (bytes_of record_length) samples.now frontier result }
 {
     let left = samples.len() - frontier;
-    frontier + left.min(Int32::most(record_length))
+    frontier + left.min(Kind::Int32.most(record_length))
 }
 
 /// Whether no Steim-1 record that starts at or before the frontier reaches past the end of Steim-2 and close to `end`.
@@ -243,9 +241,7 @@ fn with_wide_integers(
     requires within { frontier ≤ length samples.now }
     requires step { IsStepAmong longer_kinds (records_of form) samples.now frontier step }
     requires ends { AreEndsAmong longer_kinds (records_of form) samples.now frontier step.end ends }
-    ensures step { IsStep (FitsAny (records_of form)) samples.now frontier result.step.end result.step.start }
-    ensures kind { IsRun (FitsIn result.step.kind (records_of form)) samples.now result.step.start result.step.end }
-    ensures ends { AreEnds (records_of form) samples.now frontier result.step.end result.ends }
+    ensures step { IsFound (records_of form) samples.now frontier result }
     ensures steim2 { result.ends.steim2 ≡ ends.steim2 }
     ensures groups { result.ends.groups ≡ ends.groups }
 {
@@ -279,12 +275,7 @@ fn with_wide_integers(
 /// too many of the differences up to there are of more than 10 bits for a record of differences.
 fn integers_alone(samples: &[i32], form: Form, frontier: usize) -> Option<StepWithEnds>
     requires { frontier ≤ length samples.now }
-    ensures step { IfSome result (λ found. IsStep
-        (FitsAny (records_of form)) samples.now frontier found.step.end found.step.start) }
-    ensures kind { IfSome result (λ found. IsRun
-        (FitsIn found.step.kind (records_of form)) samples.now found.step.start found.step.end) }
-    ensures ends { IfSome result (λ found. AreEnds
-        (records_of form) samples.now frontier found.step.end found.ends) }
+    ensures step { IfSome result (IsFound (records_of form) samples.now frontier) }
     ensures groups { IfSome result (λ found. found.ends.groups ≡ 0) }
 {
     if !form.kinds.contains(Kind::Int16) {
@@ -325,12 +316,7 @@ fn steim1_without_steim2(
     requires within { frontier ≤ length samples.now }
     requires chosen { IsChosen form.kinds FirstSteim }
     requires by_steim1 { IsSteim1Step (records_of form) samples.now frontier by_steim1 }
-    ensures step { IfSome result (λ found. IsStep
-        (FitsAny (records_of form)) samples.now frontier found.step.end found.step.start) }
-    ensures kind { IfSome result (λ found. IsRun
-        (FitsIn found.step.kind (records_of form)) samples.now found.step.start found.step.end) }
-    ensures ends { IfSome result (λ found. AreEnds
-        (records_of form) samples.now frontier found.step.end found.ends) }
+    ensures step { IfSome result (IsFound (records_of form) samples.now frontier) }
     ensures groups { IfSome result (λ found. found.ends.groups ≡ 0) }
 {
     let most = 2 * form.length.data_words();
@@ -377,9 +363,7 @@ pub(crate) fn next_step(
     words: &mut [u32],
 ) -> StepWithEnds
     requires { frontier ≤ length samples.now }
-    ensures step { IsStep (FitsAny (records_of form)) samples.now frontier result.step.end result.step.start }
-    ensures kind { IsRun (FitsIn result.step.kind (records_of form)) samples.now result.step.start result.step.end }
-    ensures ends { AreEnds (records_of form) samples.now frontier result.step.end result.ends }
+    ensures step { IsFound (records_of form) samples.now frontier result }
     ensures sizes { HaveSizes samples.now frontier result.ends.steim2 result.ends.groups sizes.new words.new }
 {
     if likely == Kind::Int16 {
@@ -429,9 +413,7 @@ pub(crate) fn step_from(
 ) -> StepWithEnds
     requires within { frontier ≤ length samples.now }
     requires known { IfSome known (IsSteim1Step (records_of form) samples.now frontier) }
-    ensures step { IsStep (FitsAny (records_of form)) samples.now frontier result.step.end result.step.start }
-    ensures kind { IsRun (FitsIn result.step.kind (records_of form)) samples.now result.step.start result.step.end }
-    ensures ends { AreEnds (records_of form) samples.now frontier result.step.end result.ends }
+    ensures step { IsFound (records_of form) samples.now frontier result }
     ensures sizes { HaveSizes samples.now frontier result.ends.steim2 result.ends.groups sizes.new words.new }
 {
     let reach = steim2_end(samples, form, frontier, sizes, words);

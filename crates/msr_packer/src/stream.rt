@@ -6,7 +6,7 @@ ghost use Rattle.msr_kinds.specs.Forms.{all_kinds};
 ghost use Rattle.msr_words.specs.declared.kinds.Run.{Run};
 ghost use Rattle.msr_words.specs.Laws.{most_any};
 ghost use Rattle.msr_packer.specs.Blocks.{pushed};
-ghost use Rattle.msr_packer.specs.HeldSamples.{HoldsRest, frontier_of, pieces_of, runs_of, samples_of, separators_of};
+ghost use Rattle.msr_packer.specs.HeldSamples.{HoldsNeeded, frontier_of, pieces_of, runs_of, samples_of, separators_of};
 ghost use Rattle.msr_packer.specs.Stream.{IsEnd, IsStreaming, PiecesBeginAll, StreamLeavesFew, Streams};
 
 use crate::growing::GrowingRun;
@@ -41,11 +41,7 @@ fn both(first: Option<Piece>, last: Option<Piece>) -> ArrayVec<Piece, 2>
 fn forget(held: &mut HeldSamples, growing: &mut GrowingRun)
     requires { IsStreaming held.old growing.old }
     ensures streaming { IsStreaming held.new growing.new }
-    ensures holds { (samples : List ℤ) (runs : List Run) (separators : List ℕ)
-        → HoldsRest samples runs separators held.old
-        → HoldsRest samples runs separators held.new }
-    ensures form { held.new.form ≡ held.old.form }
-    ensures number { held.new.offset + length held.new.samples.items ≡ held.old.offset + length held.old.samples.items }
+    ensures needed { HoldsNeeded held.old held.new }
     ensures near { frontier_of held.new.current ≤ most_any (records_of held.new.form) + 1 }
     ensures behind { length held.new.samples.items ≤ frontier_of held.new.current + most_any
         (records_of held.new.form) }
@@ -136,7 +132,7 @@ impl StreamPacker {
     pub fn run_samples(&self) -> &[i32]
         ensures { result.now ≡ self.now.shown }
     {
-        self.held.shown()
+        &self.held.samples.as_slice()[self.held.from..self.held.to]
     }
 
     /// The pieces that were not given, if no sample follows: at most two. It takes no memory.

@@ -14,7 +14,7 @@ use Rattle.byteorder.specs.Numbers.{big_number-reads_back, length-bytes_high_fir
 use Rattle.msr_base.specs.declared.order.Order.{Order}
 use Rattle.msr_base.specs.declared.order.Order.TheVariants.{Big}
 use Rattle.msr_kinds.specs.Storage.{size_of}
-use Rattle.msr_plain.specs.Plain.{CarriesPlain, FitsThreeBytes, FitsWidth, bytes_of, bytes_of_all, number_in, sample_at}
+use Rattle.msr_plain.specs.Plain.{CarriesPlain, FitsThreeBytes, FitsWidth, bytes_of, bytes_of_all, number_in}
 use Rattle.msr_kinds.specs.declared.storage.Width.{Width}
 use Rattle.msr_kinds.specs.declared.storage.Width.TheVariants.{Two, Three, Four}
 
@@ -59,7 +59,8 @@ next_place width x rest place =
     ∙ drop-append-add (bytes_of width x) rest (size_of width * place)
 
 each_back : (width : Width) (xs : List ℤ) (rest : List ℕ) (place : ℕ) → All (FitsWidth width) xs
-    → place < length xs → get_or xs place (pos 0) ≡ sample_at width Big (bytes_of_all width xs ++ rest) place
+    → place < length xs → get_or xs place (pos 0)
+    ≡ number_in width Big (drop (size_of width * place) (bytes_of_all width xs ++ rest))
 each_back width [] rest place fit h = absurd (omega (arith, h))
 each_back width (x ∷ xs) rest zero fit h =
     let apart = append_assoc (bytes_of width x) (bytes_of_all width xs) rest in

@@ -3,7 +3,7 @@ use Rattle.std.proofs.Common.{◌≡◌, ℕ, zero, suc, ◌+◌, ◌-◌, ◌*�
 use Rattle.std.proofs.lemmas.List.{length-drop, take_all, drop-drop}
 use Rattle.msr_base.specs.declared.order.Order.{Order}
 use Rattle.msr_kinds.specs.Storage.{size_of}
-use Rattle.msr_plain.specs.Plain.{CarriesPlain, number_in, numbers_in, sample_at}
+use Rattle.msr_plain.specs.Plain.{CarriesPlain, number_in, numbers_in}
 use Rattle.msr_kinds.specs.declared.storage.Width.{Width}
 
 pub length-numbers_in : (width : Width) (order : Order) (area : List ℕ) (count : ℕ)
@@ -13,7 +13,8 @@ length-numbers_in width order area (suc count) =
     ap suc (length-numbers_in width order (drop (size_of width) area) count)
 
 each_in : (width : Width) (order : Order) (area : List ℕ) (count place : ℕ) → place < count
-    → get_or (numbers_in width order area count) place (pos 0) ≡ sample_at width order area place
+    → get_or (numbers_in width order area count) place (pos 0)
+    ≡ number_in width order (drop (size_of width * place) area)
 each_in width order area zero place h = absurd (omega (arith, h))
 each_in width order area (suc count) zero h =
     let none : size_of width * 0 ≡ 0 = omega arith in

@@ -72,7 +72,6 @@ pub fn decode_plain_into(
     area: &[u8],
     out: &mut [i32],
 ) -> Result<(), PlainFault>
-    requires { length out.old ≤ 65535 }
     ensures samples { OnOk result (CarriesPlain width order area.now out.new) }
     ensures short { IsErrOf result PlainFault.DataShort ↔ (length area.now < size_of width * length out.old) }
     ensures never_memory { IsErrOf result PlainFault.Memory → ⊥ }
@@ -92,25 +91,9 @@ pub fn decode_plain_into(
     Ok(())
 }
 
-/// The first `count` samples that the area carries, by `decode_plain_in` in memory of their own.
+/// The first `count` samples that the area carries, by `decode_plain_into` in memory of their own.
 pub fn decode_plain(
     alloc: Global,
-    width: Width,
-    order: Order,
-    area: &[u8],
-    count: u16,
-) -> Result<SampleVec, PlainFault>
-    ensures samples { IfOk result (λ samples. CarriesPlain width order area.now samples) }
-    ensures count { IfOk result (λ samples. length samples ≡ count) }
-    ensures short { IsErrOf result PlainFault.DataShort ↔ (length area.now < size_of width * count) }
-{
-    decode_plain_in(SampleVec::new(alloc), width, order, area, count)
-}
-
-/// The first `count` samples that the area carries, in the memory of `spare`, whose own samples do not matter. Bytes
-/// after them are not looked at.
-pub fn decode_plain_in(
-    spare: SampleVec,
     width: Width,
     order: Order,
     area: &[u8],
@@ -126,7 +109,7 @@ pub fn decode_plain_in(
     if area.len() < width.bytes() * count {
         return Err(PlainFault::DataShort);
     }
-    let mut values = spare.into_places(count)?;
+    let mut values = SampleVec::new(alloc).into_places(count)?;
     decode_plain_into(width, order, area, values.as_mut_slice())?;
     Ok(SampleVec::from_vec(values))
 }

@@ -15,11 +15,11 @@ use Rattle.msr_header.specs.Writing.{header_bytes, IsWritable, as_read}
 use Rattle.msr_base.specs.declared.order.Order.TheVariants.{Big}
 use Rattle.msr_header.specs.declared.header.Header.{Header}
 use Rattle.msr_kinds.specs.RecordLength.{least_exponent, most_exponent}
-use Rattle.msr_kinds.specs.Codes.{code_of}
+use Rattle.msr_kinds.specs.Kinds.{code_of}
 use Rattle.msr_kinds.specs.Storage.{storage_of}
 use Rattle.msr_kinds.specs.declared.kinds.Kind.{Kind}
 use Rattle.msr_kinds.specs.declared.kinds.Kind.TheVariants.{Int16, Int24, Int32, Steim1, Steim2}
-use Rattle.msr_rows.specs.Kinds.{kind_of_code}
+use Rattle.msr_rows.specs.Records.{kind_of_code}
 use Rattle.msr_rows.specs.Correction.{key_of, start_of, is_pending, correction_micros}
 use Rattle.msr_rows.specs.Area.{Carries, ReverseAgrees}
 use Rattle.msr_rows.specs.Records.{has_area, field_faults, data_area, IsRowOf}

@@ -13,9 +13,11 @@ use Rattle.msr_steim.specs.Frames.{frame_bytes}
 use Rattle.msr_kinds.specs.declared.storage.Version.{Version}
 use Rattle.msr_kinds.specs.declared.storage.Storage.{Storage}
 use Rattle.msr_kinds.specs.declared.storage.Storage.TheVariants.{Integers, Frames}
+use Rattle.msr_filling.specs.GroupWords.{AreGroupWordsIfKnown}
 use Rattle.msr_words.specs.Canonical.{IsCanonicalDivision}
+use Rattle.msr_words.specs.Groups.{AreGroupSizesIfKnown}
 use Rattle.msr_words.specs.Fit.{Fits}
-use Rattle.msr_kinds.specs.Codes.{code_of}
+use Rattle.msr_kinds.specs.Kinds.{code_of}
 use Rattle.msr_kinds.specs.RecordLength.{IsRecordLength}
 use Rattle.msr_words.specs.Segment.{differences, points}
 use Rattle.msr_kinds.specs.declared.kinds.Kind.{Kind}
@@ -92,6 +94,21 @@ pub record IsWrittenRecord (bytes : List ℕ) (key : Key) (start : ℤ) (sequenc
   pub is_area : IsWrittenArea (storage_of kind) before samples (size - 64) frames area
   pub bytes_are : bytes ≡ header_bytes (header_for key time micros sequence
       (length samples) kind power.exponent frames) ++ area
+
+-- the samples can be written as a record of that kind and size, with that sequence number
+pub record CanWrite (key : Key) (start : ℤ) (sequence : ℕ) (before : Option ℤ) (samples : List ℤ) (kind : Kind)
+    (size : ℕ) : Type 0 where
+  pub quality : IsTrue (is_quality key.quality)
+  pub normal : is_pending key.activity key.correction ≡ false
+  pub instant : IsInstant start
+  pub number : (1 ≤ sequence) × (sequence ≤ 999999)
+  pub some : 1 ≤ length samples
+  pub fits : Fits kind size (points before samples)
+
+-- the sizes and the words are told of the groups of their differences, or it is not known what they are
+pub record KnowsGroups (before : Option ℤ) (samples : List ℤ) (sizes words : List ℕ) : Type 0 where
+  pub sizes_are : AreGroupSizesIfKnown (differences before samples) sizes
+  pub words_are : AreGroupWordsIfKnown (differences before samples) sizes words
 
 -- After the old bytes the new ones have the written record of these samples. Whatever follows it, it is read
 -- as their row, and its reverse constant agrees.

@@ -4,7 +4,6 @@
 mod laws;
 mod writing;
 mod written_area;
-mod written_run;
 
 pub use laws::{one_written, run_has_record};
 pub use msr_kinds::{Kind, Length};
@@ -13,5 +12,4 @@ pub use msr_rows::{
     own_bytes_decide, reverse_in, rows_are_writable, view_record,
 };
 pub use writing::{encode_record, encode_run};
-pub use written_area::samples_have_32_bits;
-pub use written_run::WrittenRun;
+pub use written_area::{WrittenRun, samples_have_32_bits};

@@ -4,14 +4,11 @@ ghost use Rattle.msr_time.specs.Instant.{IsInstant};
 ghost use Rattle.msr_header.specs.Reading.{is_quality};
 ghost use Rattle.msr_words.specs.Fit.{Fits};
 ghost use Rattle.msr_kinds.specs.Lengths.{bytes_of};
-ghost use Rattle.msr_words.specs.Groups.{AreGroupSizesIfKnown};
-ghost use Rattle.msr_words.specs.Segment.{differences, points};
+ghost use Rattle.msr_words.specs.Segment.{points};
 ghost use Rattle.msr_rows.specs.Correction.{is_pending};
-ghost use Rattle.msr_filling.specs.GroupWords.{AreGroupWordsIfKnown};
-ghost use Rattle.msr_record.specs.Written.{sequence_digits, header_for, AppendsRecord};
+ghost use Rattle.msr_record.specs.Written.{sequence_digits, header_for, AppendsRecord, CanWrite, KnowsGroups};
 
-use crate::written_area::fill_area;
-use crate::written_run::WrittenRun;
+use crate::written_area::{WrittenRun, fill_area};
 use msr_header::{Header, Order, Timing, write_header};
 use msr_kinds::{Kind, Length};
 use msr_rows::Key;
@@ -40,21 +37,17 @@ fn sequence_digits(sequence: u32) -> [u8; 6]
     ]
 }
 
-/// What a written header has beside what the run says: time, number of samples, length, frames.
-#[derive(Drop)]
-struct FieldsOfData {
+/// The header of a written record.
+fn header_for(
+    run: &WrittenRun<'_>,
     time: BTime,
     micros: u8,
     count: u16,
     exponent: u8,
     frames: u8,
-}
-
-/// The header of a written record.
-fn header_for(run: &WrittenRun<'_>, fields: FieldsOfData) -> Header
-    requires { fields.micros < 100 }
-    ensures header { result ≡ header_for run.now.key.now fields.time fields.micros run.now.sequence fields.count
-        run.now.kind fields.exponent fields.frames }
+) -> Header
+    requires { micros < 100 }
+    ensures header { result ≡ header_for run.now.key.now time micros run.now.sequence count run.now.kind exponent frames }
     ensures rate { (run.now.key.now.rate.factor ≢ pos 0) × (run.now.key.now.rate.multiplier ≢ pos 0) }
 {
     let key = run.key;
@@ -66,8 +59,8 @@ fn header_for(run: &WrittenRun<'_>, fields: FieldsOfData) -> Header
         location: key.location,
         channel: key.channel,
         network: key.network,
-        time: fields.time,
-        samples: fields.count,
+        time,
+        samples: count,
         factor: key.rate.factor(),
         multiplier: key.rate.multiplier(),
         activity: key.activity,
@@ -77,11 +70,11 @@ fn header_for(run: &WrittenRun<'_>, fields: FieldsOfData) -> Header
         data_at: 64,
         encoding: run.kind.code(),
         data_order: Order::Big,
-        exponent: fields.exponent,
+        exponent,
         timing: Some(Timing {
             quality: key.timing,
-            micros: fields.micros as i8,
-            frames: fields.frames,
+            micros: micros as i8,
+            frames,
         }),
         chain_end: 64,
     }
@@ -102,15 +95,9 @@ fn fill_record(
     record_length: Length,
     bytes: &mut [u8],
 ) -> Result<(), AllocError>
-    requires quality { IsTrue (is_quality run.now.key.now.quality) }
-    requires normal { is_pending run.now.key.now.activity run.now.key.now.correction ≡ false }
-    requires start { IsInstant run.now.start }
-    requires sequence { (1 ≤ run.now.sequence) × (run.now.sequence ≤ 999999) }
-    requires some { 1 ≤ length run.now.samples.now }
-    requires fits { Fits run.now.kind (bytes_of record_length) (points run.now.before run.now.samples.now) }
-    requires sizes { AreGroupSizesIfKnown (differences run.now.before run.now.samples.now) run.now.group_sizes.now }
-    requires words { AreGroupWordsIfKnown (differences run.now.before run.now.samples.now) run.now.group_sizes.now
-        run.now.group_words.now }
+    requires can { CanWrite run.now.key.now run.now.start run.now.sequence run.now.before run.now.samples.now
+        run.now.kind (bytes_of record_length) }
+    requires groups { KnowsGroups run.now.before run.now.samples.now run.now.group_sizes.now run.now.group_words.now }
     requires size { length bytes.old ≡ bytes_of record_length }
     ensures { OnOk result (AppendsRecord [] bytes.new run.now.key.now run.now.start run.now.sequence run.now.before
         run.now.samples.now run.now.kind (bytes_of record_length)) }
@@ -120,16 +107,7 @@ fn fill_record(
     let frames = fill_area(alloc, run, run.kind.storage(), record_length, area)?;
     let count = run.samples.len() as u16;
     let exponent = record_length.exponent();
-    let header = header_for(
-        run,
-        FieldsOfData {
-            time,
-            micros,
-            count,
-            exponent,
-            frames,
-        },
-    );
+    let header = header_for(run, time, micros, count, exponent, frames);
     put_header(bytes, &write_header(&header));
     Ok(())
 }
@@ -143,15 +121,9 @@ pub fn encode_run(
     record_length: Length,
     out: &mut Vec<u8>,
 ) -> Result<(), AllocError>
-    requires quality { IsTrue (is_quality run.now.key.now.quality) }
-    requires normal { is_pending run.now.key.now.activity run.now.key.now.correction ≡ false }
-    requires start { IsInstant run.now.start }
-    requires sequence { (1 ≤ run.now.sequence) × (run.now.sequence ≤ 999999) }
-    requires some { 1 ≤ length run.now.samples.now }
-    requires fits { Fits run.now.kind (bytes_of record_length) (points run.now.before run.now.samples.now) }
-    requires sizes { AreGroupSizesIfKnown (differences run.now.before run.now.samples.now) run.now.group_sizes.now }
-    requires words { AreGroupWordsIfKnown (differences run.now.before run.now.samples.now) run.now.group_sizes.now
-        run.now.group_words.now }
+    requires can { CanWrite run.now.key.now run.now.start run.now.sequence run.now.before run.now.samples.now
+        run.now.kind (bytes_of record_length) }
+    requires groups { KnowsGroups run.now.before run.now.samples.now run.now.group_sizes.now run.now.group_words.now }
     ensures appended { OnOk result
         (AppendsRecord out.old.items out.new.items run.now.key.now run.now.start run.now.sequence run.now.before
         run.now.samples.now run.now.kind (bytes_of record_length)) }

@@ -1,25 +1,40 @@
-//! The data area of a written record.
+//! What a record is to carry, and its data area.
 ghost use Rattle.std.specs.Prelude.{◌≡◌, ◌-◌, ◌*◌, ◌/◌, ◌%◌, ◌^◌, ◌<◌, ◌≤◌, All, FitsSigned, IfOk, OnOk, length};
 ghost use Rattle.std.specs.Int.{w32};
 ghost use Rattle.msr_steim.specs.Area.{CarriesSteim, ReverseAgrees as FramesAgree};
 ghost use Rattle.msr_kinds.specs.declared.storage.Version.TheVariants.{Two};
 ghost use Rattle.msr_words.specs.Division.{CanDivide};
-ghost use Rattle.msr_words.specs.Groups.{AreGroupSizesIfKnown};
 ghost use Rattle.msr_filling.specs.Filled.{IsFilledArea};
 ghost use Rattle.msr_words.specs.Fit.{HasRoom};
 ghost use Rattle.msr_kinds.specs.RecordLength.{words_of};
 ghost use Rattle.msr_kinds.specs.Lengths.{bytes_of};
 ghost use Rattle.msr_words.specs.Segment.{differences, points};
 ghost use Rattle.msr_rows.specs.Area.{Carries, ReverseAgrees};
-ghost use Rattle.msr_filling.specs.GroupWords.{AreGroupWordsIfKnown};
-ghost use Rattle.msr_record.specs.Written.{AreFrames, IsWrittenArea, frame_count};
+ghost use Rattle.msr_record.specs.Written.{AreFrames, IsWrittenArea, KnowsGroups, frame_count};
 
-use crate::written_run::WrittenRun;
 use msr_filling::{fill_steim1, fill_steim2, fill_steim2_told};
 use msr_header::Order;
-use msr_kinds::{Length, Storage, Version};
+use msr_kinds::{Kind, Length, Storage, Version};
 use msr_plain::fill_plain;
+use msr_rows::Key;
 use std::alloc::{AllocError, Global};
+
+/// A run of samples as a record is to carry it.
+#[derive(Drop)]
+pub struct WrittenRun<'a> {
+    pub key: &'a Key,
+    /// The instant of the first sample, in microseconds from 1970-01-01 00:00:00.
+    pub start: i64,
+    pub sequence: u32,
+    /// The sample before the run, or none at the start of a segment.
+    pub before: Option<i32>,
+    pub samples: &'a [i32],
+    pub kind: Kind,
+    /// The sizes of the run's Steim-2 groups, or none if they are not known.
+    pub group_sizes: &'a [u8],
+    /// The words of these groups, as they stand in a big-endian record, or none if they are not known.
+    pub group_words: &'a [u32],
+}
 
 /// Each sample has 32 bits. A proof knows the range of a number in a slice only once it was read, so this reads each.
 pub fn samples_have_32_bits(run: &[i32])
@@ -45,9 +60,7 @@ fn fill_steim2_words(run: &WrittenRun<'_>, area: &mut [u8]) -> usize
     requires some { 1 ≤ length run.now.samples.now }
     requires frames { length area.old % 64 ≡ 0 }
     requires fits { CanDivide Two (15 * (length area.old / 64) - 2) (differences run.now.before run.now.samples.now) }
-    requires sizes { AreGroupSizesIfKnown (differences run.now.before run.now.samples.now) run.now.group_sizes.now }
-    requires words { AreGroupWordsIfKnown (differences run.now.before run.now.samples.now) run.now.group_sizes.now
-        run.now.group_words.now }
+    requires groups { KnowsGroups run.now.before run.now.samples.now run.now.group_sizes.now run.now.group_words.now }
     ensures { IsFilledArea Two run.now.before run.now.samples.now (length area.old / 64) area.new result }
 {
     if run.group_words.is_empty() {
@@ -67,9 +80,7 @@ fn fill_words(
     requires some { 1 ≤ length run.now.samples.now }
     requires frames { length area.old % 64 ≡ 0 }
     requires fits { CanDivide version (15 * (length area.old / 64) - 2) (differences run.now.before run.now.samples.now) }
-    requires sizes { AreGroupSizesIfKnown (differences run.now.before run.now.samples.now) run.now.group_sizes.now }
-    requires words { AreGroupWordsIfKnown (differences run.now.before run.now.samples.now) run.now.group_sizes.now
-        run.now.group_words.now }
+    requires groups { KnowsGroups run.now.before run.now.samples.now run.now.group_sizes.now run.now.group_words.now }
     ensures { IfOk result (IsFilledArea version run.now.before run.now.samples.now (length area.old / 64) area.new) }
 {
     match version {
@@ -89,9 +100,7 @@ fn fill_steim_area(
     requires some { 1 ≤ length run.now.samples.now }
     requires range { All (FitsSigned w32) run.now.samples.now }
     requires fits { CanDivide version (words_of (bytes_of record_length)) (differences run.now.before run.now.samples.now) }
-    requires sizes { AreGroupSizesIfKnown (differences run.now.before run.now.samples.now) run.now.group_sizes.now }
-    requires words { AreGroupWordsIfKnown (differences run.now.before run.now.samples.now) run.now.group_sizes.now
-        run.now.group_words.now }
+    requires groups { KnowsGroups run.now.before run.now.samples.now run.now.group_sizes.now run.now.group_words.now }
     requires size { length area.old ≡ bytes_of record_length - 64 }
     ensures written { IfOk result (λ frames. AreFrames version run.now.before run.now.samples.now
         (bytes_of record_length - 64) frames area.new) }
@@ -114,9 +123,7 @@ pub(crate) fn fill_area(
 ) -> Result<u8, AllocError>
     requires some { 1 ≤ length run.now.samples.now }
     requires fits { HasRoom storage (bytes_of record_length) (points run.now.before run.now.samples.now) }
-    requires sizes { AreGroupSizesIfKnown (differences run.now.before run.now.samples.now) run.now.group_sizes.now }
-    requires words { AreGroupWordsIfKnown (differences run.now.before run.now.samples.now) run.now.group_sizes.now
-        run.now.group_words.now }
+    requires groups { KnowsGroups run.now.before run.now.samples.now run.now.group_sizes.now run.now.group_words.now }
     requires size { length area.old ≡ bytes_of record_length - 64 }
     ensures written { IfOk result (λ frames. IsWrittenArea storage run.now.before run.now.samples.now
         (bytes_of record_length - 64) frames area.new) }

@@ -9,7 +9,7 @@ use Rattle.msr_base.specs.declared.counts.Counts.{Counts}
 use Rattle.msr_report.specs.declared.report.SegmentLine.{SegmentLine}
 use Rattle.msr_report_reader.specs.Content.{Content, ContentLine, IsContent, IsFirst, IsContentLine, IsContentLineText, AreContentLineTexts, IsOpening, content_records, content_line, first_then, lines_before, three_then}
 use Rattle.msr_report_reader.specs.Fault.{IsOneLine, AreLines, BeginsReport}
-use Rattle.msr_report_reader.specs.Rest.{body_1, body_2, body_3, body_5}
+use Rattle.msr_report_reader.proofs.Rest.{body_1, body_2, body_3, body_5}
 use Rattle.msr_report_reader.proofs.RestOfText.{not_empty, content_with, one_2, one_3, one_5, counts_then, words_are_one}
 use Rattle.msr_report_reader.proofs.Segments.{opening_body, end_body, opening_then, end_then, words_then}
 use Rattle.msr_report_reader.proofs.OneLines.{opening_is_one, end_is_one}

@@ -1,111 +1,76 @@
--- Two, three and five bytes of a name.
-use Rattle.std.proofs.Common.{◌≡◌, ◌∙◌, ap, refl, arith, ℕ, ◌<◌, List, [], ◌∷◌, ◌++◌, append_assoc, get_or, length}
+-- Bytes of a name, one after another.
+use Rattle.std.proofs.Common.{◌≡◌, ◌∙◌, ap, arith, ℕ, ◌+◌, ◌<◌, List, [], ◌∷◌, ◌++◌, append_assoc, drop, length, refl, slice_index, sym, take}
+use Rattle.std.specs.Prelude.{slice_set}
+use Rattle.std.proofs.lemmas.List.{drop_all, drop_more, length-set, take_all, take_more, take_more_set}
 use Rattle.msr_report.specs.Text.{byte_text, field_text}
 use Rattle.msr_report_reader.specs.Fields.{AreBytes}
 
-pub record Two (bytes : List ℕ) : Type 0 where
-  pub a : ℕ
-  pub b : ℕ
-  pub small_a : a < 256
-  pub small_b : b < 256
-  pub is : bytes ≡ a ∷ b ∷ []
+-- The first bytes of a name were read, and the rest of the text follows. If the text is that of any name, they are its
+-- first ones.
+pub record AreRead (count at : ℕ) (text bytes rest : List ℕ) : Type 0 where
+  pub many : length bytes ≡ count
+  pub found : text ≡ field_text (take at bytes) ++ rest
+  pub only : (all more : List ℕ) → AreBytes count all → text ≡ field_text all ++ more
+      → (take at bytes ≡ take at all) × (rest ≡ field_text (drop at all) ++ more)
 
-pub two : (bytes : List ℕ) → AreBytes 2 bytes → Two bytes
-two [] are = absurd (omega (arith, are.many))
-two (a ∷ []) are = absurd (omega (arith, are.many))
-two (a ∷ b ∷ []) are = record { a = a; b = b; small_a = are.each 0; small_b = are.each 1; is = refl }
-two (a ∷ b ∷ c ∷ more) are = absurd (omega (arith, are.many))
+pub none_read : (count : ℕ) (text bytes : List ℕ) → length bytes ≡ count → AreRead count 0 text bytes text
+none_read count text bytes many = record { many = many; found = refl; only = λ all more are is. (refl, is) }
 
-pub two_text : (bytes more : List ℕ) (t : Two bytes)
-    → field_text bytes ++ more ≡ byte_text t.a ++ (byte_text t.b ++ more)
-two_text bytes more t = rw t.is (simp append_assoc)
+pushed : (front : List ℕ) (b : ℕ) (more : List ℕ)
+    → field_text (front ++ b ∷ []) ++ more ≡ field_text front ++ (byte_text b ++ more)
+pushed [] b more = append_assoc (byte_text b) [] more
+pushed (a ∷ front) b more =
+    append_assoc (byte_text a) (field_text (front ++ b ∷ [])) more
+    ∙ ap (λ (l : List ℕ). byte_text a ++ l) (pushed front b more)
+    ∙ sym (append_assoc (byte_text a) (field_text front) (byte_text b ++ more))
 
-pub record Three (bytes : List ℕ) : Type 0 where
-  pub a : ℕ
-  pub b : ℕ
-  pub c : ℕ
-  pub small_a : a < 256
-  pub small_b : b < 256
-  pub small_c : c < 256
-  pub is : bytes ≡ a ∷ b ∷ c ∷ []
+-- the next byte of a name that the text may be of
+next_of : (count at : ℕ) (all rest more : List ℕ) → at < count → AreBytes count all
+    → rest ≡ field_text (drop at all) ++ more
+    → rest ≡ byte_text (slice_index all at) ++ (field_text (drop (at + 1) all) ++ more)
+next_of count at all rest more within are is =
+    is ∙ ap (λ (l : List ℕ). field_text l ++ more) (drop_more all at 0 (omega (arith, within, are.many)))
+    ∙ append_assoc (byte_text (slice_index all at)) (field_text (drop (at + 1) all)) more
 
-pub three : (bytes : List ℕ) → AreBytes 3 bytes → Three bytes
-three [] are = absurd (omega (arith, are.many))
-three (a ∷ []) are = absurd (omega (arith, are.many))
-three (a ∷ b ∷ []) are = absurd (omega (arith, are.many))
-three (a ∷ b ∷ c ∷ []) are = record {
-  a = a;
-  b = b;
-  c = c;
-  small_a = are.each 0;
-  small_b = are.each 1;
-  small_c = are.each 2;
-  is = refl;
-}
-three (a ∷ b ∷ c ∷ d ∷ more) are = absurd (omega (arith, are.many))
+pub one_read : (count at b : ℕ) (text bytes rest more : List ℕ) → at < count → AreRead count at text bytes rest
+    → rest ≡ byte_text b ++ more
+    → ((d : ℕ) (left : List ℕ) → d < 256 → rest ≡ byte_text d ++ left → (b ≡ d) × (more ≡ left))
+    → AreRead count (at + 1) text (slice_set bytes at b) more
+one_read count at b text bytes rest more within read is only =
+    let stored = take_more_set bytes at b (omega (arith, within, read.many)) in
+    record {
+      many = length-set bytes at b ∙ read.many;
+      found = read.found ∙ ap (λ (l : List ℕ). field_text (take at bytes) ++ l) is ∙ sym (pushed (take at bytes) b more)
+          ∙ ap (λ (l : List ℕ). field_text l ++ more) (sym stored);
+      only = λ all left are whole.
+          let before = read.only all left are whole in
+          let one = only (slice_index all at) (field_text (drop (at + 1) all) ++ left) (are.each at)
+          (next_of count at all rest left within are before.1) in (
+            stored ∙ ap (λ (l : List ℕ). l ++ b ∷ []) before.0
+                ∙ ap (λ (d : ℕ). take at all ++ d ∷ []) one.0
+                ∙ sym (take_more all at 0 (omega (arith, within, are.many))),
+            one.1,
+          );
+    }
 
-pub three_text : (bytes more : List ℕ) (t : Three bytes)
-    → field_text bytes ++ more ≡ byte_text t.a ++ (byte_text t.b ++ (byte_text t.c ++ more))
-three_text bytes more t = rw t.is (simp append_assoc)
+-- no name goes on with what is no byte of a name
+pub no_more_read : (count at : ℕ) (text bytes rest : List ℕ) → at < count → AreRead count at text bytes rest
+    → ((d : ℕ) (left : List ℕ) → d < 256 → rest ≡ byte_text d ++ left → ⊥)
+    → (all more : List ℕ) → AreBytes count all → text ≡ field_text all ++ more → ⊥
+no_more_read count at text bytes rest within read none all more are whole =
+    none (slice_index all at) (field_text (drop (at + 1) all) ++ more) (are.each at)
+    (next_of count at all rest more within are (read.only all more are whole).1)
 
-pub record Five (bytes : List ℕ) : Type 0 where
-  pub a : ℕ
-  pub b : ℕ
-  pub c : ℕ
-  pub d : ℕ
-  pub e : ℕ
-  pub small_a : a < 256
-  pub small_b : b < 256
-  pub small_c : c < 256
-  pub small_d : d < 256
-  pub small_e : e < 256
-  pub is : bytes ≡ a ∷ b ∷ c ∷ d ∷ e ∷ []
+pub all_read : (count at : ℕ) (text bytes rest : List ℕ) → at ≡ count → AreRead count at text bytes rest
+    → text ≡ field_text bytes ++ rest
+all_read count at text bytes rest end read =
+    read.found ∙ ap (λ (l : List ℕ). field_text l ++ rest) (take_all at bytes (omega (arith, end, read.many)))
 
-pub five : (bytes : List ℕ) → AreBytes 5 bytes → Five bytes
-five [] are = absurd (omega (arith, are.many))
-five (a ∷ []) are = absurd (omega (arith, are.many))
-five (a ∷ b ∷ []) are = absurd (omega (arith, are.many))
-five (a ∷ b ∷ c ∷ []) are = absurd (omega (arith, are.many))
-five (a ∷ b ∷ c ∷ d ∷ []) are = absurd (omega (arith, are.many))
-five (a ∷ b ∷ c ∷ d ∷ e ∷ []) are = record {
-  a = a;
-  b = b;
-  c = c;
-  d = d;
-  e = e;
-  small_a = are.each 0;
-  small_b = are.each 1;
-  small_c = are.each 2;
-  small_d = are.each 3;
-  small_e = are.each 4;
-  is = refl;
-}
-five (a ∷ b ∷ c ∷ d ∷ e ∷ f ∷ more) are = absurd (omega (arith, are.many))
-
-pub five_text : (bytes more : List ℕ) (t : Five bytes)
-    → field_text bytes ++ more ≡ byte_text t.a ++
-    (byte_text t.b ++ (byte_text t.c ++ (byte_text t.d ++ (byte_text t.e ++ more))))
-five_text bytes more t = rw t.is (simp append_assoc)
-
--- the texts of bytes that were read one part after the other
-pub three_found : (text more rest front : List ℕ) (c : ℕ) → length front ≡ 2 → text ≡ field_text front ++ more
-    → more ≡ byte_text c ++ rest → text ≡ field_text (get_or front 0 0 ∷ get_or front 1 0 ∷ c ∷ []) ++ rest
-three_found text more rest [] c long first last = absurd (omega (arith, long))
-three_found text more rest (a ∷ []) c long first last = absurd (omega (arith, long))
-three_found text more rest (a ∷ b ∷ []) c long first last =
-    first ∙ ap (λ (l : List ℕ). field_text (a ∷ b ∷ []) ++ l) last ∙ simp append_assoc
-three_found text more rest (a ∷ b ∷ d ∷ others) c long first last = absurd (omega (arith, long))
-
-pub five_found : (text more rest front back : List ℕ) → length front ≡ 3 → length back ≡ 2
-    → text ≡ field_text front ++ more → more ≡ field_text back ++ rest
-    → text ≡ field_text (get_or front 0 0 ∷ get_or front 1 0 ∷ get_or front 2 0
-    ∷ get_or back 0 0 ∷ get_or back 1 0 ∷ []) ++ rest
-five_found text more rest [] back long short first last = absurd (omega (arith, long))
-five_found text more rest (a ∷ []) back long short first last = absurd (omega (arith, long))
-five_found text more rest (a ∷ b ∷ []) back long short first last = absurd (omega (arith, long))
-five_found text more rest (a ∷ b ∷ c ∷ []) [] long short first last = absurd (omega (arith, short))
-five_found text more rest (a ∷ b ∷ c ∷ []) (d ∷ []) long short first last = absurd (omega (arith, short))
-five_found text more rest (a ∷ b ∷ c ∷ []) (d ∷ e ∷ []) long short first last =
-    first ∙ ap (λ (l : List ℕ). field_text (a ∷ b ∷ c ∷ []) ++ l) last ∙ simp append_assoc
-five_found text more rest (a ∷ b ∷ c ∷ []) (d ∷ e ∷ f ∷ others) long short first last = absurd (omega (arith, short))
-five_found text more rest (a ∷ b ∷ c ∷ d ∷ others) back long short first last = absurd (omega (arith, long))
+pub only_read : (count at : ℕ) (text bytes rest : List ℕ) → at ≡ count → AreRead count at text bytes rest
+    → (all more : List ℕ) → AreBytes count all → text ≡ field_text all ++ more → (bytes ≡ all) × (rest ≡ more)
+only_read count at text bytes rest end read all more are whole =
+    let same = read.only all more are whole in (
+      sym (take_all at bytes (omega (arith, end, read.many))) ∙ same.0
+          ∙ take_all at all (omega (arith, end, are.many)),
+      same.1 ∙ ap (λ (l : List ℕ). field_text l ++ more) (drop_all at all (omega (arith, end, are.many))),
+    )

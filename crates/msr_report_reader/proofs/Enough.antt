@@ -8,7 +8,7 @@ use Rattle.msr_report.specs.Text.{IsTimeText, byte_text, field_text, hex_text, s
 use Rattle.msr_report_reader.specs.Fields.{AreBytes}
 use Rattle.msr_report_reader.specs.Content.{Content, IsKey, key_then}
 use Rattle.msr_report_reader.specs.Fault.{IsOneLine}
-use Rattle.msr_report_reader.specs.Rest.{body_2, body_3, body_5}
+use Rattle.msr_report_reader.proofs.Rest.{body_2, body_3, body_5}
 use Rattle.msr_report_reader.specs.Draft.{IsEnough, IsSettled, line_limit}
 use Rattle.msr_report_reader.proofs.LineFeeds.{same_cons}
 use Rattle.msr_report_reader.proofs.Segments.{opening_body, end_body}

@@ -10,7 +10,7 @@ use Rattle.msr_report_reader.specs.Fields.{EndsNumber}
 use Rattle.msr_report_reader.specs.Content.{ContentLine, IsContentLine, IsOpening, lines_before}
 use Rattle.msr_report_reader.specs.Fault.{BeginsReport, IsFaultLine}
 use Rattle.msr_report_reader.specs.LastLine.{IsLast}
-use Rattle.msr_report_reader.specs.Rest.{AtLine}
+use Rattle.msr_report_reader.proofs.Rest.{AtLine}
 use Rattle.msr_report_reader.specs.Draft.{IsEnough, ReadSegments, ReadOpening, ReadNumbers, ReadEnd, stop_byte}
 use Rattle.msr_report_reader.specs.declared.first.FirstLines.{FirstLines}
 use Rattle.msr_report_reader.specs.declared.lines.FirstLine.{FirstLine}

@@ -6,7 +6,7 @@ use Rattle.msr_kinds.specs.declared.kinds.Kinds.TheVariants.{All as AllKinds, Wi
 use Rattle.msr_report.specs.Text.{kinds_words, kinds_line}
 use Rattle.msr_report_reader.specs.Content.{lines_before}
 use Rattle.msr_report_reader.specs.Fault.{IsFaultLine}
-use Rattle.msr_report_reader.specs.Rest.{InFirst, tail_1, tail_2, tail_3, tail_4, tail_5, tail_6, body_1, body_2, body_3, body_5}
+use Rattle.msr_report_reader.proofs.Rest.{InFirst, tail_1, tail_2, tail_3, tail_4, tail_5, tail_6, body_1, body_2, body_3, body_5}
 use Rattle.msr_report_reader.specs.Draft.{IsEnough, line_limit}
 use Rattle.msr_report_reader.proofs.RestOfText.{AfterFourth, FourthBody, at_first, before_1, before_2, before_3, before_4, before_5, counts_split, fault_at, line_is_words, one_2, one_3, one_5, step_1, step_2, step_3, step_4, step_5, words_are_one}
 use Rattle.msr_report_reader.proofs.FirstLines.{fault_at_body, second_line, third_line, fourth_line, fifth_line}

@@ -6,7 +6,7 @@ use Rattle.msr_kinds.specs.declared.kinds.Kinds.TheVariants.{All as AllKinds}
 use Rattle.msr_report.specs.Text.{kinds_words, kinds_line}
 use Rattle.msr_report_reader.specs.Content.{Content, IsContent}
 use Rattle.msr_report_reader.specs.Fault.{BeginsReport, IsFaultLine}
-use Rattle.msr_report_reader.specs.Rest.{InFirst, AtLine, counts_body, tail_1, tail_2, tail_3, tail_4, tail_5, tail_6, body_1, body_2, body_3}
+use Rattle.msr_report_reader.proofs.Rest.{InFirst, AtLine, counts_body, tail_1, tail_2, tail_3, tail_4, tail_5, tail_6, body_1, body_2, body_3}
 use Rattle.msr_report_reader.proofs.LineFeeds.{same_line}
 use Rattle.msr_report_reader.proofs.RestOfText.{AfterFourth, FourthBody, LineStep, IsBody, at_first, fault_at, line_is_words, next_line, step_1, step_2, step_3, step_4, words_are_one, words_not_counts}
 

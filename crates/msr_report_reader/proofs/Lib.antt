@@ -4,6 +4,7 @@ pub mod Bytes
 pub mod Instants
 pub mod Separators
 pub mod LineFeeds
+pub mod Rest
 pub mod RestOfText
 pub mod FirstLines
 pub mod Segments

@@ -5,7 +5,7 @@ use Rattle.msr_rows.specs.declared.row.Key.{Key}
 use Rattle.msr_report.specs.Text.{separators_line, end_line}
 use Rattle.msr_report_reader.specs.Content.{ContentLine, IsKey, IsContentLine, IsContentLineText, AreContentLineTexts, IsOpening, content_records}
 use Rattle.msr_report_reader.specs.Fault.{IsOneLine, BeginsReport, IsFaultLine}
-use Rattle.msr_report_reader.specs.Rest.{AtLine}
+use Rattle.msr_report_reader.proofs.Rest.{AtLine}
 use Rattle.msr_report_reader.proofs.LineFeeds.{one_append, separators_are_one}
 use Rattle.msr_report_reader.proofs.RestOfText.{LineStep, not_empty, next_line, fault_at}
 use Rattle.msr_report_reader.proofs.Segments.{Tail, Next, LineBody, IsEndBody, IsOpeningBody, opening_body, end_body, opening_then, end_then, words_then}

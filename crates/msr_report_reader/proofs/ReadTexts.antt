@@ -11,7 +11,7 @@ use Rattle.msr_report.specs.Text.{separators_line, kinds_line, counts_line}
 use Rattle.msr_base.specs.declared.counts.Counts.{Counts}
 use Rattle.msr_report.specs.declared.report.SegmentLine.{SegmentLine}
 use Rattle.msr_report_reader.specs.Content.{ContentLine, IsKey, IsFirst, IsContentLine, AreContentLineTexts, IsOpening, content_records, content_line, first_then, lines_before}
-use Rattle.msr_report_reader.specs.Rest.{AtLine, InFirst, counts_body, body_5, tail_5, tail_6}
+use Rattle.msr_report_reader.proofs.Rest.{AtLine, InFirst, counts_body, body_5, tail_5, tail_6}
 use Rattle.msr_report_reader.specs.Draft.{ReadSegments}
 use Rattle.msr_report_reader.specs.declared.first.FirstLines.{FirstLines}
 use Rattle.msr_report_reader.proofs.LineFeeds.{same_cons}

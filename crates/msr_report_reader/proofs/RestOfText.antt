@@ -9,7 +9,7 @@ use Rattle.msr_report.specs.Text.{kinds_words, kinds_line, counts_line, end_line
 use Rattle.msr_base.specs.declared.counts.Counts.{Counts}
 use Rattle.msr_report_reader.specs.Content.{Content, IsContent, IsFirst, IsContentText, content_records, first_then}
 use Rattle.msr_report_reader.specs.Fault.{IsOneLine, AreLines, BeginsReport, IsFaultLine}
-use Rattle.msr_report_reader.specs.Rest.{Begins, InFirst, AtLine, body_1, body_2, body_3, body_5, counts_body, tail_1, tail_2, tail_3, tail_4, tail_5, tail_6}
+use Rattle.msr_report_reader.proofs.Rest.{Begins, InFirst, AtLine, body_1, body_2, body_3, body_5, counts_body, tail_1, tail_2, tail_3, tail_4, tail_5, tail_6}
 use Rattle.msr_report_reader.proofs.LineFeeds.{peel, one_append, decimal_is_one}
 use Rattle.msr_report_reader.proofs.SameFields.{differ}
 

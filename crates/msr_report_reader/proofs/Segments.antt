@@ -3,7 +3,7 @@ use Rattle.std.proofs.Common.{◌≡◌, ◌∙◌, ap, sym, refl, arith, ℕ, z
 use Rattle.msr_rows.specs.declared.row.Key.{Key}
 use Rattle.msr_report.specs.Text.{segment_words, separators_line, end_line, IsTimeText}
 use Rattle.msr_report_reader.specs.Content.{ContentLine, IsKey, IsContentLine, IsContentLineText, AreContentLineTexts, IsOpening, key_then, content_records}
-use Rattle.msr_report_reader.specs.Rest.{InFirst, AtLine, tail_6}
+use Rattle.msr_report_reader.proofs.Rest.{InFirst, AtLine, tail_6}
 
 -- after `segments` segments with `records` records, `w` is the lines of further segments and the
 -- last line

@@ -10,7 +10,7 @@ use Rattle.msr_report.specs.declared.report.SegmentLine.{SegmentLine}
 use Rattle.msr_report.specs.declared.report.Report.{Report}
 use Rattle.msr_report_reader.specs.Content.{ContentLine, IsFirst, IsContentLine, IsContentLineText, AreContentLineTexts, IsOpening, content_records, content_line, first_then, lines_before}
 use Rattle.msr_report_reader.specs.Reading.{IsReadFrom}
-use Rattle.msr_report_reader.specs.Rest.{AtLine}
+use Rattle.msr_report_reader.proofs.Rest.{AtLine}
 use Rattle.msr_report_reader.proofs.Segments.{first_line_then, Tail}
 use Rattle.msr_report_reader.proofs.LineFeeds.{same_cons}
 

@@ -2,7 +2,6 @@ pub mod Fields
 pub mod Content
 pub mod Fault
 pub mod LastLine
-pub mod Rest
 pub mod TextFault
 pub mod Draft
 pub mod Reading

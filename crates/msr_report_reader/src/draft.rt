@@ -127,14 +127,6 @@ fn last_line<'a>(text: &'a [u8], segments: &[SegmentLine]) -> Option<&'a [u8]>
     Some(rest)
 }
 
-/// The number of the line after those of the segments.
-fn line_after(first: FirstLines, segments: &[SegmentLine]) -> u64
-    ensures line { result ≡ 1 + lines_before first.kinds + 2 * length segments.now }
-    ensures next { result + 1 < 2 ^ 64 }
-{
-    1 + lines_before(first.kinds) + 2 * segments.len() as u64
-}
-
 impl Draft {
     /// A draft before the first byte.
     pub(crate) fn new(alloc: Global) -> Draft
@@ -146,6 +138,15 @@ impl Draft {
             segments: Vec::new(alloc),
             numbers: Vec::new(alloc),
         }
+    }
+
+    /// The number of the line after those of the segments.
+    fn line_after(&self, first: FirstLines) -> u64
+        ensures line { result ≡ 1 + lines_before first.kinds + 2 * length self.now.segments.items }
+        ensures next { result + 1 < 2 ^ 64 }
+    {
+        let segments = self.segments.as_slice();
+        1 + lines_before(first.kinds) + 2 * segments.len() as u64
     }
 
     /// Reads what the text begins with: the lines before the segments, another line, or a word of the separators' line.
@@ -187,7 +188,7 @@ impl Draft {
             return Ok(Progress::Consumed(text.len() - rest.len()));
         }
         let begins = may_begin(text, b"segment ") | may_begin(text, b"end ");
-        refuse(text, begins, line_after(first, self.segments.as_slice()))
+        refuse(text, begins, self.line_after(first))
     }
 
     /// Reads the word before the separators.
@@ -201,11 +202,7 @@ impl Draft {
     {
         let Some((last, rest)) = separators_word(text) else {
             let begins = may_begin(text, b"separators");
-            return refuse(
-                text,
-                begins,
-                1 + line_after(first, self.segments.as_slice()),
-            );
+            return refuse(text, begins, 1 + self.line_after(first));
         };
         self.go_on(first, line, last)?;
         Ok(Progress::Consumed(text.len() - rest.len()))
@@ -221,11 +218,7 @@ impl Draft {
         ensures { self.old.expected ≡ Number first line → IsStep self.old self.new text.now result }
     {
         let Some((n, last, rest)) = separator(text) else {
-            return refuse(
-                text,
-                may_be_number(text),
-                1 + line_after(first, self.segments.as_slice()),
-            );
+            return refuse(text, may_be_number(text), 1 + self.line_after(first));
         };
         self.numbers.push(n)?;
         self.go_on(first, line, last)?;
@@ -261,7 +254,7 @@ impl Draft {
         if text.is_empty() {
             Ok(Progress::Whole(first))
         } else {
-            Err(ReportFault::Line(1 + line_after(first, self.segments.as_slice())))
+            Err(ReportFault::Line(1 + self.line_after(first)))
         }
     }
 

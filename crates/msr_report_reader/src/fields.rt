@@ -1,12 +1,12 @@
 //! The fields at the start of a text: each reader answers the field and the text after it.
-ghost use Rattle.std.specs.Prelude.{◌≡◌, ◌<◌, ◌≤◌, ◌^◌, ◌++◌, ◌∷◌, [], ℕ, ℤ, List, IfSome, IsSomeAnd, true, false, length};
+ghost use Rattle.std.specs.Prelude.{◌≡◌, ◌<◌, ◌≤◌, ◌^◌, ◌++◌, ℕ, ℤ, List, IfSome, IsSomeAnd, true, false, length};
 ghost use Rattle.std.specs.Fmt.{decimal, signed_decimal, digit_glyph};
 ghost use Rattle.std.specs.Int.{w16, w32};
 ghost use Rattle.std.specs.Int.RustNames.{FitsSigned};
 ghost use Rattle.std.specs.Char.{is_ascii_digit};
 ghost use Rattle.std.specs.List.{prefix_len};
 ghost use Rattle.msr_report.specs.Text.{hex_text, byte_text, field_text};
-ghost use Rattle.msr_report_reader.specs.Fields.{EndsNumber, signed_len};
+ghost use Rattle.msr_report_reader.specs.Fields.{AreBytes, EndsNumber, signed_len};
 
 use itoa::Buffer;
 use std::str;
@@ -135,39 +135,20 @@ fn name_byte(text: &[u8]) -> Option<(u8, &[u8])>
     }
 }
 
-/// Two bytes of a name.
-pub(crate) fn two_bytes(text: &[u8]) -> Option<([u8; 2], &[u8])>
+/// So many bytes of a name.
+pub(crate) fn name_bytes<const N: usize>(text: &[u8]) -> Option<([u8; N], &[u8])>
     ensures found { IfSome result (λ x. text.now ≡ field_text x.0 ++ x.1.now) }
-    ensures only { (a b : ℕ) (rest : List ℕ) → a < 256 → b < 256 → text.now ≡ byte_text a ++ (byte_text b ++ rest)
-        → IsSomeAnd result (λ x. (x.0 ≡ a ∷ b ∷ []) × (x.1.now ≡ rest)) }
+    ensures only { (bytes rest : List ℕ) → AreBytes N bytes → text.now ≡ field_text bytes ++ rest
+        → IsSomeAnd result (λ x. (x.0 ≡ bytes) × (x.1.now ≡ rest)) }
 {
-    let (first, text) = name_byte(text)?;
-    let (second, text) = name_byte(text)?;
-    Some(([first, second], text))
-}
-
-/// Three bytes of a name.
-pub(crate) fn three_bytes(text: &[u8]) -> Option<([u8; 3], &[u8])>
-    ensures found { IfSome result (λ x. text.now ≡ field_text x.0 ++ x.1.now) }
-    ensures only { (a b c : ℕ) (rest : List ℕ) → a < 256 → b < 256 → c < 256
-        → text.now ≡ byte_text a ++ (byte_text b ++ (byte_text c ++ rest))
-        → IsSomeAnd result (λ x. (x.0 ≡ a ∷ b ∷ c ∷ []) × (x.1.now ≡ rest)) }
-{
-    let ([first, second], text) = two_bytes(text)?;
-    let (third, text) = name_byte(text)?;
-    Some(([first, second, third], text))
-}
-
-/// Five bytes of a name.
-pub(crate) fn five_bytes(text: &[u8]) -> Option<([u8; 5], &[u8])>
-    ensures found { IfSome result (λ x. text.now ≡ field_text x.0 ++ x.1.now) }
-    ensures only { (a b c d e : ℕ) (rest : List ℕ) → a < 256 → b < 256 → c < 256 → d < 256 → e < 256
-        → text.now ≡ byte_text a ++ (byte_text b ++ (byte_text c ++ (byte_text d ++ (byte_text e ++ rest))))
-        → IsSomeAnd result (λ x. (x.0 ≡ a ∷ b ∷ c ∷ d ∷ e ∷ []) × (x.1.now ≡ rest)) }
-{
-    let ([first, second, third], text) = three_bytes(text)?;
-    let ([fourth, fifth], text) = two_bytes(text)?;
-    Some(([first, second, third, fourth, fifth], text))
+    let mut bytes = [0; N];
+    let mut rest = text;
+    'bytes: for at in 0..N {
+        let (byte, more) = name_byte(rest)?;
+        bytes[at] = byte;
+        rest = more;
+    }
+    Some((bytes, rest))
 }
 
 /// The number, with a `-` before a negative one, that the word is the decimal of.
@@ -200,24 +181,27 @@ fn count_signed(text: &[u8]) -> usize
     }
 }
 
-/// A number in decimal, with a `-` before a negative one.
-pub(crate) fn signed(text: &[u8]) -> Option<(i32, &[u8])>
-    ensures found { IfSome result (λ x. text.now ≡ signed_decimal x.0 ++ x.1.now) }
-    ensures only { (z : ℤ) (rest : List ℕ) → FitsSigned w32 z → EndsNumber rest → text.now ≡ signed_decimal z ++ rest
+/// The number in decimal, with a `-` before a negative one, that stands after the word.
+pub(crate) fn signed<'a>(text: &'a [u8], word: &[u8]) -> Option<(i32, &'a [u8])>
+    ensures found { IfSome result (λ x. text.now ≡ word.now ++ (signed_decimal x.0 ++ x.1.now)) }
+    ensures only { (z : ℤ) (rest : List ℕ) → FitsSigned w32 z → EndsNumber rest
+        → text.now ≡ word.now ++ (signed_decimal z ++ rest)
         → IsSomeAnd result (λ x. (x.0 ≡ z) × (x.1.now ≡ rest)) }
 {
+    let text = after(text, word)?;
     let (word, rest) = text.split_at(count_signed(text));
     let z = signed_of(word)?;
     Some((z, rest))
 }
 
-/// A number of 16 bits in decimal, with a `-` before a negative one.
-pub(crate) fn signed_16(text: &[u8]) -> Option<(i16, &[u8])>
-    ensures found { IfSome result (λ x. text.now ≡ signed_decimal x.0 ++ x.1.now) }
-    ensures only { (z : ℤ) (rest : List ℕ) → FitsSigned w16 z → EndsNumber rest → text.now ≡ signed_decimal z ++ rest
+/// The number of 16 bits, with a `-` before a negative one, that stands after the word.
+pub(crate) fn signed_16<'a>(text: &'a [u8], word: &[u8]) -> Option<(i16, &'a [u8])>
+    ensures found { IfSome result (λ x. text.now ≡ word.now ++ (signed_decimal x.0 ++ x.1.now)) }
+    ensures only { (z : ℤ) (rest : List ℕ) → FitsSigned w16 z → EndsNumber rest
+        → text.now ≡ word.now ++ (signed_decimal z ++ rest)
         → IsSomeAnd result (λ x. (x.0 ≡ z) × (x.1.now ≡ rest)) }
 {
-    let (z, rest) = signed(text)?;
+    let (z, rest) = signed(text, word)?;
     if z < -32_768 || z > 32_767 {
         return None;
     }

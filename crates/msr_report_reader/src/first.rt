@@ -1,5 +1,5 @@
 //! The lines before the segments.
-ghost use Rattle.std.specs.Prelude.{◌≡◌, ◌++◌, ℕ, List, IfOk, IfErr, codes, true};
+ghost use Rattle.std.specs.Prelude.{◌≡◌, ◌++◌, ℕ, List, IfOk, IfErr};
 ghost use Rattle.msr_kinds.specs.Lengths.{bytes_of};
 ghost use Rattle.msr_report_reader.specs.Content.{IsFirst, first_then, lines_before};
 ghost use Rattle.msr_report_reader.specs.Fault.{IsFaultLine};
@@ -39,16 +39,6 @@ pub(crate) fn lines_before(kinds: Kinds) -> u64
     }
 }
 
-/// Whether a text that begins with this one may begin with the line of the counts or, if no line of kinds was read,
-/// with one.
-fn may_go_on(text: &[u8], kinds: Kinds) -> bool
-    ensures counts { (more rest : List ℕ) → text.now ++ more ≡ codes "read " ++ rest → result ≡ true }
-    ensures kinds { (more rest : List ℕ) → kinds ≡ Kinds.All → text.now ++ more ≡ codes "kinds " ++ rest
-        → result ≡ true }
-{
-    may_begin(text, b"read ") | may_begin(text, b"kinds ") & (kinds == Kinds::All)
-}
-
 /// The lines before the segments.
 pub(crate) fn first_lines(text: &[u8]) -> Result<(FirstLines, &[u8]), FaultAt>
     ensures found { IfOk result (λ x. text.now ≡ first_then (bytes_of x.0.length) x.0.tolerance x.0.kinds x.0.counts
@@ -83,7 +73,7 @@ pub(crate) fn first_lines(text: &[u8]) -> Result<(FirstLines, &[u8]), FaultAt>
         return Err(FaultAt {
             line: lines_before(kinds),
             text: last,
-            begins: may_go_on(last, kinds),
+            begins: may_begin(last, b"read ") | may_begin(last, b"kinds ") & (kinds == Kinds::All),
         });
     };
     let first = FirstLines {

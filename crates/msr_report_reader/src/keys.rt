@@ -1,7 +1,7 @@
 //! What the records of a segment have in common, at the start of a text.
 ghost use Rattle.std.specs.Prelude.{◌≡◌, ◌<◌, ◌++◌, ◌∷◌, ℕ, ℤ, List, IfSome, IsSomeAnd, IsTrue, codes};
-ghost use Rattle.std.specs.Fmt.{decimal, signed_decimal};
-ghost use Rattle.std.specs.Int.{w16, w32};
+ghost use Rattle.std.specs.Fmt.{decimal};
+ghost use Rattle.std.specs.Int.{w16};
 ghost use Rattle.std.specs.Int.RustNames.{FitsSigned};
 ghost use Rattle.msr_report.specs.Text.{hex_text, field_text};
 ghost use Rattle.msr_report_reader.specs.Fields.{EndsNumber, AreBytes, name_then, rate_then, flags_then};
@@ -9,30 +9,20 @@ ghost use Rattle.msr_header.specs.Reading.{is_quality};
 ghost use Rattle.msr_rows.specs.declared.row.Key.{Key as ChannelKey};
 ghost use Rattle.msr_report_reader.specs.Content.{IsKey, key_then};
 
-use crate::fields::{
-    after, counted, five_bytes, hex_byte, signed, signed_16, three_bytes, two_bytes,
-};
+use crate::fields::{after, counted, hex_byte, name_bytes, signed, signed_16};
 use msr_rows::Key;
 use msr_time::Rate;
 
-/// Two bytes of a name and a dot.
-fn two_and_dot(text: &[u8]) -> Option<([u8; 2], &[u8])>
+/// So many bytes of a name and a dot.
+fn dotted<const N: usize>(text: &[u8]) -> Option<([u8; N], &[u8])>
     ensures found { IfSome result (λ x. text.now ≡ field_text x.0 ++ (46 ∷ x.1.now)) }
-    ensures only { (bytes rest : List ℕ) → AreBytes 2 bytes → text.now ≡ field_text bytes ++ (46 ∷ rest)
+    ensures only { (bytes rest : List ℕ) → AreBytes N bytes → text.now ≡ field_text bytes ++ (46 ∷ rest)
         → IsSomeAnd result (λ x. (x.0 ≡ bytes) × (x.1.now ≡ rest)) }
 {
-    let (bytes, text) = two_bytes(text)?;
-    let text = after(text, b".")?;
-    Some((bytes, text))
-}
-
-/// Five bytes of a name and a dot.
-fn five_and_dot(text: &[u8]) -> Option<([u8; 5], &[u8])>
-    ensures found { IfSome result (λ x. text.now ≡ field_text x.0 ++ (46 ∷ x.1.now)) }
-    ensures only { (bytes rest : List ℕ) → AreBytes 5 bytes → text.now ≡ field_text bytes ++ (46 ∷ rest)
-        → IsSomeAnd result (λ x. (x.0 ≡ bytes) × (x.1.now ≡ rest)) }
-{
-    let (bytes, text) = five_bytes(text)?;
+    let Some(read) = name_bytes::<N>(text) else {
+        return None;
+    };
+    let (bytes, text) = read;
     let text = after(text, b".")?;
     Some((bytes, text))
 }
@@ -54,10 +44,10 @@ fn channel_name(text: &[u8]) -> Option<(ChannelName, &[u8])>
         → text.now ≡ name_then network station location channel rest
         → IsSomeAnd result (λ x. x.1.now ≡ rest) }
 {
-    let (network, text) = two_and_dot(text)?;
-    let (station, text) = five_and_dot(text)?;
-    let (location, text) = two_and_dot(text)?;
-    let (channel, text) = three_bytes(text)?;
+    let (network, text) = dotted::<2>(text)?;
+    let (station, text) = dotted::<5>(text)?;
+    let (location, text) = dotted::<2>(text)?;
+    let (channel, text) = name_bytes::<3>(text)?;
     let name = ChannelName {
         network,
         station,
@@ -75,10 +65,8 @@ fn rate(text: &[u8]) -> Option<(i16, i16, &[u8])>
         → text.now ≡ rate_then factor multiplier rest
         → IsSomeAnd result (λ x. (x.0 ≡ factor) × (x.1 ≡ multiplier) × (x.2.now ≡ rest)) }
 {
-    let text = after(text, b" rate ")?;
-    let (factor, text) = signed_16(text)?;
-    let text = after(text, b" ")?;
-    let (multiplier, text) = signed_16(text)?;
+    let (factor, text) = signed_16(text, b" rate ")?;
+    let (multiplier, text) = signed_16(text, b" ")?;
     Some((factor, multiplier, text))
 }
 
@@ -104,17 +92,6 @@ fn flags(text: &[u8]) -> Option<(u8, u8, u8, &[u8])>
     let (clock, text) = spaced_byte(text)?;
     let (quality, text) = spaced_byte(text)?;
     Some((activity, clock, quality, text))
-}
-
-/// The time correction.
-fn correction(text: &[u8]) -> Option<(i32, &[u8])>
-    ensures found { IfSome result (λ x. text.now ≡ codes " correction " ++ (signed_decimal x.0 ++ x.1.now)) }
-    ensures only { (z : ℤ) (rest : List ℕ) → FitsSigned w32 z → EndsNumber rest
-        → text.now ≡ codes " correction " ++ (signed_decimal z ++ rest)
-        → IsSomeAnd result (λ x. (x.0 ≡ z) × (x.1.now ≡ rest)) }
-{
-    let text = after(text, b" correction ")?;
-    signed(text)
 }
 
 /// The timing quality.
@@ -174,7 +151,7 @@ pub(crate) fn channel_key(text: &[u8]) -> Option<(Key, &[u8])>
     let (factor, multiplier, text) = rate(text)?;
     let rate = Rate::new(factor, multiplier)?;
     let (activity, clock, data_quality, text) = flags(text)?;
-    let (correction, text) = correction(text)?;
+    let (correction, text) = signed(text, b" correction ")?;
     let (timing, text) = timing(text)?;
     let ChannelName {
         network,

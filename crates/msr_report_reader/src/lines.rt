@@ -5,7 +5,7 @@ ghost use Rattle.msr_time.specs.Instant.{IsInstant};
 ghost use Rattle.msr_kinds.specs.Lengths.{bytes_of};
 ghost use Rattle.msr_kinds.specs.RecordLength.{IsRecordLength};
 ghost use Rattle.msr_kinds.specs.declared.kinds.Kinds.{Kinds as AChoice};
-ghost use Rattle.msr_report.specs.Text.{IsTimeText, kinds_line};
+ghost use Rattle.msr_report.specs.Text.{kinds_line};
 ghost use Rattle.msr_rows.specs.declared.row.Key.{Key as ChannelKey};
 ghost use Rattle.msr_report_reader.specs.Content.{IsKey, IsOpening};
 
@@ -15,18 +15,6 @@ use crate::times::instant;
 use msr_kinds::{Kinds, Length};
 use msr_report::{Counts, kinds_line};
 use msr_rows::Key;
-
-/// The start of a segment.
-fn start(text: &[u8]) -> Option<(i64, &[u8])>
-    ensures range { IfSome result (λ x. IsInstant x.0) }
-    ensures found { IfSome result (λ x. (word : List ℕ)
-        × (IsTimeText x.0 word × (text.now ≡ codes " start " ++ (word ++ x.1.now)))) }
-    ensures only { (t : ℤ) (word rest : List ℕ) → IsTimeText t word → text.now ≡ codes " start " ++ (word ++ rest)
-        → IsSomeAnd result (λ x. (x.0 ≡ t) × (x.1.now ≡ rest)) }
-{
-    let text = after(text, b" start ")?;
-    instant(text)
-}
 
 /// The number that stands after the word and ends the line.
 fn numbered<'a>(text: &'a [u8], word: &[u8]) -> Option<(u64, &'a [u8])>
@@ -140,7 +128,8 @@ pub(crate) fn opening(text: &[u8]) -> Option<(FirstLine, &[u8])>
     let Some((key, text)) = channel_key(text) else {
         return None;
     };
-    let (start, text) = start(text)?;
+    let text = after(text, b" start ")?;
+    let (start, text) = instant(text)?;
     let (samples, text) = counted(text, b" samples ")?;
     let (records, text) = numbered(text, b" records ")?;
     let line = FirstLine {

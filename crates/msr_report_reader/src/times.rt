@@ -1,9 +1,8 @@
 //! Times at the start of a text.
 ghost use Rattle.std.specs.Prelude.{◌≡◌, ◌<◌, ◌≤◌, ◌^◌, ◌++◌, ◌+◌, ◌*◌, ℕ, ℤ, List, IfSome, IsSomeAnd, SomeIff, true, length};
 ghost use Rattle.std.specs.Str.{all_ascii_digits};
-ghost use Rattle.msr_report.specs.Text.{padded_decimal};
+ghost use Rattle.msr_report.specs.Text.{padded_decimal, IsTimeText};
 ghost use Rattle.msr_report_reader.specs.Fields.{number_after, date_then, clock_then, split_then};
-ghost use Rattle.msr_report.specs.Text.{IsTimeText};
 ghost use Rattle.msr_time.specs.Instant.{IsTime, IsInstant};
 ghost use Rattle.msr_time.specs.declared.btime.BTime.{BTime as Time};
 

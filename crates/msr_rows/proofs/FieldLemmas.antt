@@ -4,10 +4,10 @@ use Rattle.std.specs.Ordering.{int_eq}
 use Rattle.std.proofs.lemmas.Bool.{and_from, and_parts}
 use Rattle.std.proofs.lemmas.Bool.Decides.{Decides-int_eq}
 use Rattle.msr_header.specs.declared.header.Header.{Header}
-use Rattle.msr_rows.specs.Kinds.{kind_of_code}
+use Rattle.msr_rows.specs.Records.{kind_of_code}
 use Rattle.msr_rows.specs.Records.{has_rate, has_area, field_faults}
 use Rattle.msr_base.specs.Faults.{first_fault}
-use Rattle.msr_kinds.specs.Codes.{code_of}
+use Rattle.msr_kinds.specs.Kinds.{code_of}
 use Rattle.msr_kinds.specs.declared.kinds.Kind.{Kind}
 use Rattle.msr_kinds.specs.declared.kinds.Kind.TheVariants.{Int16, Int24, Int32, Steim1, Steim2}
 use Rattle.msr_rows.specs.declared.fault.FaultKind.TheVariants.{NoRate, OtherEncoding, BadDataOffset}

@@ -12,11 +12,10 @@ use Rattle.msr_steim.specs.Area.{CarriesSteim, EndsBefore, IsUndefinedBefore}
 use Rattle.msr_kinds.specs.declared.storage.Version.{Version}
 use Rattle.msr_plain.proofs.CarriedLemmas.{carries_one as integers_one}
 use Rattle.msr_steim.proofs.OneOutcome.{carries_one, not_short, not_undefined, one_undefined, short_or_undefined}
-use Rattle.msr_rows.specs.Kinds.{kind_of_code}
+use Rattle.msr_rows.specs.Records.{kind_of_code, HasReverse, IsRefusedBeforeTime}
 use Rattle.msr_rows.specs.Correction.{key_of, start_of}
-use Rattle.msr_rows.specs.Area.{Carries, AreaHasFault, IntegersHaveFault, FramesHaveFault}
+use Rattle.msr_rows.specs.Area.{Carries, AreaHasFault}
 use Rattle.msr_rows.specs.Records.{data_area, HasSamples, HasArea, IsRowOf, RowIsInTime, FieldsAreRefused, AreaIsRefused, IsOutOfTime, IsRefused, IsRecordOf, AgreesAtEnd}
-use Rattle.msr_rows.specs.Reverse.{HasReverse, IsRefusedBeforeTime}
 use Rattle.msr_kinds.specs.declared.kinds.Kind.{Kind}
 use Rattle.msr_kinds.specs.declared.storage.Storage.{Storage}
 use Rattle.msr_kinds.specs.declared.storage.Storage.TheVariants.{Integers, Frames}
@@ -39,20 +38,20 @@ data FrameFault (version : Version) (order : Order) (area : List ℕ) (count : �
       → FrameFault version order area count fault
 
 frame_fault : (version : Version) (order : Order) (area : List ℕ) (count : ℕ) (fault : FaultKind)
-    → FramesHaveFault version order area count fault → FrameFault version order area count fault
+    → AreaHasFault (Frames version) order area count fault → FrameFault version order area count fault
 frame_fault version order area count DataShort h = short refl h
 frame_fault version order area count (BadCode word) h = undefined word refl h
 frame_fault version order area count _ h = absurd h
 
-integer_fault : (width : Width) (area : List ℕ) (count : ℕ) (fault : FaultKind)
-    → IntegersHaveFault width area count fault → (fault ≡ DataShort) × (length area < size_of width * count)
-integer_fault width area count DataShort h = (refl, h)
-integer_fault width area count _ h = absurd h
+integer_fault : (width : Width) (order : Order) (area : List ℕ) (count : ℕ) (fault : FaultKind)
+    → AreaHasFault (Integers width) order area count fault → (fault ≡ DataShort) × (length area < size_of width * count)
+integer_fault width order area count DataShort h = (refl, h)
+integer_fault width order area count _ h = absurd h
 
 integers_not : (width : Width) (order : Order) (area : List ℕ) (xs : List ℤ) (fault : FaultKind)
-    → CarriesPlain width order area xs → IntegersHaveFault width area (length xs) fault → ⊥
+    → CarriesPlain width order area xs → AreaHasFault (Integers width) order area (length xs) fault → ⊥
 integers_not width order area xs fault p f =
-    let short = (integer_fault width area (length xs) fault f).1 in
+    let short = (integer_fault width order area (length xs) fault f).1 in
     omega (arith, p.room, short)
 
 frames_not : (version : Version) (order : Order) (area : List ℕ) (xs : List ℤ) (fault : FaultKind)
@@ -80,8 +79,8 @@ frames_one version order area count f g (undefined word e h) (undefined word' d 
 -- an area has one fault
 area_one : (storage : Storage) (order : Order) (area : List ℕ) (count : ℕ) (f g : FaultKind)
     → AreaHasFault storage order area count f → AreaHasFault storage order area count g → f ≡ g
-area_one (Integers width) order area count f g p q = (integer_fault width area count f p).0
-    ∙ sym (integer_fault width area count g q).0
+area_one (Integers width) order area count f g p q = (integer_fault width order area count f p).0
+    ∙ sym (integer_fault width order area count g q).0
 area_one (Frames version) order area count f g p q = frames_one version order area count f g
     (frame_fault version order area count f p) (frame_fault version order area count g q)
 

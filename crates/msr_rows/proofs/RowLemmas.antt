@@ -6,7 +6,7 @@ use Rattle.std.proofs.Math.Pow.{pow_mono}
 use Rattle.msr_time.specs.SampleRate.{SampleRate}
 use Rattle.msr_header.specs.Reading.{header_of}
 use Rattle.msr_header.specs.declared.header.Header.{Header}
-use Rattle.msr_rows.specs.Kinds.{kind_of_code}
+use Rattle.msr_rows.specs.Records.{kind_of_code}
 use Rattle.msr_rows.specs.Correction.{key_of, start_of}
 use Rattle.msr_kinds.specs.Storage.{storage_of}
 use Rattle.msr_rows.specs.Area.{Carries, ReverseAgrees}

@@ -3,9 +3,7 @@ use Rattle.std.specs.Prelude.{◌<◌, ℕ, ◌*◌, ℤ, List, length}
 use Rattle.msr_base.specs.declared.order.Order.{Order}
 use Rattle.msr_kinds.specs.Storage.{size_of}
 use Rattle.msr_plain.specs.Plain.{CarriesPlain}
-use Rattle.msr_kinds.specs.declared.storage.Width.{Width}
 use Rattle.msr_steim.specs.Area.{CarriesSteim, ReverseAgrees as FramesAgree, EndsBefore, IsUndefinedBefore}
-use Rattle.msr_kinds.specs.declared.storage.Version.{Version}
 use Rattle.msr_kinds.specs.declared.storage.Storage.{Storage}
 use Rattle.msr_kinds.specs.declared.storage.Storage.TheVariants.{Integers, Frames}
 use Rattle.msr_rows.specs.declared.fault.FaultKind.{FaultKind}
@@ -16,21 +14,12 @@ abbrev pub Carries : Storage → Order → List ℕ → List ℤ → Type 0
 Carries (Integers width) order area samples = CarriesPlain width order area samples
 Carries (Frames version) order area samples = CarriesSteim version order area samples
 
--- why an area of integers does not carry `count` samples: it ends before the last one
-abbrev pub IntegersHaveFault : Width → List ℕ → ℕ → FaultKind → Type 0
-IntegersHaveFault width area count DataShort = length area < size_of width * count
-IntegersHaveFault width area count _ = ⊥
-
--- why frames do not carry `count` samples: they end first, or an undefined word comes first
-abbrev pub FramesHaveFault : Version → Order → List ℕ → ℕ → FaultKind → Type 0
-FramesHaveFault version order area count DataShort = EndsBefore version order area count
-FramesHaveFault version order area count (BadCode word) = IsUndefinedBefore version order area count word
-FramesHaveFault version order area count _ = ⊥
-
--- why the area does not carry `count` samples
+-- why the area does not carry `count` samples: it ends before the last one, or an undefined word comes first
 abbrev pub AreaHasFault : Storage → Order → List ℕ → ℕ → FaultKind → Type 0
-AreaHasFault (Integers width) order area count fault = IntegersHaveFault width area count fault
-AreaHasFault (Frames version) order area count fault = FramesHaveFault version order area count fault
+AreaHasFault (Integers width) order area count DataShort = length area < size_of width * count
+AreaHasFault (Frames version) order area count DataShort = EndsBefore version order area count
+AreaHasFault (Frames version) order area count (BadCode word) = IsUndefinedBefore version order area count word
+AreaHasFault storage order area count _ = ⊥
 
 -- the last sample is the reverse constant; integers have none
 abbrev pub ReverseAgrees : Storage → Order → List ℕ → List ℤ → Type 0

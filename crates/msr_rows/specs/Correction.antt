@@ -1,10 +1,10 @@
 -- The time correction of a record in normal form, and the start and the key that it leads to (SEED 2.4,
 -- fixed section of data header, fields 12 and 16; blockette 1001).
-use Rattle.std.specs.Prelude.{ℕ, ◌==◌, Bool, not, ◌&&◌, if◌then◌else◌, ℤ, pos, ◌+ℤ◌, ◌*ℤ◌, bit_and, bit_or, Option, Some, None}
+use Rattle.std.specs.Prelude.{ℕ, ◌==◌, Bool, not, ◌&&◌, if◌then◌else◌, ℤ, pos, ◌+ℤ◌, ◌*ℤ◌, bit_and, bit_or, unwrap_or}
 use Rattle.std.specs.Ordering.{int_eq}
 use Rattle.msr_time.specs.Instant.{instant_of}
 use Rattle.msr_header.specs.declared.header.Header.{Header}
-use Rattle.msr_header.specs.declared.header.Timing.{Timing}
+use Rattle.msr_header.specs.Writing.{no_timing}
 use Rattle.msr_rows.specs.declared.row.Key.{Key}
 
 -- a correction that is not 0 and was not applied to the start: activity bit 1 (value 2) is clear
@@ -20,20 +20,12 @@ abbrev pub correction_micros : ℕ → ℤ → ℤ
 correction_micros activity correction =
     if is_pending activity correction then pos 100 *ℤ correction else pos 0
 
--- the microseconds and the quality of blockette 1001, both 0 if there is none
-abbrev pub timing_micros : Option Timing → ℤ
-timing_micros None = pos 0
-timing_micros (Some timing) = timing.micros
-
-abbrev pub timing_quality : Option Timing → ℕ
-timing_quality None = 0
-timing_quality (Some timing) = timing.quality
-
--- the instant of a record's first sample
+-- the instant of a record's first sample, with the microseconds of blockette 1001 if there is one
 abbrev pub start_of : Header → ℤ
-start_of h = (instant_of h.time +ℤ timing_micros h.timing) +ℤ correction_micros h.activity h.correction
+start_of h =
+    (instant_of h.time +ℤ (unwrap_or h.timing no_timing).micros) +ℤ correction_micros h.activity h.correction
 
--- the key of a record
+-- the key of a record; its timing quality is 0 if there is no blockette 1001
 abbrev pub key_of : Header → Key
 key_of h = record {
   network = h.network;
@@ -46,5 +38,5 @@ key_of h = record {
   clock = h.clock;
   data_quality = h.data_quality;
   correction = h.correction;
-  timing = timing_quality h.timing;
+  timing = (unwrap_or h.timing no_timing).quality;
 }

@@ -1,10 +1,6 @@
-pub use Rattle.msr_base.specs.Faults
-pub mod Kinds
 pub mod Correction
 pub mod Area
 pub mod NumbersLeft
-pub mod Opening
 pub mod Records
-pub mod Reverse
 pub mod ViewFields
 pub mod Views

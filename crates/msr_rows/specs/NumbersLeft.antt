@@ -1,6 +1,6 @@
 -- What is left of the samples of a record.
 use Rattle.std.specs.Prelude.{[], true}
-use Rattle.msr_steim.specs.Left.{SamplesLeft}
+use Rattle.msr_steim.specs.InOrder.{SamplesLeft}
 use Rattle.msr_rows.specs.declared.samples.Numbers.{Numbers}
 use Rattle.msr_rows.specs.declared.samples.Numbers.TheVariants.{Plain, Steim, Empty}
 

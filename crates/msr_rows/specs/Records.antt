@@ -1,20 +1,28 @@
 -- The record that bytes begin with: its row of samples, or why it is refused.
-use Rattle.std.specs.Prelude.{◌≡◌, ◌↔◌, ℕ, ◌-◌, ◌^◌, ◌≤◌, Bool, not, ◌&&◌, nat_le, ℤ, pos, List, [], ◌∷◌, length, take, slice_range, Option, Some, None, Ok, Err, is_some, IsTrue, IfNone, IfSome}
+use Rattle.std.specs.Prelude.{◌≡◌, ◌≢◌, ◌↔◌, ℕ, ◌-◌, ◌^◌, ◌≤◌, ◌==◌, if◌then◌else◌, Bool, not, ◌&&◌, nat_le, ℤ, pos, List, [], ◌∷◌, length, take, slice_range, Option, Some, None, Ok, Err, is_some, IsTrue, IfNone, IfSome}
 use Rattle.std.specs.Ordering.{int_eq}
-use Rattle.msr_time.specs.Instant.{IsInstant}
+use Rattle.msr_time.specs.Instant.{IsInstant, IsTime}
 use Rattle.msr_time.specs.SampleRate.{SampleRate, IsRoundedNominal}
 use Rattle.msr_base.specs.Faults.{first_fault, unless}
 use Rattle.msr_header.specs.Reading.{header_of}
 use Rattle.msr_header.specs.declared.header.Header.{Header}
-use Rattle.msr_rows.specs.Kinds.{kind_of_code}
 use Rattle.msr_rows.specs.Correction.{key_of, start_of}
 use Rattle.msr_rows.specs.Area.{Carries, AreaHasFault, ReverseAgrees}
 use Rattle.msr_kinds.specs.declared.kinds.Kind.{Kind}
+use Rattle.msr_kinds.specs.declared.kinds.Kind.TheVariants.{Int16, Int24, Int32, Steim1, Steim2}
 use Rattle.msr_kinds.specs.Storage.{storage_of}
+use Rattle.msr_rows.specs.declared.reading.Opened.{Opened}
 use Rattle.msr_rows.specs.declared.row.Row.{Row}
 use Rattle.msr_rows.specs.declared.row.Record.{Record}
 use Rattle.msr_rows.specs.declared.fault.FaultKind.{FaultKind}
 use Rattle.msr_rows.specs.declared.fault.FaultKind.TheVariants.{Header as HeaderRefused, NoRate, OtherEncoding, BadDataOffset, DataShort, BadCode, TimeRange, ReverseMismatch, Memory}
+
+-- the kind of an encoding: 1, 2 and 3 are integers of 16, 24 and 32 bits, 10 and 11 the two Steim compressions
+-- (SEED 2.4, blockette 1000, encoding format)
+abbrev pub kind_of_code : ℕ → Option Kind
+kind_of_code code =
+    if code == 1 then Some Int16 else if code == 2 then Some Int24 else if code == 3 then Some Int32
+    else if code == 10 then Some Steim1 else if code == 11 then Some Steim2 else None
 
 -- neither part of the sample rate is 0
 abbrev pub has_rate : Header → Bool
@@ -127,3 +135,36 @@ pub record IsRecordOf (bytes : List ℕ) (found : Record) : Type 0 where
   pub in_time : IfSome found.row RowIsInTime
   pub agrees : IfSome found.row (λ row. IsTrue found.reverse_agrees ↔ AgreesAtEnd bytes row)
   pub no_reverse : IfNone found.row (IsTrue found.reverse_agrees)
+
+-- No fault but that of its time refuses the record that the bytes begin with, and this says whether its reverse
+-- constant agrees; a record without samples has none, and agrees.
+pub record HasReverse (bytes : List ℕ) (agrees : Bool) : Type 0 where
+  pub header : Header
+  pub read : header_of bytes ≡ Ok header
+  pub row : Option Row
+  pub empty : IfNone row ((header.samples ≡ 0) × IsTrue agrees)
+  pub is_row : IfSome row (IsRowOf bytes)
+  pub agrees_at_end : IfSome row (λ row. IsTrue agrees ↔ AgreesAtEnd bytes row)
+
+-- a fault refuses it that comes before that of its time
+pub record IsRefusedBeforeTime (bytes : List ℕ) : Type 0 where
+  pub fault : FaultKind
+  pub refused : IsRefused bytes fault
+  pub before : fault ≢ TimeRange
+
+-- the rate and the kind are those of the record of this header, which has samples
+pub record AreFields (bytes : List ℕ) (header : Header) (fields : SampleRate × Kind) : Type 0 where
+  pub has_area : HasArea bytes header fields.1
+  pub begins : header.data_at ≤ 2 ^ header.exponent
+  pub factor : fields.0.factor ≡ header.factor
+  pub multiplier : fields.0.multiplier ≡ header.multiplier
+
+-- the bytes begin with a record of this header, whose fields have no fault
+pub record IsOpened (bytes : List ℕ) (opened : Opened) : Type 0 where
+  pub read : header_of bytes ≡ Ok opened.header
+  pub length_is : opened.length ≡ 2 ^ opened.header.exponent
+  pub time : IsTime opened.header.time
+  pub within : opened.length ≤ length bytes
+  pub small : opened.length ≤ 1_048_576
+  pub empty : IfNone opened.fields (opened.header.samples ≡ 0)
+  pub fields_are : IfSome opened.fields (AreFields bytes opened.header)

@@ -5,8 +5,8 @@ ghost use Rattle.msr_rows.specs.Area.{Carries, AreaHasFault, ReverseAgrees};
 use crate::fault::FaultKind;
 use msr_header::Order;
 use msr_kinds::Storage;
-use msr_plain::{PlainFault, SampleVec, decode_plain_in};
-use msr_steim::{Decoded, SteimFault, decode_steim_in};
+use msr_plain::{PlainFault, SampleVec, decode_plain_into};
+use msr_steim::{Decoded, SteimFault, decode_steim_into};
 
 /// The samples of an area that stores them so, in the memory of `spare`.
 pub(crate) fn decode_area(
@@ -23,17 +23,24 @@ pub(crate) fn decode_area(
     ensures reverse { IfOk result (λ d. IsTrue d.reverse_agrees ↔ ReverseAgrees storage order area.now d.samples) }
     ensures fault { IfErr result (λ f. f ≢ FaultKind.Memory → AreaHasFault storage order area.now count f) }
 {
+    let Ok(mut values) = spare.into_places(usize::from(count)) else {
+        return Err(FaultKind::Memory);
+    };
+    let out = values.as_mut_slice();
     match storage {
-        Storage::Integers(width) => match decode_plain_in(spare, width, order, area, count) {
-            Ok(samples) => Ok(Decoded {
-                samples,
+        Storage::Integers(width) => match decode_plain_into(width, order, area, out) {
+            Ok(()) => Ok(Decoded {
+                samples: SampleVec::from_vec(values),
                 reverse_agrees: true,
             }),
             Err(PlainFault::DataShort) => Err(FaultKind::DataShort),
             Err(PlainFault::Memory) => Err(FaultKind::Memory),
         },
-        Storage::Frames(version) => match decode_steim_in(spare, version, order, area, count) {
-            Ok(decoded) => Ok(decoded),
+        Storage::Frames(version) => match decode_steim_into(version, order, area, out) {
+            Ok(reverse_agrees) => Ok(Decoded {
+                samples: SampleVec::from_vec(values),
+                reverse_agrees,
+            }),
             Err(SteimFault::DataShort) => Err(FaultKind::DataShort),
             Err(SteimFault::BadCode(word)) => Err(FaultKind::BadCode(word)),
             Err(SteimFault::Memory) => Err(FaultKind::Memory),

@@ -2,16 +2,15 @@
 ghost use Rattle.std.specs.Prelude.{take, ◌≡◌, ◌≢◌, ◌↔◌, IsTrue, ◌≤◌, Some, None, true, false, length, MatchResult, IfOk, IfErr, IfSome, IsSome, OnErr, OnOk, IsErrOf, Ok};
 ghost use Rattle.msr_time.specs.Instant.{IsTime};
 ghost use Rattle.msr_header.specs.Reading.{header_of};
-ghost use Rattle.msr_rows.specs.Kinds.{kind_of_code};
-ghost use Rattle.msr_rows.specs.Correction.{is_pending, activity_of, correction_micros, timing_micros, timing_quality, start_of, key_of};
+ghost use Rattle.msr_rows.specs.Records.{kind_of_code, IsOpened};
+ghost use Rattle.msr_rows.specs.Correction.{is_pending, activity_of, correction_micros, start_of, key_of};
 ghost use Rattle.msr_rows.specs.Records.{first_bytes, data_area, field_faults, has_area, IsInTime, IsRecordOf, IsRefused, TakesMemory};
 ghost use Rattle.msr_base.specs.Faults.{first_fault};
-ghost use Rattle.msr_rows.specs.Opening.{IsOpened};
 
 use crate::area::decode_area;
 use crate::fault::FaultKind;
 use crate::row::{Key, Record, Row};
-use msr_header::{Header, Timing, read_header, record_length};
+use msr_header::{Header, read_header, record_length};
 use msr_kinds::Kind;
 use msr_plain::SampleVec;
 use msr_time::{Rate, is_instant};
@@ -49,33 +48,13 @@ fn correction_micros(activity: u8, correction: i32) -> i64
     }
 }
 
-/// The microseconds of blockette 1001.
-fn timing_micros(timing: Option<Timing>) -> i8
-    ensures { result ≡ timing_micros timing }
-{
-    match timing {
-        Some(timing) => timing.micros,
-        None => 0,
-    }
-}
-
-/// The timing quality.
-fn timing_quality(timing: Option<Timing>) -> u8
-    ensures { result ≡ timing_quality timing }
-{
-    match timing {
-        Some(timing) => timing.quality,
-        None => 0,
-    }
-}
-
 /// The instant of a record's first sample.
 fn start_of(header: &Header) -> i64
     requires { IsTime header.now.time }
     ensures { result ≡ start_of header.now }
 {
     let time = header.time.instant();
-    let micros = timing_micros(header.timing);
+    let micros = header.timing_or_zeros().micros;
     time + micros as i64 + correction_micros(header.activity, header.correction)
 }
 
@@ -96,7 +75,7 @@ fn key_of(header: &Header, rate: Rate) -> Key
         clock: header.clock,
         data_quality: header.data_quality,
         correction: header.correction,
-        timing: timing_quality(header.timing),
+        timing: header.timing_or_zeros().quality,
     }
 }
 

@@ -1,6 +1,6 @@
 //! The reverse constant of a record that may be out of time.
 ghost use Rattle.std.specs.Prelude.{IfNone, IfSome};
-ghost use Rattle.msr_rows.specs.Reverse.{HasReverse, IsRefusedBeforeTime};
+ghost use Rattle.msr_rows.specs.Records.{HasReverse, IsRefusedBeforeTime};
 
 use crate::reading::{area_of, open_record};
 use crate::samples::view_area;

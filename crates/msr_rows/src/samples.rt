@@ -1,9 +1,9 @@
 //! The samples of a data area, one after the other, read from its bytes.
 ghost use Rattle.std.specs.Prelude.{◌≡◌, ◌≤◌, ◌↔◌, ℤ, [], length, IfOk, IfErr, IsTrue};
 ghost use Rattle.std.specs.Iterator.{item_count};
-ghost use Rattle.msr_steim.specs.Left.{GivesFirst};
+ghost use Rattle.msr_steim.specs.InOrder.{GivesFirst};
 ghost use Rattle.msr_steim.specs.Area.{CarriesSteim, ReverseAgrees as FramesAgree};
-ghost use Rattle.msr_rows.specs.Area.{Carries, AreaHasFault, FramesHaveFault, ReverseAgrees};
+ghost use Rattle.msr_rows.specs.Area.{Carries, AreaHasFault, ReverseAgrees};
 
 use crate::fault::FaultKind;
 use msr_header::Order;
@@ -28,7 +28,7 @@ pub struct Samples<'a> {
 }
 
 impl<'a> Model for Samples<'a> {
-    ghost use Rattle.msr_steim.specs.Left.{SamplesLeft};
+    ghost use Rattle.msr_steim.specs.InOrder.{SamplesLeft};
 
     ghost Value = { SamplesLeft };
 
@@ -88,7 +88,7 @@ fn view_frames<'a>(
     ensures samples { IfOk result (λ s. CarriesSteim version order area.now s.samples) }
     ensures count { IfOk result (λ s. length s.samples ≡ count) }
     ensures reverse { IfOk result (λ s. IsTrue s.agrees ↔ FramesAgree order area.now s.samples) }
-    ensures fault { IfErr result (FramesHaveFault version order area.now count) }
+    ensures fault { IfErr result (AreaHasFault (Storage.Frames version) order area.now count) }
 {
     match steim_samples(version, order, area, count) {
         Ok(samples) => Ok(Samples {

@@ -42,12 +42,6 @@ pub record HasJoined (joining : Joining) (rows : List Row) (ended : List Segment
   pub segments : AreSegments joining.tolerance rows (ended ++ option_to_list joining.current)
   pub begun : joining.current ≡ None → rows ≡ []
 
--- the row continues the joiner's segment
-pub record ContinuesLast (joining : Joining) (row : Row) : Type 0 where
-  pub segment : Segment
-  pub current : joining.current ≡ Some segment
-  pub continues : ContinuesSegment joining.tolerance segment row
-
 -- the row joins the joiner's segment, which with it ends in the supported years
 pub record JoinsRow (old : Joining) (row : Row) (ended : Option Segment) (new : Joining) : Type 0 where
   pub segment : Segment

@@ -1,9 +1,5 @@
 //! Joining rows into segments.
-ghost use Rattle.std.specs.Prelude.{◌≡◌, option_map};
-ghost use Rattle.msr_segments.specs.Joining.{segment_at};
-
 use crate::follow::{Follow, Step};
-use crate::span::Span;
 use msr_base::SampleVec;
 use msr_rows::{Key, Row};
 use std::alloc::Global;
@@ -41,18 +37,6 @@ pub struct JoinFault {
     pub row: Row,
 }
 
-/// The samples at a span, as a segment.
-fn segment_of_samples(span: Option<Span>, samples: SampleVec) -> Option<Segment>
-    ensures { result ≡ option_map (segment_at samples) span }
-{
-    let span = span?;
-    Some(Segment {
-        key: span.key,
-        start: span.start,
-        samples,
-    })
-}
-
 /// Joins rows into segments, and keeps the samples of the segment that is not ended.
 #[derive(Debug, Drop)]
 pub struct Joiner {
@@ -71,14 +55,14 @@ impl Model for Joiner {
 }
 
 impl Joiner {
-    ghost use Rattle.std.specs.Prelude.{◌≡◌, ◌↔◌, ◌≤◌, List, [], ◌∷◌, ◌++◌, length, IfOk, IfErr, IsErrAnd, OnErr, None};
+    ghost use Rattle.std.specs.Prelude.{◌≡◌, ◌↔◌, ◌≤◌, List, [], ◌∷◌, ◌++◌, length, IfOk, IfErr, IsErrAnd, IsSomeAnd, OnErr, None};
     ghost use Rattle.std.specs.Option.{option_to_list};
     ghost use Rattle.msr_time.specs.Instant.{IsInstant};
     ghost use Rattle.msr_segments.specs.declared.joiner.Segment.{Segment as Joined};
     ghost use Rattle.msr_rows.specs.declared.row.Row.{Row as Given};
     ghost use Rattle.msr_segments.specs.Spans.{Overruns};
-    ghost use Rattle.msr_segments.specs.Segments.{AreSegments, row_span};
-    ghost use Rattle.msr_segments.specs.Joining.{HasJoined, ContinuesLast, IsPush, following_of};
+    ghost use Rattle.msr_segments.specs.Segments.{AreSegments, ContinuesSegment, row_span};
+    ghost use Rattle.msr_segments.specs.Joining.{HasJoined, IsPush, following_of};
 
     /// A joiner to which no row was given, for that tolerance in microseconds. Takes no memory.
     pub fn new(alloc: Global, tolerance: u32) -> Joiner
@@ -104,7 +88,7 @@ impl Joiner {
         ensures time_range { IsErrAnd result (λ fault. fault.kind ≡ JoinKind.TimeRange)
             ↔ Overruns (following_of self.old) (row_span row) }
         ensures memory_only_for_more { IsErrAnd result (λ fault. fault.kind ≡ JoinKind.Memory)
-            → ContinuesLast self.old row }
+            → IsSomeAnd self.old.current (λ segment. ContinuesSegment self.old.tolerance segment row) }
         ensures handed_back { IfErr result (λ fault. fault.row ≡ row) }
         ensures unchanged { OnErr result (self.new ≡ self.old) }
     {
@@ -127,10 +111,8 @@ impl Joiner {
                 Ok(None)
             }
             Step::Begins => {
-                let samples = mem::replace(&mut self.samples, row.samples);
-                let ended = segment_of_samples(self.follow.current(), samples);
-                self.follow = follow;
-                Ok(ended)
+                let samples = row.samples;
+                Ok(mem::replace(self, Joiner { follow, samples }).finish())
             }
         }
     }
@@ -143,6 +125,11 @@ impl Joiner {
         ensures none { (rows : List Given) (given : List Joined) → HasJoined self rows given
             → (result ≡ None) ↔ (rows ≡ []) }
     {
-        segment_of_samples(self.follow.current(), self.samples)
+        let span = self.follow.current()?;
+        Some(Segment {
+            key: span.key,
+            start: span.start,
+            samples: self.samples,
+        })
     }
 }

@@ -9,8 +9,7 @@ use lib.Seq.{drop-drop}
 use lib.Lanes.{Each1, zip2, pick_l, put_chunk, number_l, digits_l}
 use lib.Signed.{shr_z}
 use Rattle.msr_steim.specs.Area.{sums_after}
-use Rattle.msr_steim.specs.Lanes.{sums_from}
-use Rattle.msr_steim.specs.Sums.{AreSumsWritten}
+use Rattle.msr_steim.specs.Sums.{AreSumsWritten, sums_from}
 use Rattle.msr_steim.specs.Word.{FitsBits, signed_of}
 use Rattle.msr_steim.specs.declared.sums.Progress.{Progress}
 use Rattle.msr_steim.proofs.Decoding.{length-sums_after}

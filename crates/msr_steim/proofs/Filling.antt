@@ -52,6 +52,18 @@ no_group_no_word version gs number are not_one =
     (λ (is : IsGroup version (group_in gs number)). absurd (not_one is))
     (group_or_none version gs number are)
 
+code_of_none : (version : Version) → 0 ≡ group_code version 0
+code_of_none One = refl
+code_of_none Two = refl
+
+-- and its code is 0
+pub no_group_no_code : (version : Version) (gs : List (List ℤ)) (number : ℕ) → AreGroups version gs
+    → (IsGroup version (group_in gs number) → ⊥) → 0 ≡ code_in version gs number
+no_group_no_code version gs number are not_one =
+    ⊎_elim (λ (e : group_in gs number ≡ []). code_of_none version ∙ ap (λ group. group_code version (length group)) (sym e))
+    (λ (is : IsGroup version (group_in gs number)). absurd (not_one is))
+    (group_or_none version gs number are)
+
 -- ---- the codes of a frame
 
 code_lt_one : (a b c d : Bool) → cond a 3 (cond b 2 (cond c 1 (cond d 1 0))) < 4

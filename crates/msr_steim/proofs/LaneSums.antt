@@ -11,8 +11,7 @@ use lib.Lanes.{Each1, zip2, pick_l, put_chunk}
 use Rattle.std.proofs.Math.Seq.{take-append-add, take-append_seam}
 use Rattle.std.proofs.Math.IntN.{+ℤ_assoc}
 use Rattle.msr_steim.specs.Area.{sums_after}
-use Rattle.msr_steim.specs.Lanes.{sums_from}
-use Rattle.msr_steim.specs.Sums.{IsGroupWritten}
+use Rattle.msr_steim.specs.Sums.{IsGroupWritten, sums_from}
 use Rattle.msr_steim.specs.Word.{FitsBits, layout_of, numbers_in}
 use Rattle.msr_steim.specs.declared.sums.Progress.{Progress}
 use Rattle.msr_kinds.specs.declared.storage.Version.TheVariants.{Two}

@@ -1,13 +1,11 @@
 -- Lemmas on the samples that are written word by word.
 use Rattle.std.proofs.Common.{◌≡◌, ◌≢◌, ◌<◌, ◌≤◌, ℕ, zero, suc, ◌+◌, ◌-◌, ◌*◌, ◌/◌, ◌%◌, ◌^◌, ℤ, pos, ◌+ℤ◌, ◌-ℤ◌, List, [], ◌∷◌, ◌++◌, length, take, get_or, refl, sym, ap, ◌∙◌, subst, arith, w32, to_z, of_z, SFits, Some, ⊎_elim}
 use Rattle.std.specs.Int.{int_wrap}
-use Rattle.std.specs.Prelude.{◌==◌, Bool, false, Result, Ok, Err, IsErrOf}
+use Rattle.std.specs.Prelude.{◌==◌, false}
 use Rattle.std.proofs.lemmas.Bool.{cases_lt, le-ltb, ne_eqb}
 use Rattle.std.proofs.lemmas.Int.{ints, int_wrap-add_left, int_wrap_fits, wrapping_sub_is}
 use Rattle.std.proofs.lemmas.List.{append-nil, length-append, length-take, get_or-take, take_all}
 use Rattle.msr_base.specs.declared.order.Order.{Order}
-use Rattle.msr_steim.specs.declared.area.SteimFault.{SteimFault}
-use Rattle.msr_steim.specs.declared.area.SteimFault.TheVariants.{DataShort, BadCode, Memory}
 use Rattle.msr_steim.specs.declared.sums.Progress.{Progress}
 use Rattle.msr_kinds.specs.declared.storage.Version.{Version}
 use Rattle.msr_kinds.specs.declared.storage.Version.TheVariants.{One, Two}
@@ -287,19 +285,6 @@ undefined_before version order area count number first samples read within undef
       few = read.few;
       undefined = undefined;
     }
-
-word_in : SteimFault → ℕ
-word_in DataShort = 0
-word_in (BadCode number) = number
-word_in Memory = 0
-
-word_of : Result Bool SteimFault → ℕ
-word_of (Ok agrees) = 0
-word_of (Err fault) = word_in fault
-
-pub same_word : (m n : ℕ) → IsErrOf {T = Bool} {E = SteimFault} (Err (BadCode m)) (BadCode n) → m ≡ n
-unfolding word_in word_of
-same_word m n e = ap word_of e
 
 -- ---- where the words of a frame begin
 

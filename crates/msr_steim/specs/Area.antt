@@ -7,6 +7,8 @@ use Rattle.msr_base.specs.declared.order.Order.TheVariants.{Big, Little}
 use Rattle.msr_kinds.specs.declared.storage.Version.{Version}
 use Rattle.msr_kinds.specs.declared.storage.Version.TheVariants.{One, Two}
 use Rattle.msr_steim.specs.Word.{Holds, IsUndefinedWord}
+use Rattle.msr_steim.specs.declared.area.SteimFault.{SteimFault}
+use Rattle.msr_steim.specs.declared.area.SteimFault.TheVariants.{DataShort, BadCode, Memory}
 
 -- how many words stand in the whole frames of 64 bytes; a rest is ignored
 abbrev pub word_count : List ℕ → ℕ
@@ -100,3 +102,9 @@ pub record IsUndefinedBefore (version : Version) (order : Order) (area : List �
   pub within : number < word_count area
   pub few : length (differences groups) < count
   pub undefined : IsUndefined version order area number
+
+-- why the area does not carry `count` samples: its words end first, or an undefined word comes first
+abbrev pub HasFault : Version → Order → List ℕ → ℕ → SteimFault → Type 0
+HasFault version order area count DataShort = EndsBefore version order area count
+HasFault version order area count (BadCode number) = IsUndefinedBefore version order area count number
+HasFault version order area count Memory = ⊥

@@ -1,5 +1,6 @@
 -- The samples of an area in order, one word after the other.
 use Rattle.std.specs.Prelude.{◌≡◌, ◌↔◌, ℕ, zero, suc, ◌-◌, ◌/◌, ◌^◌, ℤ, Bool, List, [], ◌++◌, IsTrue, length, Option, Some, None}
+use Rattle.std.specs.Iterator.{YieldsFirst}
 use Rattle.msr_base.specs.declared.order.Order.{Order}
 use Rattle.msr_steim.specs.declared.borrowed.Fields.{Fields}
 use Rattle.msr_steim.specs.declared.word.WordLayout.{WordLayout}
@@ -51,3 +52,12 @@ pub record HasSamples (version : Version) (order : Order) (area : List ℕ) (cou
 pub record BeginsAfter (version : Version) (order : Order) (area : List ℕ) (before : ℤ) : Type 0 where
   pub sums : samples_of (constant order area 1) (differences_from version order area 0)
       ≡ sums_after before (differences_from version order area 0)
+
+-- what an iterator leaves: these samples, and whether the last one of the area is the reverse constant
+pub record SamplesLeft : Type 0 where
+  pub samples : List ℤ
+  pub agrees : Bool
+
+-- `next` gives the first sample that is left, and leaves the others
+abbrev pub GivesFirst : SamplesLeft → Option ℤ → SamplesLeft → Type 0
+GivesFirst old given new = YieldsFirst (λ left. left.samples) old given new × (new.agrees ≡ old.agrees)

@@ -1,5 +1,5 @@
--- The samples that one word gives.
-use Rattle.std.specs.Prelude.{◌≡◌, ◌<◌, ◌≤◌, ◌⊎◌, ℕ, ◌+◌, ◌-◌, ℤ, pos, List, ◌++◌, length, take, slice_index_or}
+-- The samples that one word gives, and the sums of a few numbers.
+use Rattle.std.specs.Prelude.{◌≡◌, ◌<◌, ◌≤◌, ◌⊎◌, ℕ, ◌+◌, ◌-◌, ℤ, pos, ◌+ℤ◌, List, [], ◌∷◌, ◌++◌, length, take, slice_index_or}
 use Rattle.msr_steim.specs.declared.sums.Progress.{Progress}
 use Rattle.msr_kinds.specs.declared.storage.Version.{Version}
 use Rattle.msr_steim.specs.Area.{sums_after}
@@ -28,6 +28,11 @@ pub record AreSumsWritten (differences : List ℤ) (at : Progress) (old new : Li
   pub place : next.place ≡ at.place + length differences
   pub samples : take next.place new ≡ take at.place old ++ sums_after at.last differences
   pub last : next.last ≡ slice_index_or new (next.place - 1) (pos 0)
+
+-- each sum is the one before and the next number
+abbrev pub sums_from : ℤ → List ℤ → List ℤ
+sums_from sum [] = []
+sums_from sum (d ∷ ds) = (sum +ℤ d) ∷ sums_from (sum +ℤ d) ds
 
 -- the samples of a word were written, and a place is left after them; if there are none, nothing has changed
 pub record IsInnerWritten (version : Version) (code word : ℕ) (at : Progress) (old new : List ℤ)

@@ -1,9 +1,9 @@
 //! The samples that a data area of Steim frames carries.
 
-ghost use Rattle.std.specs.Prelude.{◌≡◌, ◌<◌, ◌≤◌, ◌↔◌, ℕ, ℤ, List, ◌+◌, ◌-◌, ◌*◌, IfOk, IsErrOf, IsTrue, OnOk, Some, length, slice_get};
+ghost use Rattle.std.specs.Prelude.{◌≡◌, ◌≢◌, ◌<◌, ◌≤◌, ◌↔◌, ℕ, ℤ, List, ◌+◌, ◌-◌, ◌*◌, IfErr, IfOk, IsTrue, OnOk, Some, length, slice_get};
 ghost use Rattle.msr_base.specs.declared.order.Order.{Order};
 ghost use Rattle.msr_kinds.specs.declared.storage.Version.{Version};
-ghost use Rattle.msr_steim.specs.Area.{CarriesSteim, EndsBefore, IsUndefinedBefore, ReverseAgrees, arranged_word, constant, whole_word};
+ghost use Rattle.msr_steim.specs.Area.{CarriesSteim, EndsBefore, HasFault, IsUndefinedBefore, ReverseAgrees, arranged_word, constant, whole_word};
 
 use crate::borrowed::before_first;
 use crate::fours::write_sixteen;
@@ -190,15 +190,11 @@ fn decode_words<const MIXED: bool, const FOURS: bool>(
     out: &mut [i32],
 ) -> Result<bool, SteimFault>
     requires some { 1 ≤ length out.old }
-    requires few { length out.old ≤ 65535 }
     requires small { length area.now ≤ 1048576 }
     requires fours { IsTrue FOURS → order ≡ Order.Big }
     ensures samples { OnOk result (CarriesSteim version order area.now out.new) }
     ensures reverse { IfOk result (λ agrees. IsTrue agrees ↔ ReverseAgrees order area.now out.new) }
-    ensures short { IsErrOf result SteimFault.DataShort → EndsBefore version order area.now (length out.old) }
-    ensures bad { (number : ℕ) → IsErrOf result (SteimFault.BadCode number)
-        → IsUndefinedBefore version order area.now (length out.old) number }
-    ensures never_memory { IsErrOf result SteimFault.Memory → ⊥ }
+    ensures fault { IfErr result (HasFault version order area.now (length out.old)) }
 {
     let frames = area.len() / 64;
     if frames == 0 {
@@ -245,19 +241,16 @@ pub fn decode_steim_into(
     out: &mut [i32],
 ) -> Result<bool, SteimFault>
     requires some { 1 ≤ length out.old }
-    requires few { length out.old ≤ 65535 }
     requires small { length area.now ≤ 1048576 }
     ensures samples { OnOk result (CarriesSteim version order area.now out.new) }
     ensures reverse { IfOk result (λ agrees. IsTrue agrees ↔ ReverseAgrees order area.now out.new) }
-    ensures short { IsErrOf result SteimFault.DataShort → EndsBefore version order area.now (length out.old) }
-    ensures bad { (number : ℕ) → IsErrOf result (SteimFault.BadCode number)
-        → IsUndefinedBefore version order area.now (length out.old) number }
-    ensures never_memory { IsErrOf result SteimFault.Memory → ⊥ }
+    ensures fault { IfErr result (HasFault version order area.now (length out.old)) }
 {
     by_reading!(decode_words, version, order, area, out)
 }
 
-/// The first `count` samples that the area carries, by `decode_steim_in` in memory of their own.
+/// The first `count` samples that the area carries, by `decode_steim_into` in memory of their own. If memory is not
+/// refused, there is one outcome: `one_outcome`.
 pub fn decode_steim(
     alloc: Global,
     version: Version,
@@ -270,32 +263,9 @@ pub fn decode_steim(
     ensures samples { IfOk result (λ d. CarriesSteim version order area.now d.samples) }
     ensures count { IfOk result (λ d. length d.samples ≡ count) }
     ensures reverse { IfOk result (λ d. IsTrue d.reverse_agrees ↔ ReverseAgrees order area.now d.samples) }
-    ensures short { IsErrOf result SteimFault.DataShort → EndsBefore version order area.now count }
-    ensures bad { (number : ℕ) → IsErrOf result (SteimFault.BadCode number)
-        → IsUndefinedBefore version order area.now count number }
+    ensures fault { IfErr result (λ f. f ≢ SteimFault.Memory → HasFault version order area.now count f) }
 {
-    decode_steim_in(SampleVec::new(alloc), version, order, area, count)
-}
-
-/// The first `count` samples that the area carries, by `decode_steim_into` in the memory of `spare`, whose own samples
-/// do not matter. If memory is not refused, there is one outcome: `one_outcome`.
-pub fn decode_steim_in(
-    spare: SampleVec,
-    version: Version,
-    order: Order,
-    area: &[u8],
-    count: u16,
-) -> Result<Decoded, SteimFault>
-    requires some { 1 ≤ count }
-    requires small { length area.now ≤ 1048576 }
-    ensures samples { IfOk result (λ d. CarriesSteim version order area.now d.samples) }
-    ensures count { IfOk result (λ d. length d.samples ≡ count) }
-    ensures reverse { IfOk result (λ d. IsTrue d.reverse_agrees ↔ ReverseAgrees order area.now d.samples) }
-    ensures short { IsErrOf result SteimFault.DataShort → EndsBefore version order area.now count }
-    ensures bad { (number : ℕ) → IsErrOf result (SteimFault.BadCode number)
-        → IsUndefinedBefore version order area.now count number }
-{
-    let mut values = spare.into_places(usize::from(count))?;
+    let mut values = SampleVec::new(alloc).into_places(usize::from(count))?;
     let reverse_agrees = decode_steim_into(version, order, area, values.as_mut_slice())?;
     Ok(Decoded {
         samples: SampleVec::from_vec(values),

@@ -1,10 +1,9 @@
 //! The samples of a data area of Steim frames, one after the other, without memory.
 
-ghost use Rattle.std.specs.Prelude.{◌≡◌, ◌<◌, ◌≤◌, ◌↔◌, ◌++◌, ◌-◌, ◌*◌, ◌/◌, ◌%◌, ◌^◌, ℕ, ℤ, List, IfOk, IfSome, IsErrOf, IsNone, IsTrue, [], length};
-ghost use Rattle.std.specs.Iterator.{YieldsFirst, item_count};
-ghost use Rattle.msr_steim.specs.Area.{CarriesSteim, EndsBefore, IsUndefined, IsUndefinedBefore, ReverseAgrees, code_of, word_count};
-ghost use Rattle.msr_steim.specs.InOrder.{BeginsAfter, HasFields, differences_from};
-ghost use Rattle.msr_steim.specs.Left.{GivesFirst};
+ghost use Rattle.std.specs.Prelude.{◌≡◌, ◌<◌, ◌≤◌, ◌↔◌, ◌++◌, ◌-◌, ◌*◌, ◌/◌, ◌%◌, ◌^◌, ℤ, IfErr, IfOk, IfSome, IsNone, IsTrue, [], length};
+ghost use Rattle.std.specs.Iterator.{item_count};
+ghost use Rattle.msr_steim.specs.Area.{CarriesSteim, HasFault, IsUndefined, ReverseAgrees, code_of, word_count};
+ghost use Rattle.msr_steim.specs.InOrder.{BeginsAfter, GivesFirst, HasFields, differences_from};
 ghost use Rattle.msr_steim.specs.Word.{numbers_in};
 
 use crate::area::{SteimFault, arranged_word_at, constant_at, whole_word_at};
@@ -22,9 +21,10 @@ struct Fields {
     width: u32,
 }
 
-/// The differences of an area, word after word. Contracts see the list of those that are left.
+/// The samples of an area, read from its words one by one. Contracts see those that are left, and whether
+/// the last of all is the reverse constant. A clone takes no memory.
 #[derive(Clone, Debug, Drop)]
-struct Differences<'a> {
+pub struct SteimSamples<'a> {
     version: Version,
     order: Order,
     area: &'a [u8],
@@ -32,29 +32,6 @@ struct Differences<'a> {
     number: usize,
     /// What is left of the word before.
     fields: Fields,
-}
-
-impl<'a> Model for Differences<'a> {
-    ghost use Rattle.std.specs.Prelude.{◌≤◌, ◌<◌, ◌*◌, ◌++◌, List, ℤ, length};
-
-    ghost Value = { List ℤ };
-
-    ghost use Rattle.msr_steim.specs.InOrder.{differences_from};
-    ghost use Rattle.msr_steim.specs.Word.{numbers_in};
-
-    ghost view = { λ d. numbers_in d.fields.word d.fields.width d.fields.count
-        ++ differences_from d.version d.order d.area.now d.number };
-
-    ghost invariant = { λ d. (length d.area.now ≤ 1048576)
-        × (0 < d.fields.count → 0 < d.fields.width)
-        × (d.fields.count * d.fields.width ≤ 32) };
-}
-
-/// The samples of an area, read from its words one by one. Contracts see those that are left, and whether
-/// the last of all is the reverse constant. A clone takes no memory.
-#[derive(Clone, Debug, Drop)]
-pub struct SteimSamples<'a> {
-    differences: Differences<'a>,
     /// The sample before, to which the next difference is added.
     last: i32,
     left: u16,
@@ -63,23 +40,18 @@ pub struct SteimSamples<'a> {
 }
 
 impl<'a> Model for SteimSamples<'a> {
-    ghost use Rattle.msr_steim.specs.Left.{SamplesLeft};
+    ghost use Rattle.std.specs.Prelude.{◌≤◌, ◌<◌, ◌*◌, length};
+    ghost use Rattle.msr_steim.specs.InOrder.{SamplesLeft};
 
     ghost Value = { SamplesLeft };
 
     ghost use Rattle.msr_steim.specs.SumsLeft.{samples_left};
 
     ghost view = { samples_left };
-}
 
-/// The code of the word at this place of a frame whose first word is `codes`.
-#[inline(always)]
-fn code_in(codes: u32, slot: usize) -> u8
-    requires { slot < 16 }
-    ensures value { result ≡ codes / 2 ^ (30 - 2 * slot) % 4 }
-    ensures small { result < 4 }
-{
-    ((codes << (2 * slot)) >> 30) as u8
+    ghost invariant = { λ s. (length s.area.now ≤ 1048576)
+        × (0 < s.fields.count → 0 < s.fields.width)
+        × (s.fields.count * s.fields.width ≤ 32) };
 }
 
 /// The code of the word with this number. A word that has no differences has code 0.
@@ -92,7 +64,8 @@ fn code_at(order: Order, area: &[u8], number: usize) -> u8
     if number < 3 || number % 16 == 0 {
         return 0;
     }
-    code_in(whole_word_at(order, area, number / 16 * 16), number % 16)
+    let codes = whole_word_at(order, area, number / 16 * 16);
+    ((codes << (2 * (number % 16))) >> 30) as u8
 }
 
 /// The fields of the word with this number, or `None` if it is undefined.
@@ -151,24 +124,6 @@ pub(crate) fn before_first(version: Version, order: Order, area: &[u8]) -> i32
     }
 }
 
-impl<'a> Iterator for Differences<'a> {
-    type Item = i32;
-
-    ghost next_gives = { YieldsFirst {A = ℤ} (λ left. left) };
-
-    ghost remaining = { item_count {A = ℤ} (λ left. left) };
-
-    fn next(&mut self) -> Option<i32> {
-        if self.fields.count == 0 {
-            let (fields, number) = next_fields(self.version, self.order, self.area, self.number)?;
-            self.fields = fields;
-            self.number = number;
-        }
-        self.fields.count -= 1;
-        Some(difference_at(self.fields.word, self.fields.count, self.fields.width))
-    }
-}
-
 impl<'a> Iterator for SteimSamples<'a> {
     type Item = i32;
 
@@ -180,7 +135,13 @@ impl<'a> Iterator for SteimSamples<'a> {
         if self.left == 0 {
             return None;
         }
-        let difference = self.differences.next()?;
+        if self.fields.count == 0 {
+            let (fields, number) = next_fields(self.version, self.order, self.area, self.number)?;
+            self.fields = fields;
+            self.number = number;
+        }
+        self.fields.count -= 1;
+        let difference = difference_at(self.fields.word, self.fields.count, self.fields.width);
         self.last = self.last.wrapping_add(difference);
         self.left -= 1;
         Some(self.last)
@@ -209,23 +170,18 @@ pub fn steim_samples<'a>(
     ensures samples { IfOk result (λ s. CarriesSteim version order area.now s.samples) }
     ensures count { IfOk result (λ s. length s.samples ≡ count) }
     ensures reverse { IfOk result (λ s. IsTrue s.agrees ↔ ReverseAgrees order area.now s.samples) }
-    ensures short { IsErrOf result SteimFault.DataShort → EndsBefore version order area.now count }
-    ensures bad { (number : ℕ) → IsErrOf result (SteimFault.BadCode number)
-        → IsUndefinedBefore version order area.now count number }
-    ensures never_memory { IsErrOf result SteimFault.Memory → ⊥ }
+    ensures fault { IfErr result (HasFault version order area.now count) }
 {
     let agrees = check_area(version, order, area, count)?;
     Ok(SteimSamples {
-        differences: Differences {
-            version,
-            order,
-            area,
-            number: 0,
-            fields: Fields {
-                word: 0,
-                count: 0,
-                width: 0,
-            },
+        version,
+        order,
+        area,
+        number: 0,
+        fields: Fields {
+            word: 0,
+            count: 0,
+            width: 0,
         },
         last: before_first(version, order, area),
         left: count,

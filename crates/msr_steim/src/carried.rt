@@ -1,8 +1,8 @@
 //! Tells whether an area carries a given number of samples, without memory for them.
 
-ghost use Rattle.std.specs.Prelude.{◌≡◌, ◌≤◌, ℕ, IfOk, IsTrue, IsErrOf, length};
+ghost use Rattle.std.specs.Prelude.{◌≡◌, ◌≤◌, IfErr, IfOk, IsTrue, length};
 ghost use Rattle.msr_base.specs.declared.order.Order.{Order};
-ghost use Rattle.msr_steim.specs.Area.{EndsBefore, IsUndefinedBefore};
+ghost use Rattle.msr_steim.specs.Area.{HasFault};
 ghost use Rattle.msr_steim.specs.InOrder.{HasSamples};
 
 use crate::area::{
@@ -28,10 +28,7 @@ fn check_words<const MIXED: bool, const FOURS: bool>(
     requires small { length area.now ≤ 1048576 }
     requires fours { IsTrue FOURS → order ≡ Order.Big }
     ensures samples { IfOk result (HasSamples version order area.now count) }
-    ensures short { IsErrOf result SteimFault.DataShort → EndsBefore version order area.now count }
-    ensures bad { (number : ℕ) → IsErrOf result (SteimFault.BadCode number)
-        → IsUndefinedBefore version order area.now count number }
-    ensures never_memory { IsErrOf result SteimFault.Memory → ⊥ }
+    ensures fault { IfErr result (HasFault version order area.now count) }
 {
     let frames = area.len() / 64;
     if frames == 0 {
@@ -83,10 +80,7 @@ pub(crate) fn check_area(
     requires some { 1 ≤ count }
     requires small { length area.now ≤ 1048576 }
     ensures samples { IfOk result (HasSamples version order area.now count) }
-    ensures short { IsErrOf result SteimFault.DataShort → EndsBefore version order area.now count }
-    ensures bad { (number : ℕ) → IsErrOf result (SteimFault.BadCode number)
-        → IsUndefinedBefore version order area.now count number }
-    ensures never_memory { IsErrOf result SteimFault.Memory → ⊥ }
+    ensures fault { IfErr result (HasFault version order area.now count) }
 {
     by_reading!(check_words, version, order, area, count)
 }

@@ -26,7 +26,6 @@ fn signed_bytes(bytes: u8x8) -> i16x8
 fn write_eight(area: &[u8], from: usize, at: Progress, out: &mut [i32]) -> Progress
     requires within { from + 8 ≤ length area.now }
     requires room { at.place + 8 ≤ length out.old }
-    requires few { length out.old ≤ 65535 }
     ensures { AreSumsWritten (map (signed_of 8) (take 8 (drop from area.now))) at out.old out.new result }
 {
     let sums = prefix_sums(signed_bytes(u8x8::from_slice(&area[from..])));
@@ -43,7 +42,6 @@ fn write_eight(area: &[u8], from: usize, at: Progress, out: &mut [i32]) -> Progr
 pub(crate) fn write_sixteen(area: &[u8], from: usize, at: Progress, out: &mut [i32]) -> Progress
     requires within { from + 16 ≤ length area.now }
     requires room { at.place + 16 ≤ length out.old }
-    requires few { length out.old ≤ 65535 }
     ensures { AreSumsWritten (map (signed_of 8) (take 16 (drop from area.now))) at out.old out.new result }
 {
     let half = write_eight(area, from, at, out);

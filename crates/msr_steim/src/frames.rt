@@ -8,7 +8,7 @@ ghost use Rattle.msr_steim.specs.Area.{CarriesSteim, ReverseAgrees, constant, di
 ghost use Rattle.msr_steim.specs.Word.{AreGroups, group_word};
 ghost use Rattle.msr_steim.specs.Frames.{code_in, codes_word, differences_after, frame_bytes, frame_word, group_in};
 
-use crate::word::{Group, layout_of_group, write_word};
+use crate::word::{Group, write_word};
 use byteorder::{BigEndian, ByteOrder};
 use msr_kinds::Version;
 
@@ -24,42 +24,32 @@ fn group_in(groups: &[Group], number: usize) -> Option<&Group>
     groups.get(number - number / 16 - 3)
 }
 
-/// The code of the word with this number.
-fn code_in(version: Version, groups: &[Group], number: usize) -> u8
-    ensures value { result ≡ code_in version (map (λ g. g.items) groups.now) number }
-    ensures small { result < 4 }
-{
-    let Some(group) = group_in(groups, number) else {
-        return 0;
-    };
-    match layout_of_group(version, group.len()) {
-        Some(layout) => layout.code,
-        None => 0,
-    }
-}
-
-/// The word of the group in the word with this number.
-fn group_word_in(version: Version, groups: &[Group], number: usize) -> u32
+/// The code and the word of the group in the word with this number.
+fn written_in(version: Version, groups: &[Group], number: usize) -> (u8, u32)
     requires { AreGroups version (map (λ g. g.items) groups.now) }
-    ensures { result ≡ group_word version (group_in (map (λ g. g.items) groups.now) number) }
+    ensures code { result.0 ≡ code_in version (map (λ g. g.items) groups.now) number }
+    ensures small { result.0 < 4 }
+    ensures word { result.1 ≡ group_word version (group_in (map (λ g. g.items) groups.now) number) }
 {
     let Some(group) = group_in(groups, number) else {
-        return 0;
+        return (0, 0);
     };
     match write_word(version, group) {
-        Some((_, word)) => word,
-        None => 0,
+        Some(written) => written,
+        None => (0, 0),
     }
 }
 
 /// The first word of the frame that begins with this number.
 fn codes_word(version: Version, groups: &[Group], number: usize) -> u32
-    requires { number < 2 ^ 62 }
+    requires groups { AreGroups version (map (λ g. g.items) groups.now) }
+    requires small { number < 2 ^ 62 }
     ensures { result ≡ codes_word version (map (λ g. g.items) groups.now) number }
 {
     let mut codes: u32 = 0;
     for place in 0..16 {
-        codes = codes * 4 + u32::from(code_in(version, groups, number + place));
+        let (code, _) = written_in(version, groups, number + place);
+        codes = codes * 4 + u32::from(code);
     }
     codes
 }
@@ -77,7 +67,7 @@ fn frame_word(version: Version, first: i32, last: i32, groups: &[Group], number:
     } else if number == 2 {
         last.cast_unsigned()
     } else {
-        group_word_in(version, groups, number)
+        written_in(version, groups, number).1
     }
 }
 

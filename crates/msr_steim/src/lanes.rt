@@ -5,8 +5,7 @@
 
 ghost use Rattle.std.specs.Prelude.{◌≡◌, ◌<◌, ◌≤◌, ◌+◌, ◌/◌, ◌%◌, ◌-◌, ◌++◌, length, IfSome, IsSomeAnd, IsTrue, pos, replicate};
 ghost use Rattle.std.specs.List.{AllByRecursion};
-ghost use Rattle.msr_steim.specs.Lanes.{sums_from};
-ghost use Rattle.msr_steim.specs.Sums.{IsGroupWritten};
+ghost use Rattle.msr_steim.specs.Sums.{IsGroupWritten, sums_from};
 ghost use Rattle.msr_steim.specs.Word.{FitsBits, layout_of, numbers_in};
 ghost use Rattle.msr_kinds.specs.declared.storage.Version.TheVariants.{Two};
 
@@ -108,7 +107,6 @@ pub(crate) fn prefix_sums(d: i16x8) -> i16x8
 pub(crate) fn write_lanes(key: usize, word: u32, at: Progress, out: &mut [i32]) -> Progress
     requires layout { IsSomeAnd (layout_of Two (key / 4) (key % 4)) (λ layout. 3 ≤ layout.count) }
     requires room { at.place + 8 ≤ length out.old }
-    requires few { length out.old ≤ 65535 }
     ensures { IfSome (layout_of Two (key / 4) (key % 4)) (λ layout.
         IsGroupWritten word layout.count layout.width at out.old out.new result) }
 {

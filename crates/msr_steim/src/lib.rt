@@ -12,9 +12,7 @@ mod lanes;
 mod sums;
 mod word;
 
-pub use area::{
-    Decoded, SteimFault, decode_steim, decode_steim_in, decode_steim_into, one_outcome,
-};
+pub use area::{Decoded, SteimFault, decode_steim, decode_steim_into, one_outcome};
 pub use borrowed::{SteimSamples, steim_samples};
 pub use frames::{fill_steim, filled_area_carries};
 pub use group::{all_fit_bits, fits_bits, group_width, is_group};

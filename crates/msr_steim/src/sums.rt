@@ -44,7 +44,6 @@ fn write_group(word: u32, count: u32, width: u32, at: Progress, out: &mut [i32])
     requires positive { 0 < width }
     requires within { count * width ≤ 32 }
     requires room { at.place < length out.old }
-    requires few { length out.old ≤ 65535 }
     ensures some { IfSome result (IsGroupWritten word count width at out.old out.new) }
     ensures none { IsNone result → length out.old ≤ at.place + count }
     ensures kept { IsNone result → out.new ≡ out.old }
@@ -69,7 +68,6 @@ pub(crate) fn write_inner_word(
 ) -> Option<Progress>
     requires code { code < 4 }
     requires room { at.place < length out.old }
-    requires few { length out.old ≤ 65535 }
     ensures some { IfSome result (IsInnerWritten version code word at out.old out.new) }
     ensures none { IsNone result → ReachesEnd version code word at.place (length out.old) }
     ensures kept { IsNone result → out.new ≡ out.old }
@@ -121,7 +119,6 @@ fn first_of_pair(code: u8, word: u32) -> i32
 fn write_pair(code: u8, word: u32, at: Progress, out: &mut [i32]) -> Progress
     requires code { (2 ≤ code) × (code < 4) }
     requires room { at.place + 2 < length out.old }
-    requires few { length out.old ≤ 65535 }
     ensures two { code ≡ 2 → IsGroupWritten word 2 16 at out.old out.new result }
     ensures one { code ≡ 3 → IsGroupWritten word 1 32 at out.old out.new result }
 {
@@ -147,7 +144,6 @@ fn write_without_jump(
 ) -> Option<Progress>
     requires code { code < 4 }
     requires room { at.place < length out.old }
-    requires few { length out.old ≤ 65535 }
     ensures some { IfSome result (IsInnerWritten version code word at out.old out.new) }
     ensures kept { IsNone result → out.new ≡ out.old }
 {
@@ -180,7 +176,6 @@ pub(crate) fn write_next_word<const MIXED: bool>(
 ) -> Option<Progress>
     requires code { code < 4 }
     requires room { at.place < length out.old }
-    requires few { length out.old ≤ 65535 }
     ensures some { IfSome result (IsInnerWritten version code word at out.old out.new) }
     ensures none { IsNone result → ReachesEnd version code word at.place (length out.old) }
     ensures kept { IsNone result → out.new ≡ out.old }
@@ -206,7 +201,6 @@ pub(crate) fn write_last_word(
 ) -> Option<Progress>
     requires code { code < 4 }
     requires room { at.place < length out.old }
-    requires few { length out.old ≤ 65535 }
     ensures some { IfSome result (IsWritten version code word at out.old out.new) }
     ensures none { IsNone result → IsUndefinedWord version code word }
 {

@@ -29,7 +29,7 @@ use Rattle.msr_tool.specs.Fault.{fault_of_writing}
 use Rattle.msr_output.specs.Decided.{IsEncoded}
 use Rattle.msr_output.proofs.OpenSegments.{packs_count, refused_now, writable_now}
 use Rattle.msr_output.proofs.DecidedRecords.{HasWrittenDecided, begun_decided, written_decided}
-use Rattle.msr_tool.specs.Writing.{Lined, HasLined, LinesMore, StandsWritten, GoesOn, CanGrow, CanTake, CanTakeRow, StopsLining, current_after, ended_by, segments_with}
+use Rattle.msr_tool.specs.Writing.{Lined, HasLined, LinesMore, StandsWritten, GoesOn, CanGrow, CanTakeRow, StopsLining, current_after, ended_by}
 use Rattle.msr_tool.specs.Answer.{AreLinesOf}
 use Rattle.msr_tool.specs.declared.fault.ToolFault.{ToolFault}
 use Rattle.msr_tool.specs.declared.fault.ToolFault.TheVariants.{Memory}
@@ -204,10 +204,10 @@ stops_wider form start now segments others all fault.Memory same h =
 -- the last segment does not end
 pub stops_ending : (form : Form) (start now : Device) (packed : List Packed) (current : Option Segment) (row : Row)
     (found : ToolFault) → StopsLining form start now (map segment_of_packed packed ++ option_to_list current) found
-    → StopsLining form start now (map segment_of_packed packed ++ segments_with Begins current row) found
+    → StopsLining form start now (map segment_of_packed packed ++ (option_to_list current ++ row_segment row ∷ [])) found
 stops_ending form start now packed current row found h =
     stops_wider form start now (map segment_of_packed packed ++ option_to_list current) (row_segment row ∷ [])
-    (map segment_of_packed packed ++ segments_with Begins current row) found
+    (map segment_of_packed packed ++ (option_to_list current ++ row_segment row ∷ [])) found
     (sym (append_assoc (map segment_of_packed packed) (option_to_list current) (row_segment row ∷ []))) h
 
 -- the samples of a row that begins a segment follow its beginning
@@ -218,16 +218,16 @@ pub took_first : {T : Type 0} (form other : Form) (start now : Device) (lined : 
     (StopsLining other start now (map segment_of_packed all ++ row_segment row ∷ []))
     → MatchResult result (λ _. LinesMore start now lined packed (option_to_list (ended_by Begins current))
     (current_after Begins current row)) (StopsLining form start now
-    (map segment_of_packed packed ++ segments_with Begins current row))
+    (map segment_of_packed packed ++ (option_to_list current ++ row_segment row ∷ [])))
 took_first form other start now lined packed all current row (Ok done) same_form same h =
     record { all = all; same = same; after = h }
 took_first form other start now lined packed all current row (Err found) same_form same h =
     let joined : map segment_of_packed all ++ row_segment row ∷ [] ≡ map segment_of_packed packed
-    ++ segments_with Begins current row =
+    ++ (option_to_list current ++ row_segment row ∷ []) =
     ap (λ (s : List Segment). s ++ row_segment row ∷ []) same
     ∙ append_assoc (map segment_of_packed packed) (option_to_list current) (row_segment row ∷ []) in
     subst (λ (f : Form). StopsLining f start now (map segment_of_packed packed
-    ++ segments_with Begins current row) found) same_form
+    ++ (option_to_list current ++ row_segment row ∷ [])) found) same_form
     (subst (λ (s : List Segment). StopsLining other start now s found) joined h)
 
 -- what waits is not written
@@ -291,12 +291,11 @@ grows_so start now w packed (Some segment) (Some opened) at joined row is bounds
 can_take : (start now : Device) (lined : Lined) (packed : List Packed) (current : Option Segment)
     (old new : Following) (row : Row) (step : Step) → HasLined start now lined packed current
     → old.current ≡ option_map segment_span current → IsInBounds old.current → IsStep old (row_span row) step new
-    → length row.samples ≤ 65_535 → CanTake step lined.last row
-can_take start now lined packed current old new row Begins h is bounds k few = record { joins = λ e. absurd cc }
-can_take start now lined packed current old new row Joins h is bounds k few = record {
-  joins = λ e. grows_so start now lined.writing packed current lined.last old.current k.segment row is bounds
-      h.written k.current k.in_time few;
-}
+    → length row.samples ≤ 65_535 → step ≡ Joins → IfSome lined.last (CanGrow (length row.samples))
+can_take start now lined packed current old new row Begins h is bounds k few joins = absurd cc
+can_take start now lined packed current old new row Joins h is bounds k few joins =
+    grows_so start now lined.writing packed current lined.last old.current k.segment row is bounds h.written k.current
+    k.in_time few
 
 -- and can be taken
 pub can_take_row : (start now : Device) (lined : Lined) (packed : List Packed) (current : Option Segment)
@@ -306,7 +305,7 @@ pub can_take_row : (start now : Device) (lined : Lined) (packed : List Packed) (
     → IfSome next (CanTakeRow lined.last)
 can_take_row start now lined packed current old new None h is bounds k row = tt
 can_take_row start now lined packed current old new (Some next) h is bounds k row = record {
-  can = can_take start now lined packed current old new next.row next.step h is bounds k row.0.few;
+  joins = can_take start now lined packed current old new next.row next.step h is bounds k row.0.few;
   writable = row.1;
   few = row.0.few;
 }

@@ -39,11 +39,6 @@ abbrev pub current_after : Step → Option Segment → Row → Option Segment
 current_after Begins current row = Some (row_segment row)
 current_after Joins current row = longer_current current row.samples
 
--- the segments that the row ends or makes longer
-abbrev pub segments_with : Step → Option Segment → Row → List Segment
-segments_with step current row = option_to_list (ended_by step current)
-    ++ option_to_list (current_after step current row)
-
 -- the segment that a record ends, the one that has not ended after it, and both: it may have no row
 abbrev pub ended_with : Option NextRow → Option Segment → Option Segment
 ended_with None current = None
@@ -100,13 +95,9 @@ pub record CanGrow (more : ℕ) (opened : Opened) : Type 0 where
   pub number : count_of opened + more < 2 ^ 64
   pub in_time : SpanIsInTime (span_of opened.key opened.start (count_of opened + more))
 
--- with the row's samples, if it joins, the segment's times are of the supported years
-pub record CanTake (step : Step) (last : Option Opened) (row : Row) : Type 0 where
-  pub joins : step ≡ Joins → IfSome last (CanGrow (length row.samples))
-
--- the row can be taken
+-- The row can be taken: with its samples, if it joins, the segment's times are of the supported years.
 pub record CanTakeRow (last : Option Opened) (next : NextRow) : Type 0 where
-  pub can : CanTake next.step last next.row
+  pub joins : next.step ≡ Joins → IfSome last (CanGrow (length next.row.samples))
   pub writable : IsWritable (row_segment next.row)
   pub few : length next.row.samples ≤ 65_535
 

@@ -8,9 +8,7 @@ mod laws;
 mod lined_writer;
 mod list;
 mod list_writer;
-mod listed_segment;
 mod repacking;
-mod settings;
 mod tasks;
 
 pub use check::check_packed;

@@ -1,7 +1,7 @@
 //! A writer of segments with their lines, which takes the rows.
 use crate::fault::ToolFault;
 use msr_devices::Sink;
-use msr_input::{NextRecord, NextRow};
+use msr_input::NextRecord;
 use msr_kinds::Form;
 use msr_output::{OpenSegment, SegmentWriter};
 use msr_report::SegmentLine;
@@ -38,7 +38,7 @@ impl LinedWriter {
     ghost use Rattle.msr_output.specs.Decided.{IsEncoded};
     ghost use Rattle.msr_output.specs.Opened.{empty_segment};
     ghost use Rattle.msr_output.specs.Output.{Packed, segment_of_packed};
-    ghost use Rattle.msr_tool.specs.Writing.{CanGrow, CanTakeRow, GoesOn, HasLined, LinesAll, LinesMore, StopsLining, all_with, current_after, current_with, ended_by, ended_with, longer_current, segments_with};
+    ghost use Rattle.msr_tool.specs.Writing.{CanGrow, CanTakeRow, GoesOn, HasLined, LinesAll, LinesMore, StopsLining, all_with, current_with, ended_with, longer_current};
 
     /// A writer before the first row.
     pub(crate) fn new(alloc: Global, form: Form) -> LinedWriter
@@ -117,33 +117,6 @@ impl LinedWriter {
         }
     }
 
-    /// Takes the next row. One that begins a segment ends the one before it, whose line is kept.
-    fn take_row<W: Sink>(&mut self, sink: &mut W, next: &NextRow) -> Result<(), ToolFault>
-        requires count { CanCountCall (W.device sink.old) }
-        requires last { IfSome self.old.last (GoesOn self.old.writing.form) }
-        requires row { CanTakeRow self.old.last next.now }
-        ensures written { (start : Device) (packed : List Packed) (current : Option Segment)
-            → HasLined start (W.device sink.old) self.old packed current
-            → MatchResult result
-            (λ _. LinesMore start (W.device sink.new) self.new packed (option_to_list (ended_by next.now.step current))
-            (current_after next.now.step current next.now.row))
-            (StopsLining self.old.writing.form start (W.device sink.new)
-            (map segment_of_packed packed ++ segments_with next.now.step current next.now.row)) }
-        ensures last { OnOk result (IfSome self.new.last (GoesOn self.new.writing.form)) }
-        ensures encoded { OnOk result (IfSome self.new.last IsEncoded) }
-        ensures form { self.new.writing.form ≡ self.old.writing.form }
-        ensures few { CountsFew (W.device sink.old) (W.device sink.new) }
-    {
-        match next.step {
-            Step::Begins => {
-                self.end_last(sink)?;
-                self.begin(&next.row);
-                self.push(sink, next.row.samples.as_slice())
-            }
-            Step::Joins => self.push(sink, next.row.samples.as_slice()),
-        }
-    }
-
     /// Takes the next record. One whose row begins a segment ends the segment before it, whose line is kept.
     #[inline(always)]
     pub(crate) fn take<W: Sink>(&mut self, sink: &mut W, next: &NextRecord) -> Result<(), ToolFault>
@@ -162,9 +135,16 @@ impl LinedWriter {
         ensures form { self.new.writing.form ≡ self.old.writing.form }
         ensures few { CountsFew (W.device sink.old) (W.device sink.new) }
     {
-        match &next.row {
-            Some(row) => self.take_row(sink, row),
-            None => Ok(()),
+        let Some(found) = &next.row else {
+            return Ok(());
+        };
+        match found.step {
+            Step::Begins => {
+                self.end_last(sink)?;
+                self.begin(&found.row);
+                self.push(sink, found.row.samples.as_slice())
+            }
+            Step::Joins => self.push(sink, found.row.samples.as_slice()),
         }
     }
 

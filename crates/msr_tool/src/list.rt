@@ -6,7 +6,7 @@ ghost use Rattle.msr_tool.specs.Settings.{settings_of};
 
 use crate::fault::ToolFault;
 use crate::list_writer::ListWriter;
-use crate::settings::settings_of;
+use crate::repacking::settings_of;
 use msr_devices::{Sink, Source};
 use msr_input::RowReader;
 use msr_options::{ListForm, Options};

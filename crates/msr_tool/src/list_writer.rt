@@ -1,12 +1,11 @@
 //! A writer of the lines of segments.
-ghost use Rattle.std.specs.Prelude.{◌≡◌, ◌++◌, List, ℕ, IfSome, OnOk, OnErr};
+ghost use Rattle.std.specs.Prelude.{◌≡◌, ◌≤◌, ◌^◌, ◌++◌, List, ℕ, IfSome, OnOk, OnErr};
 ghost use Rattle.msr_tool.specs.Listing.{last_line};
-ghost use Rattle.msr_tool.specs.ListWriting.{IsLastLine, IsOpenInBounds};
+ghost use Rattle.msr_tool.specs.ListWriting.{IsLastLine, IsOpenInBounds, open_longer, open_row};
 
 use crate::fault::ToolFault;
-use crate::listed_segment::{begun, longer};
 use msr_devices::{Sink, WriteBuffer};
-use msr_input::NextOutline;
+use msr_input::{NextOutline, RowOutline};
 use msr_options::ListForm;
 use msr_report::{
     Counts, ListedSegment, push_counts, push_json_counts, push_json_line, push_list_line,
@@ -33,6 +32,27 @@ impl Model for ListWriter {
 
     ghost view = { λ w. record
         { form = w.form; waiting = w.buffer.bytes.items; before = w.before; last = w.last } };
+}
+
+/// The segment that the row begins.
+fn begun(row: &RowOutline) -> ListedSegment
+    ensures { result ≡ open_row row.now }
+{
+    ListedSegment {
+        key: row.key,
+        start: row.start,
+        count: row.count as u64,
+    }
+}
+
+/// The segment that was begun last, with the samples of the row that joins it.
+fn longer(last: Option<ListedSegment>, row: &RowOutline) -> Option<ListedSegment>
+    requires count { IfSome last (λ before. before.count ≤ 2 ^ 63) }
+    ensures { result ≡ open_longer last row.now }
+{
+    let before = last?;
+    let count = before.count + row.count as u64;
+    Some(ListedSegment { count, ..before })
 }
 
 /// Appends the line of the segment that was begun last, if one was, after that one.

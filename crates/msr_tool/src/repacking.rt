@@ -1,16 +1,16 @@
 //! Repacking an input, whole or while it comes.
-ghost use Rattle.std.specs.Prelude.{◌≡◌, ◌↔◌, IsErrOf, false};
+ghost use Rattle.std.specs.Prelude.{◌≡◌, ◌≤◌, ◌↔◌, IsErrOf, false};
 ghost use Rattle.msr_devices.specs.Device.{CanCountCall};
 ghost use Rattle.msr_input.specs.Reading.{HoldsRecord};
 ghost use Rattle.msr_tool.specs.Answer.{Answers};
 ghost use Rattle.msr_tool.specs.Fault.{ReadsAndWrites};
 ghost use Rattle.msr_tool.specs.KeepingUp.{HasKeptUp};
+ghost use Rattle.msr_tool.specs.Settings.{settings_of};
 
 use crate::fault::ToolFault;
 use crate::lined_writer::LinedWriter;
-use crate::settings::settings_of;
 use msr_devices::{Sink, Source};
-use msr_input::RowReader;
+use msr_input::{RowReader, Settings};
 use msr_options::Options;
 use msr_output::{output_has_size, output_keeps_segments};
 use msr_report::Report;
@@ -23,6 +23,17 @@ enum Flush {
     Full,
     /// Before each read of the source, too.
     BeforeReads,
+}
+
+/// How an input is read with these options.
+pub(crate) fn settings_of(options: Options) -> Settings
+    ensures same { result ≡ settings_of options }
+    ensures in_range { (1 ≤ result.tolerance) × (result.tolerance ≤ 1_000_000) }
+{
+    Settings {
+        tolerance: options.tolerance(),
+        strict: options.is_strict(),
+    }
 }
 
 /// Reads all records of the source, joins their rows into segments, and writes each segment again in the fewest

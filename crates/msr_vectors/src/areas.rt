@@ -16,7 +16,7 @@ use std::alloc::Global;
 /// A list to which the first sample is pushed, and the others at once.
 fn grown_of(alloc: Global, first: i32, others: &[i32]) -> Option<SampleVec> {
     let mut grown = SampleVec::new(alloc);
-    if !grown.is_empty() {
+    if !grown.as_slice().is_empty() {
         return None;
     }
     grown.push(first).ok()?;

@@ -45,9 +45,9 @@ pub fn taken(words: &mut Words<'_>) -> Option<String> {
     format!(in words.alloc; "{all:?}").ok()
 }
 
-/// The number of the encoding, how many samples are looked back, and the most that a record holds.
-fn codec<C: Codec + Drop>(length: Length) -> (u8, usize, usize) {
-    (C::start(length).code(), C::LOOK_BACK, C::most(length))
+/// The number of the encoding, and how many samples are looked back.
+fn codec<C: Codec + Drop>(length: Length) -> (u8, usize) {
+    (C::start(length).code(), C::LOOK_BACK)
 }
 
 /// `kind LENGTH KIND`: the number of its encoding, how many samples it looks back, and the most that a record holds.
@@ -61,10 +61,11 @@ pub fn kind(words: &mut Words<'_>) -> Option<String> {
         Kind::Steim1 => codec::<Steim1>(length),
         Kind::Steim2 => codec::<Steim2>(length),
     };
-    if codec != (kind.code(), kind.look_back(), kind.most(length)) {
+    if codec != (kind.code(), kind.look_back()) {
         return differ(words.alloc);
     }
-    format!(in words.alloc; "{codec:?}").ok()
+    let said = (codec.0, codec.1, kind.most(length));
+    format!(in words.alloc; "{said:?}").ok()
 }
 
 /// `encoding NUMBER`: the kind of that encoding.

@@ -2,7 +2,6 @@
 #![tactic(auto)]
 
 mod agreement;
-mod full_row;
 mod laws;
 mod verdict;
 mod verify;

@@ -1,15 +1,32 @@
 //! Reading packed records beside their report.
-ghost use Rattle.std.specs.Prelude.{◌↔◌, ◌≤◌, ℕ, List, IsErrOf};
+ghost use Rattle.std.specs.Prelude.{◌↔◌, ◌≤◌, ℕ, List, IsErrOf, MatchOption};
 ghost use Rattle.msr_devices.specs.Device.{CanCountCall, CountsFew, HasFailed, HasLeft};
+ghost use Rattle.msr_kinds.specs.Lengths.{bytes_of};
+ghost use Rattle.msr_input.specs.declared.row_reader.NextRow.{NextRow as Told};
+ghost use Rattle.msr_verdict.specs.Compared.{HasFullRow};
 ghost use Rattle.msr_verdict.specs.Packed.{VerifyAnswers};
 
 use crate::agreement::Agreement;
-use crate::full_row::full_row;
 use crate::verdict::Verdict;
 use msr_devices::Source;
-use msr_input::{ReadFault, RowReader, Settings};
+use msr_input::{NextRecord, NextRow, ReadFault, RowReader, Settings};
+use msr_kinds::Length;
 use msr_report::Report;
 use std::alloc::Global;
+
+/// The record's row, if it has one, and that length.
+fn full_row(next: NextRecord, record_length: Length) -> Option<NextRow>
+    ensures { MatchOption result
+        ((row : Told) → HasFullRow (bytes_of record_length) next row → ⊥)
+        (HasFullRow (bytes_of record_length) next) }
+{
+    let bytes = next.length;
+    let row = next.row?;
+    if bytes != record_length.bytes() {
+        return None;
+    }
+    Some(row)
+}
 
 /// Reads all records of the source, and says whether the report shows that each of their segments stands in the
 /// fewest records of its form. Of the input it keeps the samples of a few records.

@@ -13,7 +13,7 @@ use Rattle.msr_verify.specs.declared.judging.Finding.TheVariants as finding
 use Rattle.msr_verify.specs.declared.judging.VerifyFault.{VerifyFault}
 use Rattle.msr_verify.specs.declared.judgement.Judgement.{Judgement}
 use Rattle.msr_verify.specs.declared.judgement.Judgement.TheVariants.{Verified, Missing, NotShown, Differs, Refused, Skipped, Orphan}
-use Rattle.msr_verify.specs.declared.judgement.Refusal.TheVariants.{FileUnopened, RecordsUnopened, ReportUnopened, SameFile, Listing, RecordsListing, Day}
+use Rattle.msr_verify.specs.declared.judgement.Refusal.TheVariants.{FileUnopened, Listing, RecordsListing, Day}
 use Rattle.msr_verify.specs.declared.tally.VerifyTally.{VerifyTally}
 
 -- an entry: its path from the archive's folder, and what was found of it
@@ -40,18 +40,13 @@ pub record HasAnswer (answer : Result Finding VerifyFault) : Type 0 where
 -- what a judgement says of a day
 abbrev pub IsJudgementOfDay : Judgement → Type 0
 IsJudgementOfDay Verified = HasAnswer (Ok finding.Verified)
-IsJudgementOfDay Missing = ⊤
 IsJudgementOfDay NotShown = HasAnswer (Ok finding.NotShown)
 IsJudgementOfDay Differs = HasAnswer (Ok finding.Differs)
-IsJudgementOfDay (Refused FileUnopened) = ⊤
-IsJudgementOfDay (Refused RecordsUnopened) = ⊤
-IsJudgementOfDay (Refused ReportUnopened) = ⊤
-IsJudgementOfDay (Refused SameFile) = ⊤
+IsJudgementOfDay (Refused (Day fault)) = HasAnswer (Err fault)
 IsJudgementOfDay (Refused Listing) = ⊥
 IsJudgementOfDay (Refused RecordsListing) = ⊥
-IsJudgementOfDay (Refused (Day fault)) = HasAnswer (Err fault)
 IsJudgementOfDay (Skipped fault) = ⊥
-IsJudgementOfDay Orphan = ⊤
+IsJudgementOfDay _ = ⊤
 
 -- the path is that of a day of waveform data
 abbrev pub IsDay : List ℕ → Type 0
@@ -64,19 +59,11 @@ pub record IsFoundOfDay (path : List ℕ) (judgement : Judgement) : Type 0 where
 
 -- what a judgement says of an entry
 abbrev pub IsJudgementOf : List ℕ → Judgement → Type 0
-IsJudgementOf path Verified = IsFoundOfDay path Verified
-IsJudgementOf path Missing = IsDay path
-IsJudgementOf path NotShown = IsFoundOfDay path NotShown
-IsJudgementOf path Differs = IsFoundOfDay path Differs
 IsJudgementOf path (Refused FileUnopened) = ⊤
-IsJudgementOf path (Refused RecordsUnopened) = IsDay path
-IsJudgementOf path (Refused ReportUnopened) = IsDay path
-IsJudgementOf path (Refused SameFile) = IsDay path
 IsJudgementOf path (Refused Listing) = ⊤
 IsJudgementOf path (Refused RecordsListing) = ⊤
-IsJudgementOf path (Refused (Day fault)) = IsFoundOfDay path (Refused (Day fault))
 IsJudgementOf path (Skipped fault) = IsNoDay path fault
-IsJudgementOf path Orphan = IsDay path
+IsJudgementOf path judgement = IsFoundOfDay path judgement
 
 abbrev pub IsEntry : Entry → Type 0
 IsEntry entry = IsJudgementOf entry.path entry.judgement
@@ -105,76 +92,37 @@ AreLines entries lines = visits.AreLines IsEntryLine entries lines
 
 abbrev pub is_verified : Judgement → Bool
 is_verified Verified = true
-is_verified Missing = false
-is_verified NotShown = false
-is_verified Differs = false
-is_verified (Refused refusal) = false
-is_verified (Skipped fault) = false
-is_verified Orphan = false
+is_verified _ = false
 
 abbrev pub is_missing : Judgement → Bool
-is_missing Verified = false
 is_missing Missing = true
-is_missing NotShown = false
-is_missing Differs = false
-is_missing (Refused refusal) = false
-is_missing (Skipped fault) = false
-is_missing Orphan = false
+is_missing _ = false
 
 abbrev pub is_not_shown : Judgement → Bool
-is_not_shown Verified = false
-is_not_shown Missing = false
 is_not_shown NotShown = true
-is_not_shown Differs = false
-is_not_shown (Refused refusal) = false
-is_not_shown (Skipped fault) = false
-is_not_shown Orphan = false
+is_not_shown _ = false
 
 abbrev pub is_different : Judgement → Bool
-is_different Verified = false
-is_different Missing = false
-is_different NotShown = false
 is_different Differs = true
-is_different (Refused refusal) = false
-is_different (Skipped fault) = false
-is_different Orphan = false
+is_different _ = false
 
 abbrev pub is_refused : Judgement → Bool
-is_refused Verified = false
-is_refused Missing = false
-is_refused NotShown = false
-is_refused Differs = false
 is_refused (Refused refusal) = true
-is_refused (Skipped fault) = false
-is_refused Orphan = false
+is_refused _ = false
 
 abbrev pub is_skipped : Judgement → Bool
-is_skipped Verified = false
-is_skipped Missing = false
-is_skipped NotShown = false
-is_skipped Differs = false
-is_skipped (Refused refusal) = false
 is_skipped (Skipped fault) = true
-is_skipped Orphan = false
+is_skipped _ = false
 
 abbrev pub is_orphan : Judgement → Bool
-is_orphan Verified = false
-is_orphan Missing = false
-is_orphan NotShown = false
-is_orphan Differs = false
-is_orphan (Refused refusal) = false
-is_orphan (Skipped fault) = false
 is_orphan Orphan = true
+is_orphan _ = false
 
 -- neither verified nor skipped
 abbrev pub is_unverified : Judgement → Bool
 is_unverified Verified = false
-is_unverified Missing = true
-is_unverified NotShown = true
-is_unverified Differs = true
-is_unverified (Refused refusal) = true
 is_unverified (Skipped fault) = false
-is_unverified Orphan = true
+is_unverified _ = true
 
 -- how many entries have such a judgement, or 2^64 - 1 if they are more
 abbrev pub counted : (Judgement → Bool) → List Entry → ℕ

@@ -11,23 +11,11 @@ use crate::judgement::{Judgement, Refusal};
 use crate::tally::VerifyTally;
 use msr_devices::{DeviceFault, Sink, write_all};
 use msr_folders::{FileKind, FolderWalk, Visitor, WalkFound, is_gone, join, visit_folders};
+use msr_options::Verifying;
 use msr_sds::SdsName;
 use msr_tool::ToolFault;
 use std::alloc::{AllocError, Global};
 use std::rt::Files;
-
-/// An archive with its repack.
-#[derive(Clone, Copy)]
-pub struct RepackedArchive<'a> {
-    /// The folder of the archive.
-    pub root: &'a str,
-    /// The folder of the records.
-    pub out: &'a str,
-    /// The folder of their reports.
-    pub reports: &'a str,
-    /// The paths, from the archive's folder, of the folders that are walked; none for the whole archive.
-    pub below: &'a [&'a str],
-}
 
 /// Which of the folders is walked.
 #[derive(Clone, Copy, PartialEq, Eq)]
@@ -43,7 +31,7 @@ enum Tree {
 struct Verifier<'a, R: Files> {
     rt: &'a R,
     alloc: Global,
-    archive: &'a RepackedArchive<'a>,
+    archive: &'a Verifying<'a>,
     tree: Tree,
 }
 
@@ -80,11 +68,12 @@ fn tell_day<R: Files, O: Sink>(
     ensures stops { (name : SdsPath) → ReadsAsDay path.now name →
         IfErr result (StopsTelling (O.device out.old) (O.device out.new)) }
 {
+    let folders = verifier.archive.folders;
     if verifier.tree == Tree::Root {
-        let judgement = judge_day(verifier.rt, verifier.alloc, verifier.archive, path)?;
+        let judgement = judge_day(verifier.rt, verifier.alloc, folders, path)?;
         return tell(verifier, path, judgement, out, tally);
     }
-    let file = join(verifier.alloc, verifier.archive.root, path)?;
+    let file = join(verifier.alloc, folders.root, path)?;
     if is_gone(verifier.rt, file.as_str()) {
         return tell(verifier, path, Judgement::Orphan, out, tally);
     }
@@ -139,15 +128,12 @@ impl<R: Files> Visitor for Verifier<'_, R> {
         tally: &mut VerifyTally,
     ) -> Result<(), DeviceFault> {
         let path = if folder.is_empty() { "." } else { folder };
-        if self.tree == Tree::Root {
-            let refused = Judgement::Refused(Refusal::Listing);
-            return tell(self, path, refused, out, tally);
-        }
-        if is_gone(self.rt, place) {
-            return Ok(());
-        }
-        let refused = Judgement::Refused(Refusal::RecordsListing);
-        tell(self, path, refused, out, tally)
+        let refusal = match self.tree {
+            Tree::Root => Refusal::Listing,
+            Tree::Out if is_gone(self.rt, place) => return Ok(()),
+            Tree::Out => Refusal::RecordsListing,
+        };
+        tell(self, path, Judgement::Refused(refusal), out, tally)
     }
 }
 
@@ -155,7 +141,7 @@ impl<R: Files> Visitor for Verifier<'_, R> {
 fn walk_tree<R: Files, O: Sink>(
     rt: &R,
     alloc: Global,
-    archive: &RepackedArchive<'_>,
+    archive: &Verifying<'_>,
     tree: Tree,
     out: &mut O,
     tally: &mut VerifyTally,
@@ -165,14 +151,14 @@ fn walk_tree<R: Files, O: Sink>(
     ensures stops { IfErr result (StopsTelling (O.device out.old) (O.device out.new)) }
 {
     let root = match tree {
-        Tree::Root => archive.root,
-        Tree::Out => archive.out,
+        Tree::Root => archive.folders.root,
+        Tree::Out => archive.folders.out,
     };
     let walk = FolderWalk {
         rt,
         alloc,
         root,
-        below: archive.below,
+        below: archive.below.as_slice(),
         visitor: &Verifier {
             rt,
             alloc,
@@ -201,7 +187,7 @@ fn end_of(tally: VerifyTally) -> WalkFound
 pub fn verify<R: Files, O: Sink>(
     rt: &R,
     alloc: Global,
-    archive: &RepackedArchive<'_>,
+    archive: &Verifying<'_>,
     out: &mut O,
 ) -> Result<WalkFound, ToolFault>
     requires { CanCountCall (O.device out.old) }

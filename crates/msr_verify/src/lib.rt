@@ -9,6 +9,6 @@ mod judging;
 mod laws;
 mod tally;
 
-pub use folders::{RepackedArchive, verify};
+pub use folders::verify;
 pub use judging::{Finding, VerifyFault, verify_day};
 pub use laws::{repacked_is_same, same_inputs_have_one_output};

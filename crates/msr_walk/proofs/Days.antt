@@ -12,12 +12,13 @@ use Rattle.msr_tool.specs.Tasks.{Reports}
 use Rattle.msr_tool.specs.declared.fault.ToolFault.{ToolFault}
 use Rattle.msr_tool.specs.declared.fault.ToolFault.TheVariants as fault
 use Rattle.msr_options.specs.declared.days.DayOptions.{DayOptions}
+use Rattle.msr_options.specs.declared.hint.Unopened.{Unopened}
 use Rattle.msr_walk.specs.Day.{RepacksDay, HasAnswer, IsComparedIfAsked, IsDayOutcome, IsOutcomeOfDay, IsRepackedDay, IsShownIfAsked, IsUnread, fault_of_checking}
 use Rattle.msr_walk.specs.Entries.{IsDayOf, IsOutcomeOf}
 use Rattle.msr_walk.specs.declared.outcome.Outcome.{Outcome}
-use Rattle.msr_walk.specs.declared.outcome.Outcome.TheVariants.{Done, Same, Skipped, Refused, NotShown as Unshown, Differs as Different, Larger as Grown}
+use Rattle.msr_walk.specs.declared.outcome.Outcome.TheVariants.{Skipped, Refused}
 use Rattle.msr_walk.specs.declared.outcome.DayFault.{DayFault}
-use Rattle.msr_walk.specs.declared.outcome.DayFault.TheVariants.{CannotOpen, Gone, Listing, NotShown, Differs, Larger, ClaimedByAnother, Tool}
+use Rattle.msr_walk.specs.declared.outcome.DayFault.TheVariants.{CannotOpen, Gone, Listing, NotShown, Differs, Tool}
 use Rattle.msr_walk.specs.declared.outcome.Repacked.{Repacked}
 
 pub day_stops : (choice : Choice) (source records0 records text0 text : Device) (why : ToolFault) →
@@ -92,41 +93,30 @@ day_unread choice source records0 records text0 text repacked why does (inr is) 
 -- a failed read of what was written is told as such, and nothing else is
 pub failure_told : {T : Type 0} (why : ToolFault) (P : Type 0) → IsErrOf {T = T} (Err why) fault.Read ↔ P
     → IsErrOf {T = Unit {0}} (Err (fault_of_checking why)) (Tool fault.Read) ↔ P
-failure_told (fault.Input found) P is = ((λ e. absurd cc), (λ p. let e = is.1 p in absurd cc))
-failure_told (fault.Report line) P is = ((λ e. absurd cc), (λ p. let e = is.1 p in absurd cc))
 failure_told fault.Read P is = ((λ e. is.0 refl), (λ p. refl))
-failure_told fault.Write P is = ((λ e. absurd cc), (λ p. let e = is.1 p in absurd cc))
-failure_told fault.Memory P is = ((λ e. absurd cc), (λ p. let e = is.1 p in absurd cc))
+failure_told _ P is = ((λ e. absurd cc), (λ p. let e = is.1 p in absurd cc))
 
 -- what was written is not kept
 pub day_unkept : (asked : DayOptions) (source records0 records text0 text : Device) (repacked : Repacked) (why : DayFault) →
     RepacksDay asked.options source records0 records text0 text (Ok repacked) → IsShownIfAsked asked.check (Err why)
     → IsRepackedDay asked (Err why)
-day_unkept asked source records0 records text0 text repacked CannotOpen does is = tt
-day_unkept asked source records0 records text0 text repacked Gone does is = absurd is.1
-day_unkept asked source records0 records text0 text repacked Listing does is = absurd is.1
+day_unkept asked source records0 records text0 text repacked (CannotOpen unopened) does is = tt
 day_unkept asked source records0 records text0 text repacked NotShown does is = record { check = is.0; unshown = is.1 }
-day_unkept asked source records0 records text0 text repacked Differs does is = absurd is.1
-day_unkept asked source records0 records text0 text repacked (Larger counts) does is = absurd is.1
-day_unkept asked source records0 records text0 text repacked ClaimedByAnother does is = absurd is.1
 day_unkept asked source records0 records text0 text repacked (Tool why) does is =
     day_unread asked.options source records0 records text0 text repacked why does is.1
+day_unkept asked source records0 records text0 text repacked _ does is = absurd is.1
 
 -- what was written is not the same data as the day's own file
 pub day_differs : (asked : DayOptions) (source records0 records text0 text : Device) (repacked : Repacked)
     (why : DayFault) → RepacksDay asked.options source records0 records text0 text (Ok repacked)
     → IsComparedIfAsked asked (Err why)
     → IsRepackedDay asked (Err why)
-day_differs asked source records0 records text0 text repacked CannotOpen does is = tt
-day_differs asked source records0 records text0 text repacked Gone does is = absurd is
-day_differs asked source records0 records text0 text repacked Listing does is = absurd is
-day_differs asked source records0 records text0 text repacked NotShown does is = absurd is
+day_differs asked source records0 records text0 text repacked (CannotOpen unopened) does is = tt
 day_differs asked source records0 records text0 text repacked Differs does is =
     record { check = is.0; different = is.1 }
-day_differs asked source records0 records text0 text repacked (Larger counts) does is = absurd is
-day_differs asked source records0 records text0 text repacked ClaimedByAnother does is = absurd is
 day_differs asked source records0 records text0 text repacked (Tool why) does is =
     day_unread asked.options source records0 records text0 text repacked why does is.1
+day_differs asked source records0 records text0 text repacked _ does is = absurd is
 
 -- what becomes of a day for which this length is asked
 pub outcome_of_day : {E : Type 0} (days : DayOptions) (record_length : Length) (result : Result Outcome E) →
@@ -140,8 +130,8 @@ outcome_of_day days record_length (Ok outcome) own is = record {
 outcome_of_day days record_length (Err e) own is = tt
 
 -- of a day of which nothing is touched
-pub untouched : (days : DayOptions) → IsOutcomeOfDay days (Refused CannotOpen)
-untouched days = record {
+pub untouched : (days : DayOptions) (unopened : Unopened) → IsOutcomeOfDay days (Refused (CannotOpen unopened))
+untouched days unopened = record {
   asked = in_length days.options.record_length days;
   for_day = record { record_length = days.options.record_length; is = refl; own = λ same. refl };
   is = tt;
@@ -151,17 +141,7 @@ untouched days = record {
 pub outcome_of : (asked : DayOptions) (path channel : List ℕ) (outcome : Outcome) → IsDayOf path channel
     → IsOutcomeOfDay asked outcome →
     IsOutcomeOf asked path channel outcome
-outcome_of asked path channel (Done repacked) day is = record { day = day; outcome_is = is }
-outcome_of asked path channel (Same repacked) day is = record { day = day; outcome_is = is }
 outcome_of asked path channel (Skipped fault) day is = absurd is.is
-outcome_of asked path channel (Refused CannotOpen) day is = day
 outcome_of asked path channel (Refused Gone) day is = absurd is.is
 outcome_of asked path channel (Refused Listing) day is = absurd is.is
-outcome_of asked path channel (Refused NotShown) day is = absurd is.is
-outcome_of asked path channel (Refused Differs) day is = absurd is.is
-outcome_of asked path channel (Refused (Larger repacked)) day is = absurd is.is
-outcome_of asked path channel (Refused ClaimedByAnother) day is = day
-outcome_of asked path channel (Refused (Tool why)) day is = record { day = day; outcome_is = is }
-outcome_of asked path channel Unshown day is = record { day = day; outcome_is = is }
-outcome_of asked path channel Different day is = record { day = day; outcome_is = is }
-outcome_of asked path channel (Grown repacked) day is = record { day = day; outcome_is = is }
+outcome_of asked path channel _ day is = record { day = day; outcome_is = is }

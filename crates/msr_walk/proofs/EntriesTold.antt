@@ -5,14 +5,14 @@ use Rattle.msr_devices.specs.declared.fault.DeviceFault.{DeviceFault}
 use Rattle.msr_devices.specs.declared.fault.DeviceFault.TheVariants.{Failed, Memory}
 use Rattle.msr_devices.proofs.Chaining.{takes_append, calm_same, steady_sound}
 use Rattle.msr_folders.specs.Visits.{StopsAt}
-use Rattle.msr_folders.specs.declared.found.WalkFound.{WalkFound}
 use Rattle.msr_folders.proofs.VisitLemmas.{part_none, stops_within}
 use Rattle.msr_report.specs.Writing.{TakesPrefix}
 use Rattle.msr_tool.specs.Fault.{fault_of_writing}
 use Rattle.msr_tool.specs.declared.fault.ToolFault.TheVariants.{Write}
 use Rattle.msr_options.specs.declared.days.DayOptions.{DayOptions}
-use Rattle.msr_walk.specs.Entries.{IsEntry, IsEntryLine}
+use Rattle.msr_walk.specs.Entries.{IsEntry, IsEntryLine, first_unopened}
 use Rattle.msr_walk.specs.Walk.{IsWalkInPart, StopsPrefix, StopsTelling, Tells, TellsEnd, TellsInPart, Walks, summary}
+use Rattle.msr_walk.specs.declared.folders.Walked.{Walked}
 use Rattle.msr_walk.specs.declared.tally.Tally.{Tally}
 
 -- nothing was printed
@@ -79,15 +79,15 @@ walk_stops asked out0 out Memory h = record { printed = h.0.printed; prints = h.
 
 -- the sink failed if that is told
 pub stop_tells : (Part : Type 0) (out0 out : Device) (fault : DeviceFault) → StopsAt Part out0 out fault
-    → IsErrOf {T = WalkFound} (Err (fault_of_writing fault)) Write ↔ HasFailed out0 out
+    → IsErrOf {T = Walked} (Err (fault_of_writing fault)) Write ↔ HasFailed out0 out
 stop_tells Part out0 out Failed h = ((λ e. h.1), (λ has_failed. refl))
 stop_tells Part out0 out Memory h = ((λ e. absurd cc), (λ has_failed. absurd (steady_sound out0 out h.1 has_failed)))
 
-pub walk_ends : (asked : DayOptions) (out0 out1 out : Device) (tally0 tally : Tally) (found : WalkFound) →
+pub walk_ends : (asked : DayOptions) (out0 out1 out : Device) (tally0 tally : Tally) (walked : Walked) →
     (told : Tells asked out0 out1 tally0 tally) → Takes out1 out (summary asked told.entries)
-    → TellsEnd told.entries found →
-    Walks asked out0 out (Ok found)
-walk_ends asked out0 out1 out tally0 tally found told prints end = record {
+    → TellsEnd told.entries walked.found → walked.unopened ≡ first_unopened told.entries →
+    Walks asked out0 out (Ok walked)
+walk_ends asked out0 out1 out tally0 tally walked told prints end first = record {
   printed = told.lines ++ summary asked told.entries;
   prints = takes_append out0 out1 out told.lines (summary asked told.entries) told.prints prints;
   ends = (
@@ -98,6 +98,6 @@ walk_ends asked out0 out1 out tally0 tally found told prints end = record {
       are_lines = told.are_lines;
       whole = refl;
     },
-    end,
+    record { end = end; first = first },
   );
 }

@@ -2,3 +2,4 @@ pub mod EntriesTold
 pub mod Days
 pub mod Compared
 pub mod ChannelLines
+pub mod FirstDay

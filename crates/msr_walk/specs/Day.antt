@@ -22,9 +22,9 @@ use Rattle.msr_kinds.specs.Lengths.{bytes_of}
 use Rattle.msr_kinds.specs.declared.lengths.Length.{Length}
 use Rattle.msr_folders.specs.Totals.{saturated}
 use Rattle.msr_walk.specs.declared.outcome.Outcome.{Outcome}
-use Rattle.msr_walk.specs.declared.outcome.Outcome.TheVariants.{Done, Same, Skipped, Refused, NotShown as Unshown, Differs as Different, Larger as Grown}
+use Rattle.msr_walk.specs.declared.outcome.Outcome.TheVariants.{Done, Same, Skipped, Refused}
 use Rattle.msr_walk.specs.declared.outcome.DayFault.{DayFault}
-use Rattle.msr_walk.specs.declared.outcome.DayFault.TheVariants.{CannotOpen, Gone, Listing, NotShown, Differs, Larger, ClaimedByAnother, Tool}
+use Rattle.msr_walk.specs.declared.outcome.DayFault.TheVariants.{CannotOpen, NotShown, Differs, Larger, ClaimedByAnother, Tool}
 use Rattle.msr_walk.specs.declared.outcome.Repacked.{Repacked}
 
 -- What is asked of one day: what is of all, but for the length if each day's own is asked for.
@@ -93,22 +93,16 @@ IsUnread fault = (fault ≡ Read) ⊎ (fault ≡ Memory)
 -- What is told of a day if holding its records against their report stops so. Both were just written, so if one of them
 -- is at fault, nothing is shown.
 abbrev pub fault_of_checking : ToolFault → DayFault
-fault_of_checking (fault.Input found) = NotShown
-fault_of_checking (fault.Report line) = NotShown
 fault_of_checking fault.Read = Tool Read
-fault_of_checking fault.Write = NotShown
 fault_of_checking fault.Memory = Tool Memory
+fault_of_checking _ = NotShown
 
 -- why records that were written are not kept
 abbrev pub IsUnkept : DayFault → Type 0
-IsUnkept CannotOpen = ⊤
-IsUnkept Gone = ⊥
-IsUnkept Listing = ⊥
+IsUnkept (CannotOpen unopened) = ⊤
 IsUnkept NotShown = IsUnshown
-IsUnkept Differs = ⊥
-IsUnkept ClaimedByAnother = ⊥
-IsUnkept (Larger repacked) = ⊥
 IsUnkept (Tool fault) = IsUnread fault
+IsUnkept _ = ⊥
 
 -- what holding records against their report answers
 abbrev pub IsShown : Result (Unit {0}) DayFault → Type 0
@@ -134,14 +128,9 @@ fault_of_comparing read.Memory = Tool Memory
 -- what comparing a day's file with its records answers
 abbrev pub SameAnswers : Choice → (file records : List ℕ) → Result (Unit {0}) DayFault → Type 0
 SameAnswers choice file records (Ok done) = HaveSameData choice file records
-SameAnswers choice file records (Err CannotOpen) = ⊥
-SameAnswers choice file records (Err Gone) = ⊥
-SameAnswers choice file records (Err Listing) = ⊥
-SameAnswers choice file records (Err NotShown) = ⊥
 SameAnswers choice file records (Err Differs) = ¬ (HaveSameData choice file records)
-SameAnswers choice file records (Err ClaimedByAnother) = ⊥
-SameAnswers choice file records (Err (Larger repacked)) = ⊥
 SameAnswers choice file records (Err (Tool fault)) = IsUnread fault
+SameAnswers choice file records (Err _) = ⊥
 
 -- What comparing a day's file with its records did with both sources, and what it answers. A failure of a source is
 -- answered as such, and nothing else is.
@@ -169,14 +158,10 @@ pub record WasDifferent (choice : Choice) : Type 0 where
 -- what comparing a day's file with its records answers, if it is asked for
 abbrev pub IsComparedIfAsked : DayOptions → Result (Unit {0}) DayFault → Type 0
 IsComparedIfAsked asked (Ok done) = IsTrue asked.check → WasCompared asked.options
-IsComparedIfAsked asked (Err CannotOpen) = IsTrue asked.check
-IsComparedIfAsked asked (Err Gone) = ⊥
-IsComparedIfAsked asked (Err Listing) = ⊥
-IsComparedIfAsked asked (Err NotShown) = ⊥
+IsComparedIfAsked asked (Err (CannotOpen unopened)) = IsTrue asked.check
 IsComparedIfAsked asked (Err Differs) = IsTrue asked.check × WasDifferent asked.options
-IsComparedIfAsked asked (Err ClaimedByAnother) = ⊥
-IsComparedIfAsked asked (Err (Larger repacked)) = ⊥
 IsComparedIfAsked asked (Err (Tool fault)) = IsTrue asked.check × IsUnread fault
+IsComparedIfAsked asked (Err _) = ⊥
 
 -- the bytes that were written are fewer than those that were read
 abbrev pub GotSmaller : Repacked → Type 0
@@ -209,14 +194,13 @@ pub record IsDifferent (asked : DayOptions) : Type 0 where
 -- what an answer says of a day file; nothing is known of the files of the system but that they have some bytes
 abbrev pub IsRepackedDay : DayOptions → Result Repacked DayFault → Type 0
 IsRepackedDay asked (Ok repacked) = IsDone asked repacked
-IsRepackedDay asked (Err CannotOpen) = ⊤
-IsRepackedDay asked (Err Gone) = ⊥
-IsRepackedDay asked (Err Listing) = ⊥
+IsRepackedDay asked (Err (CannotOpen unopened)) = ⊤
 IsRepackedDay asked (Err NotShown) = IsNotShown asked
 IsRepackedDay asked (Err Differs) = IsDifferent asked
 IsRepackedDay asked (Err (Larger repacked)) = IsLarger asked repacked
 IsRepackedDay asked (Err ClaimedByAnother) = ⊤
 IsRepackedDay asked (Err (Tool fault)) = HasAnswer asked.options (Err fault)
+IsRepackedDay asked (Err _) = ⊥
 
 -- Some text is that of a report of these options, and the counts are those of this report, with the bytes of the records
 -- that it counts. A report does not say whether reading was strict: if reading is strict it counts no record whose
@@ -248,17 +232,7 @@ abbrev pub IsDayOutcome : DayOptions → Outcome → Type 0
 IsDayOutcome asked (Done repacked) = IsDone asked repacked
 IsDayOutcome asked (Same repacked) = IsSame asked repacked
 IsDayOutcome asked (Skipped fault) = ⊥
-IsDayOutcome asked (Refused CannotOpen) = ⊤
-IsDayOutcome asked (Refused Gone) = ⊥
-IsDayOutcome asked (Refused Listing) = ⊥
-IsDayOutcome asked (Refused NotShown) = ⊥
-IsDayOutcome asked (Refused Differs) = ⊥
-IsDayOutcome asked (Refused (Larger repacked)) = ⊥
-IsDayOutcome asked (Refused ClaimedByAnother) = ⊤
-IsDayOutcome asked (Refused (Tool fault)) = HasAnswer asked.options (Err fault)
-IsDayOutcome asked Unshown = IsNotShown asked
-IsDayOutcome asked Different = IsDifferent asked
-IsDayOutcome asked (Grown repacked) = IsLarger asked repacked
+IsDayOutcome asked (Refused why) = IsRepackedDay asked (Err why)
 
 -- What an outcome says of a day of an archive of whose days this is asked.
 pub record IsOutcomeOfDay (days : DayOptions) (outcome : Outcome) : Type 0 where

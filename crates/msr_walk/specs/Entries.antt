@@ -1,19 +1,21 @@
 -- The entries of a walk: what became of each, its line, and what they sum up to.
-use Rattle.std.specs.Prelude.{◌≡◌, ◌+◌, ℕ, ⊤, Bool, true, false, List, [], ◌∷◌, ◌++◌, map, codes}
+use Rattle.std.specs.Prelude.{◌≡◌, ◌+◌, ℕ, ⊤, Bool, true, false, List, [], ◌∷◌, ◌++◌, map, codes, Option, None, Some}
 use Rattle.std.specs.Fmt.{decimal}
 use Rattle.std.specs.List.{count_by, flat_map, sum_by}
+use Rattle.std.specs.Option.{option_or}
 use Rattle.msr_sds.specs.SdsPath.{SdsPath, ReadsAsDay}
 use Rattle.msr_folders.specs.Totals.{Add, saturated, totals_of}
 use Rattle.msr_folders.specs.declared.totals.Total.{Total}
 use Rattle.msr_options.specs.declared.days.DayOptions.{DayOptions}
+use Rattle.msr_options.specs.declared.hint.Unopened.{Unopened}
 use Rattle.msr_walk.specs.Day.{IsOutcomeOfDay}
 use Rattle.msr_folders.specs.Days.{IsNoDay}
 use Rattle.msr_folders.specs.Paths.{shown_path}
 use Rattle.msr_folders.specs.Visits as visits
-use Rattle.msr_walk.specs.Paths.{channel_of}
 use Rattle.msr_walk.specs.declared.outcome.Outcome.{Outcome}
-use Rattle.msr_walk.specs.declared.outcome.Outcome.TheVariants.{Done, Same, Skipped, Refused, NotShown as Unshown, Differs as Different, Larger as Grown}
-use Rattle.msr_walk.specs.declared.outcome.DayFault.TheVariants.{CannotOpen, Gone, Listing, NotShown, Differs, Larger, ClaimedByAnother, Tool}
+use Rattle.msr_walk.specs.declared.outcome.Outcome.TheVariants.{Done, Same, Skipped, Refused}
+use Rattle.msr_walk.specs.declared.outcome.DayFault.{DayFault}
+use Rattle.msr_walk.specs.declared.outcome.DayFault.TheVariants.{CannotOpen, Gone, Listing, NotShown, Differs, Larger}
 use Rattle.msr_walk.specs.declared.outcome.Repacked.{Repacked}
 use Rattle.msr_walk.specs.declared.tally.Tally.{Tally}
 
@@ -22,6 +24,10 @@ pub record Entry : Type 0 where
   pub path : List ℕ
   pub channel : List ℕ
   pub outcome : Outcome
+
+-- NET.STA.LOC.CHAN
+abbrev pub channel_of : SdsPath → List ℕ
+channel_of p = p.network ++ (codes "." ++ (p.station ++ (codes "." ++ (p.location ++ (codes "." ++ p.channel)))))
 
 -- the path is that of a day of this channel
 pub record IsDayOf (path channel : List ℕ) : Type 0 where
@@ -36,23 +42,23 @@ pub record IsToldOfDay (asked : DayOptions) (path channel : List ℕ) (outcome :
 
 -- what an outcome says of an entry
 abbrev pub IsOutcomeOf : DayOptions → (path channel : List ℕ) → Outcome → Type 0
-IsOutcomeOf asked path channel (Done repacked) = IsToldOfDay asked path channel (Done repacked)
-IsOutcomeOf asked path channel (Same repacked) = IsToldOfDay asked path channel (Same repacked)
 IsOutcomeOf asked path channel (Skipped fault) = IsNoDay path fault
-IsOutcomeOf asked path channel (Refused CannotOpen) = IsDayOf path channel
 IsOutcomeOf asked path channel (Refused Gone) = ⊤
 IsOutcomeOf asked path channel (Refused Listing) = ⊤
-IsOutcomeOf asked path channel (Refused NotShown) = ⊥
-IsOutcomeOf asked path channel (Refused Differs) = ⊥
-IsOutcomeOf asked path channel (Refused (Larger repacked)) = ⊥
-IsOutcomeOf asked path channel (Refused ClaimedByAnother) = IsDayOf path channel
-IsOutcomeOf asked path channel (Refused (Tool fault)) = IsToldOfDay asked path channel (Refused (Tool fault))
-IsOutcomeOf asked path channel Unshown = IsToldOfDay asked path channel Unshown
-IsOutcomeOf asked path channel Different = IsToldOfDay asked path channel Different
-IsOutcomeOf asked path channel (Grown repacked) = IsToldOfDay asked path channel (Grown repacked)
+IsOutcomeOf asked path channel outcome = IsToldOfDay asked path channel outcome
 
 abbrev pub IsEntry : DayOptions → Entry → Type 0
 IsEntry asked entry = IsOutcomeOf asked entry.path entry.channel entry.outcome
+
+-- what of a day could not be opened, if it was refused for that
+abbrev pub unopened_of : Outcome → Option Unopened
+unopened_of (Refused (CannotOpen unopened)) = Some unopened
+unopened_of _ = None
+
+-- what of the first such day
+abbrev pub first_unopened : List Entry → Option Unopened
+first_unopened [] = None
+first_unopened (entry ∷ entries) = option_or (unopened_of entry.outcome) (first_unopened entries)
 
 -- what a line says of bytes that were read and written: nothing, unless that is asked for
 abbrev pub bytes_told : (told : Bool) → (read written : ℕ) → List ℕ
@@ -65,17 +71,21 @@ counts_told bytes repacked =
     codes " read " ++ (decimal repacked.read ++ (codes " written " ++ (decimal repacked.written
     ++ (bytes_told bytes repacked.bytes_read repacked.bytes_written ++ codes "\n"))))
 
--- The line of an entry, with bytes or without. The texts of faults are shown by tests.
+-- The line of an entry that is refused or not kept, whose path is shown so. The texts of faults are shown by tests.
+abbrev pub IsRefusedLine : (bytes : Bool) → List ℕ → DayFault → List ℕ → Type 0
+IsRefusedLine bytes shown NotShown line = line ≡ codes "notshown " ++ (shown ++ codes "\n")
+IsRefusedLine bytes shown Differs line = line ≡ codes "differs " ++ (shown ++ codes "\n")
+IsRefusedLine bytes shown (Larger repacked) line = line ≡ codes "larger " ++ (shown ++ counts_told bytes repacked)
+IsRefusedLine bytes shown _ line = (why : List ℕ)
+    × (line ≡ codes "refused " ++ (shown ++ (codes ": " ++ (why ++ codes "\n"))))
+
+-- The line of an entry, with bytes or without.
 abbrev pub IsLineOf : (bytes : Bool) → List ℕ → Outcome → List ℕ → Type 0
 IsLineOf bytes path (Done repacked) line = line ≡ codes "done " ++ (shown_path path ++ counts_told bytes repacked)
 IsLineOf bytes path (Same repacked) line = line ≡ codes "same " ++ (shown_path path ++ counts_told bytes repacked)
 IsLineOf bytes path (Skipped fault) line = (why : List ℕ)
     × (line ≡ codes "skipped " ++ (shown_path path ++ (codes ": " ++ (why ++ codes "\n"))))
-IsLineOf bytes path (Refused refusal) line = (why : List ℕ)
-    × (line ≡ codes "refused " ++ (shown_path path ++ (codes ": " ++ (why ++ codes "\n"))))
-IsLineOf bytes path Unshown line = line ≡ codes "notshown " ++ (shown_path path ++ codes "\n")
-IsLineOf bytes path Different line = line ≡ codes "differs " ++ (shown_path path ++ codes "\n")
-IsLineOf bytes path (Grown repacked) line = line ≡ codes "larger " ++ (shown_path path ++ counts_told bytes repacked)
+IsLineOf bytes path (Refused why) line = IsRefusedLine bytes (shown_path path) why line
 
 abbrev pub IsEntryLine : (bytes : Bool) → Entry → List ℕ → Type 0
 IsEntryLine bytes entry line = IsLineOf bytes entry.path entry.outcome line
@@ -88,50 +98,28 @@ AreLines bytes entries lines = visits.AreLines (IsEntryLine bytes) entries lines
 abbrev pub is_done : Outcome → Bool
 is_done (Done repacked) = true
 is_done (Same repacked) = true
-is_done (Skipped fault) = false
-is_done (Refused refusal) = false
-is_done Unshown = false
-is_done Different = false
-is_done (Grown repacked) = false
+is_done _ = false
 
 abbrev pub is_skipped : Outcome → Bool
-is_skipped (Done repacked) = false
-is_skipped (Same repacked) = false
 is_skipped (Skipped fault) = true
-is_skipped (Refused refusal) = false
-is_skipped Unshown = false
-is_skipped Different = false
-is_skipped (Grown repacked) = false
+is_skipped _ = false
 
 -- refused, or not kept since it is not shown or not the same data
 abbrev pub is_refused : Outcome → Bool
-is_refused (Done repacked) = false
-is_refused (Same repacked) = false
-is_refused (Skipped fault) = false
-is_refused (Refused refusal) = true
-is_refused Unshown = true
-is_refused Different = true
-is_refused (Grown repacked) = false
+is_refused (Refused (Larger repacked)) = false
+is_refused (Refused why) = true
+is_refused _ = false
 
 -- not kept since it did not get smaller
 abbrev pub is_larger : Outcome → Bool
-is_larger (Done repacked) = false
-is_larger (Same repacked) = false
-is_larger (Skipped fault) = false
-is_larger (Refused refusal) = false
-is_larger Unshown = false
-is_larger Different = false
-is_larger (Grown repacked) = true
+is_larger (Refused (Larger repacked)) = true
+is_larger _ = false
 
 -- the records of an entry that are counted: of what was done
 abbrev pub dones_of : Outcome → List Repacked
 dones_of (Done repacked) = repacked ∷ []
 dones_of (Same repacked) = repacked ∷ []
-dones_of (Skipped fault) = []
-dones_of (Refused refusal) = []
-dones_of Unshown = []
-dones_of Different = []
-dones_of (Grown repacked) = []
+dones_of _ = []
 
 -- what a day that was done adds to the totals of its channel, in records and in bytes
 abbrev pub add_of : (channel : List ℕ) → Repacked → Add
@@ -174,6 +162,7 @@ pub record IsTally (entries : List Entry) (tally : Tally) : Type 0 where
   pub bytes : tally.bytes ≡ bytes_of_channels entries
   pub bytes_read : tally.bytes_read ≡ summed (λ add. add.read) entries
   pub bytes_written : tally.bytes_written ≡ summed (λ add. add.written) entries
+  pub unopened : tally.unopened ≡ first_unopened entries
 
 -- What one day more that was done changes, whatever was counted before.
 pub record AddsDone (channel : List ℕ) (repacked : Repacked) (tally0 tally : Tally) : Type 0 where
@@ -187,3 +176,4 @@ pub record AddsDone (channel : List ℕ) (repacked : Repacked) (tally0 tally : T
       → tally.bytes ≡ totals_of (adds ++ add_of_bytes channel repacked ∷ [])
   pub bytes_read : tally.bytes_read ≡ saturated (tally0.bytes_read + repacked.bytes_read)
   pub bytes_written : tally.bytes_written ≡ saturated (tally0.bytes_written + repacked.bytes_written)
+  pub unopened : tally.unopened ≡ tally0.unopened

@@ -2,15 +2,19 @@
 use Rattle.std.specs.Prelude.{ℕ, List, ◌++◌, codes}
 use Rattle.std.specs.Fmt.{decimal}
 use Rattle.msr_folders.specs.Paths.{ended, joined}
+use Rattle.msr_options.specs.declared.hint.Side.{Side}
+use Rattle.msr_options.specs.declared.hint.Side.TheVariants.{Records, Report}
 
--- the names of a new file: the one that it gets, and the one beside it under which it is written
+-- what a new file is of a day, and its names: the one that it gets, and the one beside it under which it is written
 pub record FileNames : Type 0 where
+  pub side : Side
   pub path : List ℕ
   pub part : List ℕ
 
 -- the names of a new file that the walk makes whose claim has that number
-abbrev pub new_file : (path : List ℕ) (number : ℕ) → FileNames
-new_file path number = record {
+abbrev pub new_file : Side → (path : List ℕ) (number : ℕ) → FileNames
+new_file side path number = record {
+  side = side;
   path = path;
   part = ended path (codes "." ++ (decimal number ++ codes ".part"));
 }
@@ -39,10 +43,10 @@ pub record FilesOfDay : Type 0 where
   pub report : FileNames
   pub stamp : FileNames
 
--- those that the walk makes whose claim has that number
+-- those that the walk makes whose claim has that number; the stamp stands beside the report
 abbrev pub day_files : DayNames → (number : ℕ) → FilesOfDay
 day_files names number = record {
-  records = new_file names.records number;
-  report = new_file names.report number;
-  stamp = new_file names.stamp number;
+  records = new_file Records names.records number;
+  report = new_file Report names.report number;
+  stamp = new_file Report names.stamp number;
 }

@@ -1,4 +1,3 @@
-pub mod Paths
 pub mod Files
 pub mod Stamp
 pub mod Day

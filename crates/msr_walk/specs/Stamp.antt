@@ -1,9 +1,6 @@
 -- The text of a stamp.
-use Rattle.std.specs.Prelude.{◌≡◌, ◌⊎◌, List, ℕ, ◌++◌, codes}
+use Rattle.std.specs.Prelude.{List, ℕ, ◌++◌, codes}
 use Rattle.std.specs.Fmt.{decimal, signed_decimal}
-use Rattle.msr_tool.specs.declared.fault.ToolFault.TheVariants.{Memory, Write}
-use Rattle.msr_walk.specs.declared.outcome.DayFault.{DayFault}
-use Rattle.msr_walk.specs.declared.outcome.DayFault.TheVariants.{CannotOpen, Tool}
 use Rattle.msr_walk.specs.declared.stamp.Stamp.{Stamp}
 
 -- how many bytes the input has, and when it was last changed
@@ -11,7 +8,3 @@ abbrev pub stamp_text : Stamp → List ℕ
 stamp_text stamp =
     codes "input " ++ (decimal stamp.bytes ++ (codes " bytes, changed at "
     ++ (signed_decimal stamp.seconds ++ (codes " s " ++ (signed_decimal stamp.nanoseconds ++ codes " ns\n")))))
-
--- why a stamp is not put into its file
-abbrev pub IsNotPut : DayFault → Type 0
-IsNotPut why = (why ≡ CannotOpen) ⊎ ((why ≡ Tool Memory) ⊎ (why ≡ Tool Write))

@@ -11,9 +11,10 @@ use Rattle.msr_folders.specs.declared.totals.Total.{Total}
 use Rattle.msr_folders.specs.declared.found.WalkFound.{WalkFound}
 use Rattle.msr_folders.specs.declared.found.WalkFound.TheVariants.{Well, Unwell, NoDay}
 use Rattle.msr_tool.specs.declared.fault.ToolFault.{ToolFault}
-use Rattle.msr_tool.specs.declared.fault.ToolFault.TheVariants.{Input, Report, Read, Write, Memory}
+use Rattle.msr_tool.specs.declared.fault.ToolFault.TheVariants.{Write, Memory}
 use Rattle.msr_options.specs.declared.days.DayOptions.{DayOptions}
-use Rattle.msr_walk.specs.Entries.{Entry, IsEntry, IsEntryLine, AreLines, IsTally, bytes_of_channels, bytes_told, channels_of, counted, is_done, is_larger, is_refused, is_skipped, summed}
+use Rattle.msr_walk.specs.Entries.{Entry, IsEntry, IsEntryLine, AreLines, IsTally, bytes_of_channels, bytes_told, channels_of, counted, first_unopened, is_done, is_larger, is_refused, is_skipped, summed}
+use Rattle.msr_walk.specs.declared.folders.Walked.{Walked}
 use Rattle.msr_walk.specs.declared.tally.Tally.{Tally}
 
 -- each channel's name with the totals of its records, and those of its bytes
@@ -57,6 +58,7 @@ tally_of entries = record {
   bytes_written = summed (λ add. add.written) entries;
   channels = channels_of entries;
   bytes = bytes_of_channels entries;
+  unopened = first_unopened entries;
 }
 
 -- the lines after those of the entries
@@ -101,18 +103,21 @@ pub record IsWalkInPart (asked : DayOptions) (printed : List ℕ) : Type 0 where
   pub rest : List ℕ
   pub walk : IsWalk asked (printed ++ rest) entries
 
+-- It tells too what could not be opened of the first day that was refused for that.
+pub record TellsWalk (entries : List Entry) (walked : Walked) : Type 0 where
+  pub end : TellsEnd entries walked.found
+  pub first : walked.unopened ≡ first_unopened entries
+
 -- the whole text was printed, or a prefix of it when the walk stopped, which no input and no source can make it do
-abbrev pub WalkEnds : DayOptions → (printed : List ℕ) → Result WalkFound ToolFault → Type 0
-WalkEnds asked printed (Ok found) = (entries : List Entry) × IsWalk asked printed entries
-    × TellsEnd entries found
-WalkEnds asked printed (Err (Input found)) = ⊥
-WalkEnds asked printed (Err (Report line)) = ⊥
-WalkEnds asked printed (Err Read) = ⊥
+abbrev pub WalkEnds : DayOptions → (printed : List ℕ) → Result Walked ToolFault → Type 0
+WalkEnds asked printed (Ok walked) = (entries : List Entry) × IsWalk asked printed entries
+    × TellsWalk entries walked
 WalkEnds asked printed (Err Write) = IsWalkInPart asked printed
 WalkEnds asked printed (Err Memory) = IsWalkInPart asked printed
+WalkEnds asked printed (Err _) = ⊥
 
 -- What a walk printed, and how it ended.
-pub record Walks (asked : DayOptions) (out0 out : Device) (result : Result WalkFound ToolFault) : Type 0 where
+pub record Walks (asked : DayOptions) (out0 out : Device) (result : Result Walked ToolFault) : Type 0 where
   pub printed : List ℕ
   pub prints : Takes out0 out printed
   pub ends : WalkEnds asked printed result

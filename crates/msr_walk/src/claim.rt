@@ -2,11 +2,11 @@
 use crate::day::Day;
 use crate::files::create_new;
 use msr_folders::FileId;
-use std::alloc::{AllocError, Global};
-use std::fs;
+use std::alloc::Global;
 use std::fs::{File, OpenFile, OpenOptions, TryLockError};
 use std::io::ErrorKind;
 use std::rt::Files;
+use std::{fs, io};
 
 /// Who has the lock of a file.
 #[derive(Clone, Copy, PartialEq, Eq)]
@@ -38,22 +38,11 @@ impl LockFile for File {
 /// Why a day is not claimed.
 #[derive(Clone, Copy)]
 pub(crate) enum ClaimFault {
-    /// Its file, or the folder of it, could not be made or looked at.
-    CannotOpen,
+    /// Its file, or the folder of it, could not be made or looked at, and the system's reason, if it gave one.
+    CannotOpen(Option<io::Error>),
     /// Another walk has the day.
     ClaimedByAnother,
     Memory,
-}
-
-impl From<AllocError> for ClaimFault {
-    ghost use Rattle.std.specs.Prelude.{◌≡◌};
-    ghost use Rattle.msr_walk.specs.declared.claim.ClaimFault.TheVariants.{Memory};
-
-    ghost from_gives = { λ _ why. why ≡ Memory };
-
-    fn from(_: AllocError) -> ClaimFault {
-        ClaimFault::Memory
-    }
 }
 
 /// A day that this walk has. Its file stands under the name of the day's claim, open and locked; a process that ends,
@@ -62,15 +51,11 @@ impl From<AllocError> for ClaimFault {
 #[derive(Drop)]
 pub(crate) struct Claim<F> {
     file: F,
-    number: u64,
+    /// The number of its file, which no other file that is there has.
+    pub number: u64,
 }
 
 impl<F: OpenFile> Claim<F> {
-    /// The number of its file, which no other file that is there has.
-    pub(crate) fn number(&self) -> u64 {
-        self.number
-    }
-
     /// Whether its file has that name still.
     pub(crate) fn is_ours<R: Files>(&self, rt: &R, path: &str) -> bool {
         leads_to(rt, path, &self.file).is_some()
@@ -104,7 +89,7 @@ where
     R::File: LockFile,
 {
     for _ in 0..TRIES {
-        if let Some(claim) = claim_anew(rt, day.claim())? {
+        if let Some(claim) = claim_anew(rt, day.claim.as_str())? {
             return Ok(claim);
         }
         clear(rt, alloc, day)?;
@@ -121,7 +106,7 @@ where
     let file = match create_new(rt, path) {
         Ok(file) => file,
         Err(error) if error.kind() == ErrorKind::AlreadyExists => return Ok(None),
-        Err(_) => return Err(ClaimFault::CannotOpen),
+        Err(error) => return Err(ClaimFault::CannotOpen(Some(error))),
     };
     if file.lock() == Lock::Others {
         return Ok(None);
@@ -132,25 +117,18 @@ where
     Ok(Some(Claim { file, number }))
 }
 
-/// No file, if that is why none was opened.
-fn none_if_gone<F>(kind: ErrorKind) -> Result<Option<F>, ClaimFault> {
-    match kind {
-        ErrorKind::NotFound => Ok(None),
-        _ => Err(ClaimFault::CannotOpen),
-    }
-}
-
 /// The file of a claim that was left, or that another walk has; `None` if it is gone. What is no regular file is no
 /// claim, and is not opened.
 fn open_claim<R: Files>(rt: &R, path: &str) -> Result<Option<R::File>, ClaimFault> {
-    match fs::symlink_metadata(rt, path) {
-        Ok(metadata) if metadata.is_file() => {}
-        Ok(_) => return Err(ClaimFault::CannotOpen),
-        Err(error) => return none_if_gone(error.kind()),
-    }
-    match OpenOptions::new().write(true).open(rt, path) {
+    let answer = match fs::symlink_metadata(rt, path) {
+        Ok(metadata) if metadata.is_file() => OpenOptions::new().write(true).open(rt, path),
+        Ok(_) => return Err(ClaimFault::CannotOpen(None)),
+        Err(error) => Err(error),
+    };
+    match answer {
         Ok(file) => Ok(Some(file)),
-        Err(error) => none_if_gone(error.kind()),
+        Err(error) if error.kind() == ErrorKind::NotFound => Ok(None),
+        Err(error) => Err(ClaimFault::CannotOpen(Some(error))),
     }
 }
 
@@ -160,7 +138,7 @@ fn clear<R: Files>(rt: &R, alloc: Global, day: &Day) -> Result<(), ClaimFault>
 where
     R::File: LockFile,
 {
-    let path = day.claim();
+    let path = day.claim.as_str();
     let Some(file) = open_claim(rt, path)? else {
         return Ok(());
     };
@@ -170,13 +148,12 @@ where
     let Some(id) = leads_to(rt, path, &file) else {
         return Ok(());
     };
+    let Ok(files) = day.files(alloc, id.number) else {
+        return Err(ClaimFault::Memory);
+    };
     // Without the claim nobody would know what to remove.
-    let files = day.files(alloc, id.number)?;
     if !files.sweep(rt) {
-        return Err(ClaimFault::CannotOpen);
+        return Err(ClaimFault::CannotOpen(None));
     }
-    match fs::remove_file(rt, path) {
-        Ok(()) => Ok(()),
-        Err(_) => Err(ClaimFault::CannotOpen),
-    }
+    fs::remove_file(rt, path).map_err(|error| ClaimFault::CannotOpen(Some(error)))
 }

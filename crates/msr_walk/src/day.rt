@@ -1,19 +1,18 @@
 //! One day file: from its file to the files of its records and its report.
-ghost use Rattle.std.specs.Prelude.{◌≡◌, false, IfErr, IfOk, IfSome};
+ghost use Rattle.std.specs.Prelude.{◌≡◌, false, IfOk, IfSome};
 ghost use Rattle.msr_walk.specs.Day.{IsComparedIfAsked, IsDayOutcome, IsKept, IsOutcomeOfDay, IsRepackedDay, IsShownIfAsked};
 ghost use Rattle.msr_walk.specs.Files.{day_files, day_names};
 
 use crate::claim::{Claim, ClaimFault, LockFile, claim_day};
-use crate::files::NewFile;
-use crate::folders::Archive;
+use crate::files::{NewFile, opened};
 use crate::outcome::{DayFault, Outcome, Repacked};
 use crate::repacking::{
     Counting, counts_kept, first_length, repack_day_of, require_same, require_shown,
 };
 use crate::stamp::Stamp;
-use msr_folders::{Look, ended, join, open_regular, settle_regular};
-use msr_options::DayOptions;
-use msr_tool::{FromRead, FromWrite, Length};
+use msr_folders::{Look, ended, is_gone, join, open_regular, settle_regular};
+use msr_options::{DayOptions, Folders, Side, Unopened};
+use msr_tool::{FromRead, FromWrite, Length, ToolFault};
 use std::alloc::{AllocError, Global};
 use std::fs;
 use std::marker::Model;
@@ -26,7 +25,8 @@ pub(crate) struct Day {
     records: String,
     report: String,
     stamp: String,
-    claim: String,
+    /// That of the file that says whose the day is.
+    pub claim: String,
 }
 
 impl Model for Day {
@@ -67,18 +67,13 @@ impl Model for DayFiles {
 impl DayFiles {
     /// Removes what stands beside their names, and tells whether nothing is there any more.
     pub(crate) fn sweep<R: Files>(&self, rt: &R) -> bool {
-        let records = self.records.sweep(rt);
-        let report = self.report.sweep(rt);
-        let stamp = self.stamp.sweep(rt);
-        records && report && stamp
+        self.records.sweep(rt) & self.report.sweep(rt) & self.stamp.sweep(rt)
     }
 
     /// The stamp and the records of an earlier walk go before anything gets its name, so that what has a stamp was made
     /// whole, and no report stands beside records that are not its own; the report gets its name first, so that records
     /// that have theirs have a report.
-    fn keep<R: Files>(&self, rt: &R) -> Result<(), DayFault>
-        ensures { IfErr result (λ why. why ≡ DayFault.CannotOpen) }
-    {
+    fn keep<R: Files>(&self, rt: &R) -> Result<(), Unopened> {
         self.stamp.clear(rt)?;
         self.records.clear(rt)?;
         self.report.keep(rt)?;
@@ -93,12 +88,8 @@ impl DayFiles {
         if !check {
             return Ok(());
         }
-        let Some(records) = open_regular(rt, self.records.part()) else {
-            return Err(DayFault::CannotOpen);
-        };
-        let Some(report) = open_regular(rt, self.report.part()) else {
-            return Err(DayFault::CannotOpen);
-        };
+        let records = self.records.open(rt)?;
+        let report = self.report.open(rt)?;
         require_shown(
             alloc,
             &mut FromRead::new(records),
@@ -112,10 +103,9 @@ impl DayFiles {
         let Some(stamp) = Stamp::of(&Look::at(rt, input)) else {
             return true;
         };
-        if Stamp::of(before) != Some(stamp) || stamp.put(rt, alloc, &self.stamp).is_ok() {
-            return true;
-        }
-        self.stamp.sweep(rt)
+        Stamp::of(before) != Some(stamp)
+            || stamp.put(rt, alloc, &self.stamp)
+            || self.stamp.sweep(rt)
     }
 }
 
@@ -128,29 +118,20 @@ struct DayLook {
     stamp: Look,
 }
 
-impl DayLook {
-    /// Whether the day's own file may be one of those that are made of it.
-    fn may_be_output(&self) -> bool {
-        self.input.may_be(&self.records)
-            || self.input.may_be(&self.report)
-            || self.input.may_be(&self.stamp)
-    }
-
-    /// Whether the file of the records has so many bytes.
-    fn has_records(&self, bytes: u64) -> bool {
-        match self.records.regular() {
-            Some(metadata) => metadata.len() == bytes,
-            None => false,
-        }
-    }
-}
-
 /// A day that this walk has: what stood under the name of its own file, the files that are made, and the claim.
 #[derive(Drop)]
 struct ClaimedDay<'a, F> {
     input: &'a Look,
     files: DayFiles,
     claim: &'a Claim<F>,
+}
+
+/// What is asked of a day, and the system's files and the memory with which it is done.
+#[derive(Drop)]
+struct Work<'a, R: Files> {
+    rt: &'a R,
+    alloc: Global,
+    asked: DayOptions,
 }
 
 /// What became of a day that this walk has, and whether nothing stands beside the names of its files any more.
@@ -162,14 +143,14 @@ struct DayEnd {
 
 impl Day {
     /// The names of the day with this path in the archive.
-    pub(crate) fn new(alloc: Global, archive: &Archive<'_>, path: &str) -> Result<Day, AllocError>
+    pub(crate) fn new(alloc: Global, folders: Folders<'_>, path: &str) -> Result<Day, AllocError>
         ensures { IfOk result (λ day.
-            day ≡ day_names archive.now.root.now archive.now.out.now archive.now.reports.now path.now) }
+            day ≡ day_names folders.entry.root.now folders.entry.out.now folders.entry.reports.now path.now) }
     {
-        let records = join(alloc, archive.out, path)?;
-        let report = join(alloc, archive.reports, path)?;
+        let records = join(alloc, folders.out, path)?;
+        let report = join(alloc, folders.reports, path)?;
         Ok(Day {
-            input: join(alloc, archive.root, path)?,
+            input: join(alloc, folders.root, path)?,
             report: ended(alloc, report.as_str(), ".txt")?,
             stamp: ended(alloc, report.as_str(), ".from")?,
             claim: ended(alloc, records.as_str(), ".claim")?,
@@ -177,48 +158,31 @@ impl Day {
         })
     }
 
-    /// The name of the file that says whose the day is.
-    pub(crate) fn claim(&self) -> &str
-        ensures { result.now ≡ self.now.claim }
-    {
-        self.claim.as_str()
-    }
-
     /// The files that the walk makes whose claim has that number.
     pub(crate) fn files(&self, alloc: Global, number: u64) -> Result<DayFiles, AllocError>
         ensures { IfOk result (λ files. files ≡ day_files self.now number) }
     {
         Ok(DayFiles {
-            records: NewFile::new(alloc, self.records.as_str(), number)?,
-            report: NewFile::new(alloc, self.report.as_str(), number)?,
-            stamp: NewFile::new(alloc, self.stamp.as_str(), number)?,
+            records: NewFile::new(alloc, Side::Records, self.records.as_str(), number)?,
+            report: NewFile::new(alloc, Side::Report, self.report.as_str(), number)?,
+            stamp: NewFile::new(alloc, Side::Report, self.stamp.as_str(), number)?,
         })
     }
 
     /// Reads the day's own file and the records again that were written, and compares them, if that is asked for.
-    fn compare<R: Files>(
-        &self,
-        rt: &R,
-        alloc: Global,
-        asked: &DayOptions,
-        files: &DayFiles,
-    ) -> Result<(), DayFault>
-        ensures { IsComparedIfAsked asked.now result }
+    fn compare<R: Files>(&self, work: &Work<'_, R>, files: &DayFiles) -> Result<(), DayFault>
+        ensures { IsComparedIfAsked work.now.asked result }
     {
-        if !asked.check {
+        if !work.asked.check {
             return Ok(());
         }
-        let Some(input) = open_regular(rt, self.input.as_str()) else {
-            return Err(DayFault::CannotOpen);
-        };
-        let Some(records) = open_regular(rt, files.records.part()) else {
-            return Err(DayFault::CannotOpen);
-        };
+        let input = opened(Side::File, open_regular(work.rt, self.input.as_str()))?;
+        let records = files.records.open(work.rt)?;
         require_same(
-            alloc,
+            work.alloc,
             &mut FromRead::new(input),
             &mut FromRead::new(records),
-            asked.options,
+            work.asked.options,
         )
     }
 
@@ -226,17 +190,13 @@ impl Day {
     /// before anything gets its name.
     fn write<R: Files>(
         &self,
-        rt: &R,
-        alloc: Global,
-        asked: &DayOptions,
+        work: &Work<'_, R>,
         claimed: &ClaimedDay<'_, R::File>,
     ) -> Result<Repacked, DayFault>
-        ensures { IsRepackedDay asked.now result }
+        ensures { IsRepackedDay work.now.asked result }
     {
-        let files = &claimed.files;
-        let Some(input) = claimed.input.open(rt, self.input.as_str()) else {
-            return Err(DayFault::CannotOpen);
-        };
+        let (rt, alloc, files) = (work.rt, work.alloc, &claimed.files);
+        let input = opened(Side::File, claimed.input.open(rt, self.input.as_str()))?;
         let mut records = files.records.create(rt)?;
         let mut report = files.report.create(rt)?;
         let repacked = repack_day_of(
@@ -244,16 +204,17 @@ impl Day {
             &mut Counting::new(FromRead::new(input)),
             &mut FromWrite::new(&mut records),
             &mut FromWrite::new(&mut report),
-            asked.options,
+            work.asked.options,
         )?;
-        if asked.only_smaller && repacked.bytes_read <= repacked.bytes_written {
+        if work.asked.only_smaller && repacked.bytes_read <= repacked.bytes_written {
             return Err(DayFault::Larger(repacked));
         }
-        settle_regular(&records)?;
-        settle_regular(&report)?;
-        files.hold(rt, alloc, asked.check)?;
-        self.compare(rt, alloc, asked, files)?;
-        if !claimed.claim.is_ours(rt, self.claim()) {
+        if settle_regular(&records).is_err() || settle_regular(&report).is_err() {
+            return Err(DayFault::Tool(ToolFault::Write));
+        }
+        files.hold(rt, alloc, work.asked.check)?;
+        self.compare(work, files)?;
+        if !claimed.claim.is_ours(rt, self.claim.as_str()) {
             return Err(DayFault::ClaimedByAnother);
         }
         files.keep(rt)?;
@@ -262,64 +223,49 @@ impl Day {
 
     /// Repacks the day, and stamps it if that is asked for and the input did not change meanwhile. If it is refused,
     /// nothing of it is left, unless another walk took it over.
-    fn repack<R: Files>(
-        &self,
-        rt: &R,
-        alloc: Global,
-        asked: &DayOptions,
-        claimed: &ClaimedDay<'_, R::File>,
-    ) -> DayEnd
-        ensures { IsDayOutcome asked.now result.outcome }
+    fn repack<R: Files>(&self, work: &Work<'_, R>, claimed: &ClaimedDay<'_, R::File>) -> DayEnd
+        ensures { IsDayOutcome work.now.asked result.outcome }
     {
-        let files = &claimed.files;
-        match self.write(rt, alloc, asked, claimed) {
+        let (rt, files) = (work.rt, &claimed.files);
+        match self.write(work, claimed) {
             Ok(repacked) => DayEnd {
                 outcome: Outcome::Done(repacked),
-                is_swept: !asked.resume
-                    || files.put_stamp(rt, alloc, claimed.input, self.input.as_str()),
+                is_swept: !work.asked.resume
+                    || files.put_stamp(rt, work.alloc, claimed.input, self.input.as_str()),
             },
             Err(refusal) => {
                 let is_swept = files.sweep(rt);
-                if claimed.claim.is_ours(rt, self.claim()) {
-                    self.remove(rt);
+                if claimed.claim.is_ours(rt, self.claim.as_str()) {
+                    fs::remove_file(rt, self.stamp.as_str()).ok();
+                    fs::remove_file(rt, self.records.as_str()).ok();
+                    fs::remove_file(rt, self.report.as_str()).ok();
                 }
                 DayEnd {
-                    outcome: refused(refusal),
+                    outcome: Outcome::Refused(refusal),
                     is_swept,
                 }
             }
         }
     }
 
-    /// Removes the stamp, the records and then the report of the day, as far as the system lets.
-    fn remove<R: Files>(&self, rt: &R) {
-        fs::remove_file(rt, self.stamp.as_str()).ok();
-        fs::remove_file(rt, self.records.as_str()).ok();
-        fs::remove_file(rt, self.report.as_str()).ok();
-    }
-
     /// What an earlier walk left of the day, if it is whole, was made with these options, and from the input as it is,
     /// and is to be kept.
-    fn kept<R: Files>(
-        &self,
-        rt: &R,
-        alloc: Global,
-        asked: &DayOptions,
-        look: &DayLook,
-    ) -> Option<Repacked>
-        ensures { IfSome result (IsKept asked.now) }
+    fn kept<R: Files>(&self, work: &Work<'_, R>, look: &DayLook) -> Option<Repacked>
+        ensures { IfSome result (IsKept work.now.asked) }
     {
+        let (rt, alloc) = (work.rt, work.alloc);
         let stamp = Stamp::of(&look.input)?;
         let Ok(true) = stamp.stands_in(rt, alloc, self.stamp.as_str(), &look.stamp) else {
             return None;
         };
-        let report = look.report.open(rt, self.report.as_str())?;
-        let size = stamp.bytes();
-        let repacked = counts_kept(alloc, &mut FromRead::new(report), asked.options, size)?;
-        if asked.only_smaller && repacked.bytes_read <= repacked.bytes_written {
+        let report = look.report.open(rt, self.report.as_str()).ok()?;
+        let records = look.records.regular()?;
+        let size = stamp.bytes;
+        let repacked = counts_kept(alloc, &mut FromRead::new(report), work.asked.options, size)?;
+        if work.asked.only_smaller && repacked.bytes_read <= repacked.bytes_written {
             return None;
         }
-        if look.has_records(repacked.bytes_written) {
+        if records.len() == repacked.bytes_written {
             Some(repacked)
         } else {
             None
@@ -336,29 +282,17 @@ impl Day {
         }
     }
 
-    /// Whether the day may have a stamp.
-    fn may_be_stamped<R: Files>(&self, rt: &R) -> bool {
-        !matches!(Look::at(rt, self.stamp.as_str()), Look::Nothing)
-    }
-
-    /// Whether there is a claim: a walk is at work, or left something.
-    fn is_claimed<R: Files>(&self, rt: &R) -> bool {
-        fs::symlink_metadata(rt, self.claim.as_str()).is_ok()
-    }
-
     /// Does a day that this walk has.
     fn do_claimed<R: Files>(
         &self,
-        rt: &R,
-        alloc: Global,
-        asked: &DayOptions,
+        work: &Work<'_, R>,
         input: &Look,
         claim: &Claim<R::File>,
     ) -> Result<DayEnd, AllocError>
-        ensures { IfOk result (λ end. IsDayOutcome asked.now end.outcome) }
+        ensures { IfOk result (λ end. IsDayOutcome work.now.asked end.outcome) }
     {
-        if asked.resume && self.may_be_stamped(rt) {
-            if let Some(repacked) = self.kept(rt, alloc, asked, &self.look(rt)) {
+        if work.asked.resume && !is_gone(work.rt, self.stamp.as_str()) {
+            if let Some(repacked) = self.kept(work, &self.look(work.rt)) {
                 return Ok(DayEnd {
                     outcome: Outcome::Same(repacked),
                     is_swept: true,
@@ -367,41 +301,42 @@ impl Day {
         }
         let claimed = ClaimedDay {
             input,
-            files: self.files(alloc, claim.number())?,
+            files: self.files(work.alloc, claim.number)?,
             claim,
         };
-        Ok(self.repack(rt, alloc, asked, &claimed))
+        Ok(self.repack(work, &claimed))
     }
 
     /// Claims the day, does it, and lets it go; the claim stays beside what could not be removed, since by its number
     /// the next walk finds that.
     fn claim_and_do<R: Files>(
         &self,
-        rt: &R,
-        alloc: Global,
-        asked: &DayOptions,
+        work: &Work<'_, R>,
         input: &Look,
     ) -> Result<Outcome, AllocError>
     where
         R::File: LockFile,
-        ensures { IfOk result (IsDayOutcome asked.now) }
+        ensures { IfOk result (IsDayOutcome work.now.asked) }
     {
-        let claim = match claim_day(rt, alloc, self) {
+        let claim = match claim_day(work.rt, work.alloc, self) {
             Ok(claim) => claim,
-            Err(ClaimFault::CannotOpen) => return Ok(Outcome::Refused(DayFault::CannotOpen)),
+            Err(ClaimFault::CannotOpen(why)) => {
+                let side = Side::Records;
+                return Ok(Outcome::Refused(DayFault::CannotOpen(Unopened { side, why })));
+            }
             Err(ClaimFault::ClaimedByAnother) => return Ok(Outcome::Refused(
                 DayFault::ClaimedByAnother,
             )),
             Err(ClaimFault::Memory) => return Err(AllocError),
         };
-        let end = self.do_claimed(rt, alloc, asked, input, &claim);
+        let end = self.do_claimed(work, input, &claim);
         let is_swept = match &end {
             Ok(end) => end.is_swept,
             // There was no memory for the names, so nothing was written.
             Err(_) => true,
         };
         if is_swept {
-            claim.release(rt, self.claim());
+            claim.release(work.rt, self.claim.as_str());
         }
         Ok(end?.outcome)
     }
@@ -409,26 +344,23 @@ impl Day {
     /// Does what is asked of the day: repacks it, or leaves it alone if an earlier walk did it and that is asked for.
     /// If it is refused or not to be kept, no records and no report of it are left, unless the day cannot be claimed,
     /// or its own file may be one of those: then nothing is touched.
-    fn do_asked<R: Files>(
-        &self,
-        rt: &R,
-        alloc: Global,
-        asked: &DayOptions,
-    ) -> Result<Outcome, AllocError>
+    fn do_asked<R: Files>(&self, work: &Work<'_, R>) -> Result<Outcome, AllocError>
     where
         R::File: LockFile,
-        ensures { IfOk result (IsDayOutcome asked.now) }
+        ensures { IfOk result (IsDayOutcome work.now.asked) }
     {
-        let look = self.look(rt);
-        if look.may_be_output() {
-            return Ok(Outcome::Refused(DayFault::CannotOpen));
+        let look = self.look(work.rt);
+        let input = &look.input;
+        if input.may_be(&look.records) || input.may_be(&look.report) || input.may_be(&look.stamp) {
+            return Ok(Outcome::Refused(DayFault::CannotOpen(Unopened::OUTPUTS)));
         }
-        if asked.resume && !self.is_claimed(rt) {
-            if let Some(repacked) = self.kept(rt, alloc, asked, &look) {
+        // If there is a claim, a walk is at work, or left something.
+        if work.asked.resume && fs::symlink_metadata(work.rt, self.claim.as_str()).is_err() {
+            if let Some(repacked) = self.kept(work, &look) {
                 return Ok(Outcome::Same(repacked));
             }
         }
-        self.claim_and_do(rt, alloc, asked, &look.input)
+        self.claim_and_do(work, &look.input)
     }
 
     /// The length of this day's records: if each day's own is asked for, that of its first record, if that
@@ -445,7 +377,7 @@ impl Day {
         if !days.same_length {
             return Ok(length);
         }
-        let Some(input) = open_regular(rt, self.input.as_str()) else {
+        let Ok(input) = open_regular(rt, self.input.as_str()) else {
             return Ok(length);
         };
         let own = first_length(alloc, &mut FromRead::new(input))?;
@@ -464,22 +396,7 @@ impl Day {
         ensures { IfOk result (IsOutcomeOfDay days.now) }
     {
         let length = self.length(rt, alloc, days)?;
-        self.do_asked(rt, alloc, &days.in_length(length))
-    }
-}
-
-/// What becomes of a day that is refused: what is not shown, not the same data, or larger, has an outcome of its own.
-fn refused(refusal: DayFault) -> Outcome
-    ensures { (asked : DayOptions) → IsRepackedDay asked (Err refusal) → IsDayOutcome asked result }
-{
-    match refusal {
-        DayFault::Larger(repacked) => Outcome::Larger(repacked),
-        DayFault::NotShown => Outcome::NotShown,
-        DayFault::Differs => Outcome::Differs,
-        DayFault::CannotOpen
-        | DayFault::Gone
-        | DayFault::Listing
-        | DayFault::ClaimedByAnother
-        | DayFault::Tool(_) => Outcome::Refused(refusal),
+        let asked = days.in_length(length);
+        self.do_asked(&Work { rt, alloc, asked })
     }
 }

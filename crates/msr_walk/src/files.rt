@@ -2,39 +2,41 @@
 ghost use Rattle.std.specs.Prelude.{◌≡◌, IfErr, IfOk};
 ghost use Rattle.msr_walk.specs.Files.{new_file};
 
-use crate::outcome::DayFault;
-use msr_folders::{ended, folder_of, is_gone};
+use msr_folders::{ended, folder_of, is_gone, open_regular};
+use msr_options::{Side, Unopened};
 use std::alloc::{AllocError, Global};
-use std::fs::OpenOptions;
+use std::fs::File;
 use std::io::ErrorKind;
 use std::marker::Model;
 use std::rt::Files;
 use std::{fs, io};
 
-/// Makes a file in a folder that is there, if nothing has its name, not even a link.
-fn create_in_folder<R: Files>(rt: &R, path: &str) -> io::Result<R::File> {
-    OpenOptions::new()
-        .write(true)
-        .create_new(true)
-        .open(rt, path)
-}
-
 /// Makes a file, if nothing has its name, not even a link, and before that its folder if it is missing.
 pub(crate) fn create_new<R: Files>(rt: &R, path: &str) -> io::Result<R::File> {
-    match create_in_folder(rt, path) {
+    match File::create_new(rt, path) {
         Err(error) if error.kind() == ErrorKind::NotFound => {}
         result => return result,
     }
-    if fs::create_dir_all(rt, folder_of(path)).is_err() {
-        return Err(ErrorKind::NotFound.into());
+    match fs::create_dir_all(rt, folder_of(path)) {
+        Ok(()) => File::create_new(rt, path),
+        // A link that leads nowhere has the folder's name. Nothing has the file's.
+        Err(error) if error.kind() == ErrorKind::AlreadyExists => Err(ErrorKind::NotFound.into()),
+        Err(error) => Err(error),
     }
-    create_in_folder(rt, path)
+}
+
+/// What was opened or made, or on which side it could not be, and why.
+pub(crate) fn opened<T>(side: Side, answer: Result<T, Option<io::Error>>) -> Result<T, Unopened>
+    ensures { IfErr result (λ unopened. unopened.side ≡ side) }
+{
+    answer.map_err(|why| Unopened { side, why })
 }
 
 /// A file to be made in a folder that may be missing. It is written beside its name, and gets the name once it is
 /// whole.
 #[derive(Drop)]
 pub(crate) struct NewFile {
+    side: Side,
     path: String,
     part: String,
 }
@@ -45,70 +47,77 @@ impl Model for NewFile {
 
     ghost Value = { FileNames };
 
-    ghost view = { λ file. record { path = string_bytes file.path; part = string_bytes file.part } };
+    ghost view = { λ file. record {
+      side = file.side;
+      path = string_bytes file.path;
+      part = string_bytes file.part;
+    } };
 }
 
 impl NewFile {
     /// The file with that name. It is written under a name that no other walk uses, which has the number of the claim
     /// of this one.
-    pub(crate) fn new(alloc: Global, path: &str, number: u64) -> Result<NewFile, AllocError>
-        ensures { IfOk result (λ file. file ≡ new_file path.now number) }
+    pub(crate) fn new(
+        alloc: Global,
+        side: Side,
+        path: &str,
+        number: u64,
+    ) -> Result<NewFile, AllocError>
+        ensures { IfOk result (λ file. file ≡ new_file side path.now number) }
     {
         let ending = format!(in alloc; ".{number}.part")?;
         Ok(NewFile {
+            side,
             path: String::from_str(alloc, path)?,
             part: ended(alloc, path, ending.as_str())?,
         })
     }
 
-    /// The name beside its own, under which it is written.
-    pub(crate) fn part(&self) -> &str
-        ensures { result.now ≡ self.now.part }
+    /// What the system answers.
+    fn answered<T>(&self, answer: io::Result<T>) -> Result<T, Unopened>
+        ensures { IfErr result (λ unopened. unopened.side ≡ self.now.side) }
     {
-        self.part.as_str()
+        opened(self.side, answer.map_err(|error| Some(error)))
     }
 
     /// Makes the file beside its name. What stands there was left by a walk that was killed and had the same number,
     /// and is removed: no file that is there is written to.
-    pub(crate) fn create<R: Files>(&self, rt: &R) -> Result<R::File, DayFault>
-        ensures { IfErr result (λ why. why ≡ DayFault.CannotOpen) }
+    pub(crate) fn create<R: Files>(&self, rt: &R) -> Result<R::File, Unopened>
+        ensures { IfErr result (λ unopened. unopened.side ≡ self.now.side) }
     {
-        if let Ok(file) = create_new(rt, self.part()) {
+        if let Ok(file) = create_new(rt, self.part.as_str()) {
             return Ok(file);
         }
         self.sweep(rt);
-        match create_new(rt, self.part()) {
-            Ok(file) => Ok(file),
-            Err(_) => Err(DayFault::CannotOpen),
-        }
+        self.answered(create_new(rt, self.part.as_str()))
+    }
+
+    /// Opens what was written beside its name.
+    pub(crate) fn open<R: Files>(&self, rt: &R) -> Result<R::File, Unopened>
+        ensures { IfErr result (λ unopened. unopened.side ≡ self.now.side) }
+    {
+        opened(self.side, open_regular(rt, self.part.as_str()))
     }
 
     /// Removes what stands beside its name, and tells whether nothing is there any more.
     pub(crate) fn sweep<R: Files>(&self, rt: &R) -> bool {
-        match fs::remove_file(rt, self.part.as_str()) {
-            Ok(()) => true,
-            Err(_) => is_gone(rt, self.part.as_str()),
-        }
+        fs::remove_file(rt, self.part.as_str()).is_ok() || is_gone(rt, self.part.as_str())
     }
 
     /// Removes an older file of its name, if there is one.
-    pub(crate) fn clear<R: Files>(&self, rt: &R) -> Result<(), DayFault>
-        ensures { IfErr result (λ why. why ≡ DayFault.CannotOpen) }
+    pub(crate) fn clear<R: Files>(&self, rt: &R) -> Result<(), Unopened>
+        ensures { IfErr result (λ unopened. unopened.side ≡ self.now.side) }
     {
         match fs::remove_file(rt, self.path.as_str()) {
-            Ok(()) => Ok(()),
             Err(error) if error.kind() == ErrorKind::NotFound => Ok(()),
-            Err(_) => Err(DayFault::CannotOpen),
+            answer => self.answered(answer),
         }
     }
 
     /// Gives the file its name, in the place of what had it.
-    pub(crate) fn keep<R: Files>(&self, rt: &R) -> Result<(), DayFault>
-        ensures { IfErr result (λ why. why ≡ DayFault.CannotOpen) }
+    pub(crate) fn keep<R: Files>(&self, rt: &R) -> Result<(), Unopened>
+        ensures { IfErr result (λ unopened. unopened.side ≡ self.now.side) }
     {
-        match fs::rename(rt, self.part.as_str(), self.path.as_str()) {
-            Ok(()) => Ok(()),
-            Err(_) => Err(DayFault::CannotOpen),
-        }
+        self.answered(fs::rename(rt, self.part.as_str(), self.path.as_str()))
     }
 }

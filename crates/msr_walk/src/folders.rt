@@ -1,40 +1,32 @@
 //! The walk through the folders of an archive.
-ghost use Rattle.std.specs.Prelude.{◌↔◌, List, IfErr, IfOk, IsErrOf, OnOk};
+ghost use Rattle.std.specs.Prelude.{◌≡◌, ◌↔◌, List, IfErr, IfOk, IsErrOf, OnOk};
+ghost use Rattle.std.specs.String.{string_bytes};
 ghost use Rattle.msr_devices.specs.Device.{CanCountCall, HasFailed};
 ghost use Rattle.msr_sds.specs.SdsPath.{ReadsAsDay};
-ghost use Rattle.msr_walk.specs.Day.{IsOutcomeOfDay};
 ghost use Rattle.msr_folders.proofs.VisitLemmas.{visitor_laws};
-ghost use Rattle.msr_walk.specs.Entries.{Entry, IsEntry, IsEntryLine, IsOutcomeOf, IsTally};
+ghost use Rattle.msr_walk.specs.Entries.{Entry, IsEntry, IsEntryLine, IsOutcomeOf, IsTally, channel_of};
 ghost use Rattle.msr_walk.specs.Walk.{StopsTelling, Tells, TellsEnd, Walks};
 
 use crate::claim::LockFile;
 use crate::day::Day;
 use crate::outcome::{DayFault, Outcome};
-use crate::paths::channel_text;
 use crate::places::stands_apart;
 use crate::summary::write_summary;
 use crate::tally::Tally;
 use msr_devices::{DeviceFault, Sink, write_all};
 use msr_folders::{FileKind, FolderWalk, Visitor, WalkFound, visit_folders};
-use msr_options::DayOptions;
+use msr_options::{Archiving, Unopened};
 use msr_sds::SdsName;
 use msr_tool::ToolFault;
 use std::alloc::{AllocError, Global};
 use std::rt::Files;
 
-/// An archive that is to be repacked.
+/// What a walk found that came to its end.
 #[derive(Clone, Copy)]
-pub struct Archive<'a> {
-    /// The folder of the archive.
-    pub root: &'a str,
-    /// The folder of the records that are written.
-    pub out: &'a str,
-    /// The folder of their reports.
-    pub reports: &'a str,
-    /// The paths, from the archive's folder, of the folders that are walked; none for the whole archive.
-    pub below: &'a [&'a str],
-    /// What is asked of its days.
-    pub days: DayOptions,
+pub struct Walked {
+    pub found: WalkFound,
+    /// What could not be opened of the first day that was refused for that.
+    pub unopened: Option<Unopened>,
 }
 
 /// What a day needs: the system's files, memory and what is asked for.
@@ -42,7 +34,7 @@ pub struct Archive<'a> {
 struct Walker<'a, R: Files> {
     rt: &'a R,
     alloc: Global,
-    archive: &'a Archive<'a>,
+    archive: &'a Archiving<'a>,
 }
 
 /// Prints the line of an entry, and counts it. The channel is that of a day.
@@ -66,24 +58,18 @@ fn tell<R: Files, O: Sink>(
     Ok(())
 }
 
-/// Handles a day, if what is made of it stands outside the archive.
-fn handle_day<R: Files>(
-    walker: &Walker<'_, R>,
-    path: &str,
-    apart: bool,
-) -> Result<Outcome, AllocError>
-where
-    R::File: LockFile,
-    ensures { IfOk result (IsOutcomeOfDay walker.now.archive.now.days) }
+/// NET.STA.LOC.CHAN
+fn channel_text(alloc: Global, name: &SdsName<'_>) -> Result<String, AllocError>
+    ensures { IfOk result (λ text. string_bytes text ≡ channel_of name.now) }
 {
-    if !apart {
-        return Ok(Outcome::Refused(DayFault::CannotOpen));
-    }
-    let day = Day::new(walker.alloc, walker.archive, path)?;
-    day.handle(walker.rt, walker.alloc, &walker.archive.days)
+    let network = name.network();
+    let station = name.station();
+    let location = name.location();
+    let channel = name.channel();
+    format!(in alloc; "{network}.{station}.{location}.{channel}")
 }
 
-/// Repacks a day, prints its line and counts it.
+/// Handles a day, or refuses it if what is made of it may stand in the archive; prints its line and counts it.
 fn tell_day<R: Files, O: Sink>(
     walker: &Walker<'_, R>,
     path: &str,
@@ -102,7 +88,12 @@ where
         (O.device out.new)) }
 {
     let channel = channel_text(walker.alloc, name)?;
-    let outcome = handle_day(walker, path, apart)?;
+    let outcome = if apart {
+        let day = Day::new(walker.alloc, walker.archive.folders, path)?;
+        day.handle(walker.rt, walker.alloc, &walker.archive.days)?
+    } else {
+        Outcome::Refused(DayFault::CannotOpen(Unopened::OUTPUTS))
+    };
     tell(walker, path, channel.as_str(), outcome, out, tally)
 }
 
@@ -124,7 +115,7 @@ where
 
     fn enter_folder(&self, folder: &str, levels: u8) -> Result<bool, AllocError> {
         // No folder above has days.
-        Ok(0 < levels || stands_apart(self.rt, self.alloc, self.archive, folder)?)
+        Ok(0 < levels || stands_apart(self.rt, self.alloc, self.archive.folders, folder)?)
     }
 
     fn visit_entry<O: Sink>(
@@ -171,14 +162,14 @@ fn end_of(tally: &Tally) -> WalkFound
     }
 }
 
-/// Walks the archive, or the folders of it that are asked for, and tells whether an entry was refused, and whether
-/// there was a day.
+/// Walks the archive, or the folders of it that are asked for, and tells whether an entry was refused, whether there was
+/// a day, and what of the first one could not be opened.
 pub fn walk<R: Files, O: Sink>(
     rt: &R,
     alloc: Global,
-    archive: &Archive<'_>,
+    archive: &Archiving<'_>,
     out: &mut O,
-) -> Result<WalkFound, ToolFault>
+) -> Result<Walked, ToolFault>
 where
     R::File: LockFile,
     requires { CanCountCall (O.device out.old) }
@@ -192,11 +183,14 @@ where
     let walk = FolderWalk {
         rt,
         alloc,
-        root: archive.root,
-        below: archive.below,
+        root: archive.folders.root,
+        below: archive.below.as_slice(),
         visitor: &walker,
     };
     visit_folders(&walk, out, &mut tally)?;
     write_summary(alloc, out, &archive.days, &tally)?;
-    Ok(end_of(&tally))
+    Ok(Walked {
+        found: end_of(&tally),
+        unopened: tally.unopened,
+    })
 }

@@ -7,7 +7,6 @@ mod day;
 mod files;
 mod folders;
 mod outcome;
-mod paths;
 mod places;
 mod repacking;
 mod stamp;
@@ -15,4 +14,4 @@ mod summary;
 mod tally;
 
 pub use claim::{Lock, LockFile};
-pub use folders::{Archive, walk};
+pub use folders::{Walked, walk};

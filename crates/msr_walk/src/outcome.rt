@@ -1,21 +1,21 @@
 //! What becomes of an entry of a folder, and its line.
-ghost use Rattle.std.specs.Prelude.{◌≡◌, IfOk};
+ghost use Rattle.std.specs.Prelude.{◌≡◌, ◌++◌, IfOk};
 ghost use Rattle.std.specs.String.{string_bytes};
-ghost use Rattle.msr_walk.specs.Entries.{IsLineOf, bytes_told, counts_told};
+ghost use Rattle.msr_walk.specs.Entries.{IsLineOf, IsRefusedLine, bytes_told, counts_told};
 
-use msr_devices::DeviceFault;
 use msr_folders::shown_path;
+use msr_options::Unopened;
 use msr_sds::SdsFault;
 use msr_tool::ToolFault;
 use std::alloc::{AllocError, Global};
 use thiserror::Error;
 
-/// Why a day file or a folder is refused.
+/// Why a day file or a folder is refused, or what was made of a day is not kept.
 #[derive(Clone, Copy, Debug, Error)]
 pub(crate) enum DayFault {
     /// A file could not be opened, or not be made under its name.
     #[error("cannot open")]
-    CannotOpen,
+    CannotOpen(Unopened),
     /// A folder could not be listed, or has a name that is not UTF-8.
     #[error("listing")]
     Listing,
@@ -39,6 +39,17 @@ pub(crate) enum DayFault {
     Tool(ToolFault),
 }
 
+impl From<Unopened> for DayFault {
+    ghost use Rattle.std.specs.Prelude.{◌≡◌};
+    ghost use Rattle.msr_walk.specs.declared.outcome.DayFault.TheVariants.{CannotOpen};
+
+    ghost from_gives = { λ unopened why. why ≡ CannotOpen unopened };
+
+    fn from(unopened: Unopened) -> DayFault {
+        DayFault::CannotOpen(unopened)
+    }
+}
+
 impl From<ToolFault> for DayFault {
     ghost use Rattle.std.specs.Prelude.{◌≡◌};
     ghost use Rattle.msr_walk.specs.declared.outcome.DayFault.TheVariants.{Tool};
@@ -47,18 +58,6 @@ impl From<ToolFault> for DayFault {
 
     fn from(fault: ToolFault) -> DayFault {
         DayFault::Tool(fault)
-    }
-}
-
-impl From<DeviceFault> for DayFault {
-    ghost use Rattle.std.specs.Prelude.{◌≡◌};
-    ghost use Rattle.msr_tool.specs.Fault.{fault_of_writing};
-    ghost use Rattle.msr_walk.specs.declared.outcome.DayFault.TheVariants.{Tool};
-
-    ghost from_gives = { λ fault why. why ≡ Tool (fault_of_writing fault) };
-
-    fn from(fault: DeviceFault) -> DayFault {
-        DayFault::Tool(fault.into())
     }
 }
 
@@ -72,6 +71,27 @@ pub(crate) struct Repacked {
     pub bytes_written: u64,
 }
 
+impl DayFault {
+    /// The line that tells it of the entry whose path is shown so, with bytes or without.
+    fn line(self, alloc: Global, path: &str, bytes: bool) -> Result<String, AllocError>
+        ensures { IfOk result (λ line. IsRefusedLine bytes path.now self (string_bytes line)) }
+    {
+        match self {
+            DayFault::NotShown => format!(in alloc; "notshown {path}\n"),
+            DayFault::Differs => format!(in alloc; "differs {path}\n"),
+            DayFault::Larger(repacked) => repacked.line(alloc, "larger ", path, bytes),
+            DayFault::CannotOpen(_)
+            | DayFault::Listing
+            | DayFault::Gone
+            | DayFault::ClaimedByAnother
+            | DayFault::Tool(_) => {
+                let why = self.to_string(alloc)?;
+                format!(in alloc; "refused {path}: {why}\n")
+            }
+        }
+    }
+}
+
 /// What became of an entry.
 #[derive(Clone, Copy)]
 pub(crate) enum Outcome {
@@ -79,13 +99,8 @@ pub(crate) enum Outcome {
     /// An earlier walk had done it, and it was left alone.
     Same(Repacked),
     Skipped(SdsFault),
+    /// It was refused, or repacked and not kept.
     Refused(DayFault),
-    /// It was repacked, but not shown to be in the fewest records, and so not kept.
-    NotShown,
-    /// It was repacked, but the records are not the data of the day's own file, and so not kept.
-    Differs,
-    /// It was repacked, but did not get smaller, and so not kept.
-    Larger(Repacked),
 }
 
 /// What a line says of bytes: nothing, unless that is asked for.
@@ -104,13 +119,13 @@ pub(crate) fn bytes_told(
 }
 
 impl Repacked {
-    /// The counts at the end of a line.
-    fn counts(self, alloc: Global, bytes: bool) -> Result<String, AllocError>
-        ensures { IfOk result (λ text. string_bytes text ≡ counts_told bytes self) }
+    /// The line that begins so, with these counts.
+    fn line(self, alloc: Global, word: &str, path: &str, bytes: bool) -> Result<String, AllocError>
+        ensures { IfOk result (λ line. string_bytes line ≡ word.now ++ (path.now ++ counts_told bytes self)) }
     {
         let Repacked { read, written, .. } = self;
         let size = bytes_told(alloc, bytes, self.bytes_read, self.bytes_written)?;
-        format!(in alloc; " read {read} written {written}{size}\n")
+        format!(in alloc; "{word}{path} read {read} written {written}{size}\n")
     }
 }
 
@@ -121,28 +136,13 @@ impl Outcome {
     {
         let path = shown_path(alloc, path)?;
         match self {
-            Outcome::Done(repacked) => {
-                let counts = repacked.counts(alloc, bytes)?;
-                format!(in alloc; "done {path}{counts}")
-            }
-            Outcome::Same(repacked) => {
-                let counts = repacked.counts(alloc, bytes)?;
-                format!(in alloc; "same {path}{counts}")
-            }
-            Outcome::Larger(repacked) => {
-                let counts = repacked.counts(alloc, bytes)?;
-                format!(in alloc; "larger {path}{counts}")
-            }
+            Outcome::Done(repacked) => repacked.line(alloc, "done ", path.as_str(), bytes),
+            Outcome::Same(repacked) => repacked.line(alloc, "same ", path.as_str(), bytes),
             Outcome::Skipped(fault) => {
                 let why = fault.to_string(alloc)?;
                 format!(in alloc; "skipped {path}: {why}\n")
             }
-            Outcome::NotShown => format!(in alloc; "notshown {path}\n"),
-            Outcome::Differs => format!(in alloc; "differs {path}\n"),
-            Outcome::Refused(refusal) => {
-                let why = refusal.to_string(alloc)?;
-                format!(in alloc; "refused {path}: {why}\n")
-            }
+            Outcome::Refused(refusal) => refusal.line(alloc, path.as_str(), bytes),
         }
     }
 }

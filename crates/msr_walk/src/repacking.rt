@@ -39,14 +39,6 @@ pub(crate) fn bytes_of_records(records: u64, options: Options) -> u64
     records.saturating_mul(u64::from(options.length().bytes()))
 }
 
-/// How many bytes a source gave.
-fn bytes_given(answer: &io::Result<usize>) -> u64 {
-    match answer {
-        Ok(count) => *count as u64,
-        Err(_) => 0,
-    }
-}
-
 /// A source that counts the bytes that it gives.
 #[derive(Drop)]
 pub(crate) struct Counting<S> {
@@ -68,7 +60,9 @@ impl<S: Source> Source for Counting<S> {
 
     fn read(&mut self, buf: &mut [u8]) -> io::Result<usize> {
         let result = self.inner.read(buf);
-        self.given = self.given.saturating_add(bytes_given(&result));
+        if let Ok(count) = &result {
+            self.given = self.given.saturating_add(*count as u64);
+        }
         result
     }
 }

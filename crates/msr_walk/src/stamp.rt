@@ -2,11 +2,10 @@
 ghost use Rattle.std.specs.Prelude.{◌≡◌, IfErr, IfOk, OnOk};
 ghost use Rattle.std.specs.String.{string_bytes};
 ghost use Rattle.msr_devices.specs.Device.{CanCountCall, Takes};
-ghost use Rattle.msr_walk.specs.Stamp.{IsNotPut, stamp_text};
+ghost use Rattle.msr_walk.specs.Stamp.{stamp_text};
 ghost use Rattle.msr_walk.specs.Walk.{StopsPrefix};
 
 use crate::files::NewFile;
-use crate::outcome::DayFault;
 use msr_devices::{DeviceFault, Sink, write_all};
 use msr_folders::{Look, settle_regular};
 use msr_tool::FromWrite;
@@ -18,7 +17,7 @@ use std::rt::Files;
 /// The size of a regular file, and the time at which it was last changed.
 #[derive(Clone, Copy, PartialEq, Eq)]
 pub(crate) struct Stamp {
-    bytes: u64,
+    pub bytes: u64,
     seconds: i64,
     nanoseconds: i64,
 }
@@ -32,11 +31,6 @@ impl Stamp {
             seconds: metadata.mtime(),
             nanoseconds: metadata.mtime_nsec(),
         })
-    }
-
-    /// How many bytes the input has.
-    pub(crate) fn bytes(self) -> u64 {
-        self.bytes
     }
 
     fn text(self, alloc: Global) -> Result<String, AllocError>
@@ -80,13 +74,13 @@ impl Stamp {
         }
     }
 
-    /// Makes that file with this stamp.
-    pub(crate) fn put<R: Files>(self, rt: &R, alloc: Global, file: &NewFile) -> Result<(), DayFault>
-        ensures { IfErr result IsNotPut }
-    {
-        let mut open = file.create(rt)?;
-        self.write(alloc, &mut FromWrite::new(&mut open))?;
-        settle_regular(&open)?;
-        file.keep(rt)
+    /// Makes that file with this stamp, and tells whether it is there.
+    pub(crate) fn put<R: Files>(self, rt: &R, alloc: Global, file: &NewFile) -> bool {
+        let Ok(mut open) = file.create(rt) else {
+            return false;
+        };
+        self.write(alloc, &mut FromWrite::new(&mut open)).is_ok()
+            && settle_regular(&open).is_ok()
+            && file.keep(rt).is_ok()
     }
 }

@@ -2,8 +2,9 @@
 ghost use Rattle.std.specs.Prelude.{◌≡◌, ◌++◌, ◌∷◌, [], List, OnOk};
 ghost use Rattle.msr_walk.specs.Entries.{AddsDone, Entry, IsTally};
 
-use crate::outcome::{Outcome, Repacked};
+use crate::outcome::{DayFault, Outcome, Repacked};
 use msr_folders::Totals;
+use msr_options::Unopened;
 use std::alloc::{AllocError, Global};
 
 /// How many entries had each outcome, and the totals of the channels with a file that was done, in this walk or an
@@ -18,6 +19,8 @@ pub(crate) struct Tally {
     pub bytes_written: u64,
     pub channels: Totals,
     pub bytes: Totals,
+    /// What could not be opened of the first day that was refused for that.
+    pub unopened: Option<Unopened>,
 }
 
 impl Tally {
@@ -36,6 +39,7 @@ impl Tally {
             bytes_written: 0,
             channels,
             bytes,
+            unopened: None,
         }
     }
 
@@ -60,10 +64,19 @@ impl Tally {
         match outcome {
             Outcome::Done(repacked) | Outcome::Same(repacked) => self.add_done(channel, repacked)?,
             Outcome::Skipped(_) => self.skipped = self.skipped.saturating_add(1),
-            Outcome::Larger(_) => self.larger = self.larger.saturating_add(1),
-            Outcome::NotShown => self.refused = self.refused.saturating_add(1),
-            Outcome::Differs => self.refused = self.refused.saturating_add(1),
-            Outcome::Refused(_) => self.refused = self.refused.saturating_add(1),
+            Outcome::Refused(why) => match why {
+                DayFault::Larger(_) => self.larger = self.larger.saturating_add(1),
+                DayFault::CannotOpen(unopened) => {
+                    self.refused = self.refused.saturating_add(1);
+                    self.unopened = self.unopened.or(Some(unopened));
+                }
+                DayFault::Listing
+                | DayFault::NotShown
+                | DayFault::Differs
+                | DayFault::Gone
+                | DayFault::ClaimedByAnother
+                | DayFault::Tool(_) => self.refused = self.refused.saturating_add(1),
+            },
         }
         Ok(())
     }

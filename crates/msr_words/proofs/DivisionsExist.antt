@@ -19,13 +19,13 @@ use Rattle.msr_words.specs.Fit.{Records, Fits, FitsAny, FitsIn, HasRoom, IsFirst
 use Rattle.msr_kinds.specs.declared.kinds.Kinds.{Kinds}
 use Rattle.msr_kinds.specs.Kinds.{IsChosen, contains}
 use Rattle.msr_words.specs.Division.{CanDivide}
-use Rattle.msr_words.specs.Canonical.{DividesFrom, IsCanonicalDivision}
+use Rattle.msr_words.specs.Canonical.{IsCanonicalDivision}
 use Rattle.msr_words.specs.Existence.{Decided}
 use Rattle.msr_kinds.specs.RecordLength.{words_of}
 use Rattle.msr_words.specs.Fit.{Fits, FitsAny, FitsIn, HasRoom, IsFirstKind, IsInteger, most_counted, rank}
 use Rattle.msr_words.specs.Lemmas.LeastCounts.{a_group_has_few}
 use Rattle.msr_words.specs.Lemmas.SteimLaws.{head_group, none_divides}
-use Rattle.msr_words.proofs.WrittenDivision.{divides_can, starts_with, with_first}
+use Rattle.msr_words.proofs.WrittenDivision.{divides_can, starts_with, with_first, DividesFrom}
 use Rattle.msr_words.proofs.DecidedStatements.{Last, all_decided, both_decided, each_decided, last_of, less_decided, most_decided, other_decided}
 
 -- ---- groups

@@ -7,11 +7,11 @@ use Rattle.msr_kinds.specs.declared.storage.Version.TheVariants.{One}
 use Rattle.msr_steim.specs.Area.{differences}
 use Rattle.msr_steim.specs.Word.{AreGroups, FitsBits, IsGroup, IsGroupAt}
 use Rattle.msr_words.specs.Division.{CanDivide}
-use Rattle.msr_words.specs.Canonical.{DividesFrom, IsCanonicalDivision}
+use Rattle.msr_words.specs.Canonical.{IsCanonicalDivision}
 use Rattle.msr_words.specs.FirstGroup.{AreGiven, AreSizes, IsBest, IsCanonicalFirst, IsFirstGroup, IsFewestGroups}
 use Rattle.msr_words.specs.Lemmas.LeastCounts.{a_group_has_few}
 use Rattle.msr_words.specs.Lemmas.SteimLaws.{head_group, none_divides, one_has_few, size_law, tail_groups}
-use Rattle.msr_words.proofs.WrittenDivision.{at_place_is, divides_can, group_fits, starts_with, with_first}
+use Rattle.msr_words.proofs.WrittenDivision.{at_place_is, divides_can, group_fits, starts_with, with_first, DividesFrom}
 
 -- ---- the best size
 

@@ -4,7 +4,7 @@ use Rattle.std.specs.Prelude.{get_or}
 use Rattle.std.proofs.lemmas.List.{drop-drop, get_or-drop}
 use Rattle.msr_words.specs.Segment.{points, points_after, run_points}
 use Rattle.msr_words.specs.Fit.{Records, FitsAny, IsRun}
-use Rattle.msr_words.specs.Lemmas.KindLaws.{prefix_any, back_step_any}
+use Rattle.msr_words.proofs.AnyKind.{prefix_any, back_step_any}
 use Rattle.msr_words.specs.Packing.{NoneHolds}
 use Rattle.msr_words.proofs.Runs.{back_step_run, points_drop, prefix_run, run_points_stay}
 

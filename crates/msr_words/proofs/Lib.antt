@@ -1,3 +1,4 @@
+pub mod AnyKind
 pub mod Certificate
 pub mod WrittenDivision
 pub mod DecidedStatements
@@ -9,6 +10,7 @@ pub mod Greedy
 pub mod GreedyReach
 pub mod GroupSizes
 pub mod IntegerBits
+pub mod OfBits
 pub mod Parts
 pub mod Plain
 pub mod Pushes

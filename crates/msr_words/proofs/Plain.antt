@@ -3,12 +3,12 @@ use Rattle.std.proofs.Common.{◌≡◌, ◌↔◌, ◌<◌, ◌≤◌, ◌+◌,
 use Rattle.std.specs.Prelude.{reverse}
 use Rattle.std.specs.List.{All}
 use Rattle.std.proofs.lemmas.Bool.{cases_lt, eqb-true, eq-eqb}
-use Rattle.std.proofs.lemmas.List.{length-map, length-drop, length-reverse, length-take, get_or-drop, take_more, take_at, take_all, take-append-drop}
+use Rattle.std.proofs.lemmas.List.{length-map, length-drop, length-reverse, length-take, get_or-drop, take_more, take_at, take_all, take-append-drop, reverse-append}
 use Rattle.std.proofs.lemmas.List.Elements.{All-push, All-nil, All-take, All-contains, Contains-push}
 use Rattle.msr_kinds.specs.declared.storage.Version.TheVariants.{One, Two}
 use Rattle.msr_words.specs.Division.{CanDivide}
 use Rattle.msr_words.specs.Counts.{EndsIn}
-use Rattle.msr_words.specs.Lemmas.Ends.{ends_is_division, reverse_push}
+use Rattle.msr_words.specs.Lemmas.Ends.{ends_is_division}
 use Rattle.msr_words.specs.Segment.{points, differences, difference_from}
 use Rattle.msr_words.proofs.Runs.{points_from_at, length-points_before}
 use Rattle.msr_words.specs.Lemmas.KindLaws.{last_of, front_divides}
@@ -17,6 +17,9 @@ use Rattle.msr_words.specs.AreCounts.{AreCounts}
 use Rattle.msr_words.specs.Groups.{IsCapacity, IsLongestGroup}
 use Rattle.msr_words.proofs.Steim2Groups.{IsOfBits, IsSteim2Group, capacity_at, division_from, division_to, group_from, group_to, steim2_bits, steim2_parts}
 use Rattle.msr_words.proofs.Parts.{HasDivision, division_rest, one_group, first_fits, none_left, no_groups}
+
+pub reverse_push : (d : ℤ) (ds : List ℤ) → reverse (ds ++ d ∷ []) ≡ d ∷ reverse ds
+reverse_push d ds = reverse-append ds (d ∷ [])
 
 -- ---- the differences of a run
 

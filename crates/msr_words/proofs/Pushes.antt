@@ -9,7 +9,8 @@ use Rattle.msr_kinds.specs.declared.storage.Width.TheVariants.{Two as TwoBytes, 
 use Rattle.msr_words.specs.Fit.{Fits, FitsIntegers, IsInteger, most_counted}
 use Rattle.msr_words.specs.Laws.{most_of, room_of}
 use Rattle.msr_words.specs.Trackers.{FollowsIntegers, integers}
-use Rattle.msr_words.specs.Lemmas.KindLaws.{fit_by_width, prefix_kind, size_kind}
+use Rattle.msr_words.specs.Lemmas.KindLaws.{prefix_kind, size_kind}
+use Rattle.msr_words.proofs.AnyKind.{fit_by_width}
 
 -- one integer more fits after a run that fits, if the record has room; and what fits is such an integer
 pub record TakesIntegers (kind : Kind) (width : Width) (bytes : ℕ) : Type 0 where

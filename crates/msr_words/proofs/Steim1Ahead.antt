@@ -8,13 +8,12 @@ use Rattle.std.proofs.lemmas.Nat.{le_or_l, le_or_r, or_lt}
 use Rattle.msr_kinds.specs.declared.storage.Version.TheVariants.{One}
 use Rattle.msr_steim.specs.Word.{FitsBits, IsGroup, IsGroupAt, IsInnerGroup}
 use Rattle.msr_words.specs.Bounds.{BeginsWithFour, IsBeforeFour}
-use Rattle.msr_words.specs.Canonical.{DividesFrom}
 use Rattle.msr_words.specs.Division.{CanDivide}
 use Rattle.msr_words.specs.FirstGroup.{IsCanonicalFirst, IsFewestGroups, IsSizeAt}
 use Rattle.msr_words.specs.Steim1Reach.{BeginsWithThree, IsOfBitsAt}
 use Rattle.msr_words.specs.Lemmas.LeastCounts.{a_group_has_few}
 use Rattle.msr_words.specs.Lemmas.SteimLaws.{all_more, none_divides, one_has_few}
-use Rattle.msr_words.proofs.WrittenDivision.{at_place_is, divides_can}
+use Rattle.msr_words.proofs.WrittenDivision.{at_place_is, divides_can, DividesFrom}
 use Rattle.msr_words.proofs.DivisionsExist.{can_more, first_size, has_division}
 use Rattle.msr_words.proofs.FirstGroups.{at_end, inside}
 use Rattle.msr_words.proofs.Steim1Words.{Shares, from_rest, group_four, group_one, group_three, group_two, shares_of, to_rest}

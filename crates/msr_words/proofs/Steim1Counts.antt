@@ -1,5 +1,5 @@
 -- What one more difference does to the least numbers of Steim-1 groups.
-use Rattle.std.proofs.Common.{◌≡◌, ◌↔◌, ◌<◌, ◌≤◌, ℕ, zero, suc, ◌+◌, ◌-◌, ℤ, Bool, true, false, List, [], ◌∷◌, length, take, drop, sym, ap, ◌∙◌, subst, arith, length-append, ◌⊎◌, inl, inr, bit_or, ◌^◌, lit<}
+use Rattle.std.proofs.Common.{◌≡◌, ◌↔◌, ◌<◌, ◌≤◌, ℕ, zero, suc, ◌+◌, ◌-◌, ℤ, Bool, true, false, List, [], ◌∷◌, length, take, drop, sym, ap, ◌∙◌, subst, arith, length-append, ◌⊎◌, inl, inr, bit_or, ◌^◌, lit<, ◌++◌, refl}
 use Rattle.std.proofs.lemmas.Bool.{cases_lt}
 use Rattle.std.proofs.lemmas.List.{length-take, take-append-drop}
 use Rattle.msr_kinds.specs.declared.storage.Version.TheVariants.{One}
@@ -11,12 +11,50 @@ use Rattle.msr_words.specs.Window.{IsSize}
 use Rattle.msr_words.proofs.GroupSizes.{four_is, pair_is, size_here, size_later, triple_at}
 use Rattle.std.proofs.Math.Nat.{pow-le-pow_right}
 use Rattle.msr_words.specs.AreCounts.{AreCounts}
-use Rattle.msr_words.specs.Lemmas.LeastCounts.{a_group_has_few, front_is}
+use Rattle.msr_words.specs.Lemmas.LeastCounts.{a_group_has_few}
 use Rattle.msr_steim.proofs.Filling.{inner_is_group}
 use Rattle.msr_words.specs.Lemmas.SteimLaws.{one_has_few}
-use Rattle.msr_words.specs.Lemmas.Ends.{least_of_ends, none_least}
+use Rattle.std.proofs.Math.Seq.{take-append_seam, drop-append_seam}
+use Rattle.msr_kinds.specs.declared.storage.Version.{Version}
+
+-- ---- one more difference
+
+-- the least number of groups that end in one that others may follow is the least number of groups
+least_of_ends : (version : Version) (words c : ℕ) (d : ℤ) (past : List ℤ)
+    → IsLeastUpTo (EndsIn version false) words c (d ∷ past) → IsLeastUpTo (AtMost version) words c (d ∷ past)
+least_of_ends version words c d past least n few =
+    (λ le. at_most ((least n few).0 le), λ a. (least n few).1 (ends a.number a.few a.parts))
+  where
+    at_most : EndsIn version false n (d ∷ past) → AtMost version n (d ∷ past)
+    at_most e = record { number = suc e.number; few = e.few; parts = (e.group, e.rest, e.newest, e.parts, e.join) }
+
+    ends : (m : ℕ) → m ≤ n → Parts version m (d ∷ past) → EndsIn version false n (d ∷ past)
+    ends zero le parts = absurd (cc)
+    ends (suc m) le parts = record {
+      group = parts.0;
+      rest = parts.1;
+      number = m;
+      few = le;
+      newest = parts.2;
+      parts = parts.3;
+      join = parts.4;
+    }
+
+-- no difference yet
+none_least : (version : Version) (words : ℕ) → IsLeastUpTo (AtMost version) words 0 []
+none_least version words n few = (λ le. record { number = 0; few = le; parts = refl }, λ a. omega arith)
 
 -- ---- the newest group
+
+-- the newest group and the rest, by the group's length
+front_is : (group rest past : List ℤ) (i : ℕ) → past ≡ group ++ rest → length group ≡ i
+    → (take i past ≡ group) × (drop i past ≡ rest)
+front_is group rest past i join size = (
+  ap (λ n. take n past) (sym size) ∙ ap (take (length group)) join
+      ∙ take-append_seam group rest,
+  ap (λ n. drop n past) (sym size) ∙ ap (drop (length group)) join
+      ∙ drop-append_seam group rest,
+)
 
 pub ends_with : (last : Bool) (k n c words : ℕ) (past : List ℤ) → n ≤ words → IsGroupAt One last (take k past)
     → IsLeastUpTo (AtMost One) words c (drop k past) → c < n → EndsIn One last n past

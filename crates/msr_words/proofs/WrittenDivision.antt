@@ -1,6 +1,6 @@
 -- Lemmas on the division that is written.
 use Rattle.std.proofs.Common.{◌≡◌, ◌<◌, ◌≤◌, ℕ, suc, ◌+◌, ◌-◌, ℤ, Bool, true, false, eqb, List, [], ◌∷◌, ◌++◌, length, map, take, drop, refl, sym, ap, ◌∙◌, subst, arith, length-append, length-drop, lit≤, Option, Some, None, cond}
-use Rattle.std.specs.Prelude.{IsSomeAnd, IfSome}
+use Rattle.std.specs.Prelude.{IsSomeAnd, IfSome, ◌==◌}
 use Rattle.std.specs.List.{AllByRecursion}
 use Rattle.std.proofs.lemmas.Bool.Decides.{nat_tests}
 use Rattle.std.proofs.lemmas.List.{take-append-drop, take_all, take_at, drop_at, map-append}
@@ -10,12 +10,19 @@ use Rattle.msr_kinds.specs.declared.storage.Version.TheVariants.{One, Two}
 use Rattle.msr_steim.specs.Area.{differences}
 use Rattle.msr_steim.specs.Word.{AreGroups, FitsBits, IsGroup, IsGroupAt, IsInnerGroup, group_width}
 use Rattle.msr_words.specs.Division.{CanDivide}
-use Rattle.msr_words.specs.Canonical.{DividesFrom, IsCanonicalDivision}
+use Rattle.msr_words.specs.Canonical.{IsCanonicalDivision}
 use Rattle.msr_words.specs.Lemmas.LeastCounts.{a_group_has_few}
 use Rattle.msr_steim.proofs.Filling.{inner_is_group}
 use Rattle.msr_words.specs.Lemmas.SteimLaws.{all_more, head_group, tail_groups}
 
 -- ---- the first group
+
+-- the differences can be divided into at most n groups, the first of this size
+pub record DividesFrom (version : Version) (n size : ℕ) (ds : List ℤ) : Type 0 where
+  pub within : size ≤ length ds
+  pub some : 0 < n
+  pub group : IsGroupAt version (size == length ds) (take size ds)
+  pub can : CanDivide version (n - 1) (drop size ds)
 
 -- nothing is divided into nothing
 pub no_groups : (version : Version) (gs : List (List ℤ)) → AreGroups version gs → length (differences gs) ≡ 0 → gs ≡ []

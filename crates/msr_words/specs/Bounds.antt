@@ -80,21 +80,17 @@ GreedyLaw = (bytes : ℕ) (samples : List ℤ) (g reach : ℕ) → g ≤ length 
     IsRun (Fits Steim2 bytes) samples g (g + reach)
     × ((s b : ℕ) → s ≤ g → IsRun (Fits Steim2 bytes) samples s b → b ≤ g + reach)
 
--- a sample of that many bits
-abbrev pub IsOfBits : ℕ → ℤ → Type 0
-IsOfBits bits sample = FitsBits bits sample
-
 -- The runs that fit this kind are those of numbers of that many bits that are no longer than its longest.
 pub record AreIntegers (kind : Kind) (bits bytes : ℕ) : Type 0 where
-  pub takes : (run : List (ℤ × ℤ)) → All (λ p. IsOfBits bits p.0) run → length run ≤ most_of kind bytes
+  pub takes : (run : List (ℤ × ℤ)) → All (λ p. FitsBits bits p.0) run → length run ≤ most_of kind bytes
       → Fits kind bytes run
-  pub needs : (run : List (ℤ × ℤ)) → Fits kind bytes run → All (λ p. IsOfBits bits p.0) run
+  pub needs : (run : List (ℤ × ℤ)) → Fits kind bytes run → All (λ p. FitsBits bits p.0) run
 
 -- as many of the samples, from the first on, as are of that many bits
 pub record AreLeading (bits : ℕ) (samples : List ℤ) (count : ℕ) : Type 0 where
   pub within : count ≤ length samples
-  pub all : All (IsOfBits bits) (take count samples)
-  pub no_more : count < length samples → IsOfBits bits (slice_index_or samples count (pos 0)) → ⊥
+  pub all : All (FitsBits bits) (take count samples)
+  pub no_more : count < length samples → FitsBits bits (slice_index_or samples count (pos 0)) → ⊥
 
 -- the differences of the samples a to b-1 are narrow
 pub record AreNarrow (samples : List ℤ) (a b : ℕ) : Type 0 where

@@ -1,9 +1,8 @@
 -- The one division of a record's differences that is written (a choice of this profile).
-use Rattle.std.specs.Prelude.{◌≡◌, ◌<◌, ◌≤◌, ◌==◌, ℕ, ◌-◌, ℤ, List, [], ◌∷◌, length, take, drop, ⊤}
+use Rattle.std.specs.Prelude.{◌≡◌, ◌≤◌, ℤ, List, [], ◌∷◌, length, ⊤}
 use Rattle.msr_kinds.specs.declared.storage.Version.{Version}
 use Rattle.msr_steim.specs.Area.{differences}
-use Rattle.msr_steim.specs.Word.{AreGroups, IsGroupAt}
-use Rattle.msr_words.specs.Division.{CanDivide}
+use Rattle.msr_steim.specs.Word.{AreGroups}
 
 -- at each group, no division of the differences from there on into as few groups begins with a longer one
 abbrev pub BeginLongest : Version → List (List ℤ) → Type 0
@@ -22,12 +21,3 @@ pub record IsCanonicalDivision (version : Version) (groups : List (List ℤ)) (d
   pub fewest : (others : List (List ℤ)) → AreGroups version others → differences others ≡ ds
       → length groups ≤ length others
   pub longest : BeginLongest version groups
-
--- ---- by the size of the first group
-
--- the differences can be divided into at most n groups, the first of this size
-pub record DividesFrom (version : Version) (n size : ℕ) (ds : List ℤ) : Type 0 where
-  pub within : size ≤ length ds
-  pub some : 0 < n
-  pub group : IsGroupAt version (size == length ds) (take size ds)
-  pub can : CanDivide version (n - 1) (drop size ds)

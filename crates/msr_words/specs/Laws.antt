@@ -22,10 +22,6 @@ BackStepLaw places fits =
     (front back : List (ℤ × ℤ)) → fits (front ++ back) →
     (k : ℕ) × (k ≤ length front) × (length front ≤ k + places) × fits (drop k front ++ back)
 
--- if a run is cut, the part after the cut fits by itself
-abbrev pub SuffixLaw : (List (ℤ × ℤ) → Type 0) → Type 0
-SuffixLaw fits = (front back : List (ℤ × ℤ)) → fits (front ++ back) → fits back
-
 -- a difference that has as much room in Steim-2 as in Steim-1: not of exactly 16 bits, nor of more than 30
 abbrev pub IsNarrow : ℤ → Type 0
 IsNarrow d = (FitsBits 16 d → FitsBits 15 d) × FitsBits 30 d
@@ -46,10 +42,6 @@ pub record TrackerLaws (look_back : ℕ) (most : Records → ℕ) (fits : Record
   pub near : look_back ≤ 3
   pub empty : (records : Records) → 64 ≤ records.bytes → fits records []
   pub size : (records : Records) → SizeLaw (most records) (fits records)
-
--- each run of at most four samples fits
-abbrev pub FitsShort : (List (ℤ × ℤ) → Type 0) → Type 0
-FitsShort fits = (run : List (ℤ × ℤ)) → length run ≤ 4 → fits run
 
 -- How many of the differences before a cut may be needed: a Steim-1 group of four that is cut after
 -- its first leaves three, which no group may follow.

@@ -4,10 +4,6 @@ use Rattle.msr_words.specs.Fit.{Records, FitsIn, FitsAny, IsRun, IsFirstKind}
 use Rattle.msr_words.specs.declared.kinds.Run.{Run}
 use Rattle.msr_words.specs.Segment.{run_points}
 
--- the samples a to b-1 of the segment fit one of these records, of whichever kind
-abbrev pub SomeFits : Records → List ℤ → ℕ → ℕ → Type 0
-SomeFits records samples a b = IsRun (FitsAny records) samples a b
-
 -- each run begins where the one before it ends, from a to b
 abbrev pub Joins : ℕ → List Run → ℕ → Type 0
 Joins a [] b = a ≡ b
@@ -25,7 +21,7 @@ IsLeast records samples runs = (other : List Run) → IsPacking records samples 
 
 -- no run that fits a record of some kind holds both samples
 pub record NoneHolds (records : Records) (samples : List ℤ) (p q : ℕ) : Type 0 where
-  pub none : (a b : ℕ) → SomeFits records samples a b → a ≤ p → p < b → a ≤ q → q < b → ⊥
+  pub none : (a b : ℕ) → IsRun (FitsAny records) samples a b → a ≤ p → p < b → a ≤ q → q < b → ⊥
 
 -- strictly rising sample numbers of the segment, of which no run that fits holds two
 pub record IsSeparating (records : Records) (samples : List ℤ) (separators : List ℕ) : Type 0 where

@@ -4,10 +4,9 @@ ghost use Rattle.std.specs.Prelude.{◌≡◌, ℕ, ◌+◌, ◌^◌, ◌<◌, �
 ghost use Rattle.msr_kinds.specs.declared.kinds.Kind.{Kind};
 ghost use Rattle.msr_kinds.specs.declared.kinds.Kind.TheVariants.{Steim1, Steim2};
 ghost use Rattle.msr_kinds.specs.Forms.{all_kinds};
-ghost use Rattle.msr_kinds.specs.Lengths.{bytes_of};
 ghost use Rattle.msr_kinds.specs.RecordLength.{words_of};
 ghost use Rattle.msr_words.specs.Fit.{Fits, IsInteger, Records, records_of};
-ghost use Rattle.msr_kinds.specs.Codes.{code_of};
+ghost use Rattle.msr_kinds.specs.Kinds.{code_of};
 ghost use Rattle.msr_words.specs.Trackers.{FollowsIntegers, FollowsSteim1, FollowsSteim2, integers, width_of};
 ghost use Rattle.msr_words.specs.Laws.{TrackerLaws, most_of};
 ghost use Rattle.msr_words.specs.Lemmas.KindLaws.{integers_laws, kind_laws};
@@ -32,10 +31,6 @@ pub trait Codec {
     /// `LOOK_BACK` of the samples before it. If it is 0, each part after a cut fits by itself.
     const LOOK_BACK: usize;
 
-    /// How many samples a record of that length has at most.
-    fn most(record_length: Length) -> usize
-        ensures { result ≡ most_of kind (bytes_of record_length) };
-
     /// A tracker that nothing was pushed to.
     fn start(record_length: Length) -> Self
         ensures { follows (records_of (all_kinds record_length)) [] result };
@@ -51,7 +46,7 @@ pub trait Codec {
         ensures { result ≡ code_of kind };
 
     /// A prefix of what fits fits, and the part after a cut with at most `LOOK_BACK` samples before it, three at most;
-    /// an empty run fits, and no run of more than `most` samples does.
+    /// an empty run fits, and no run of more samples than a record has does.
     ghost laws: { TrackerLaws LOOK_BACK
         (λ records. most_of kind records.bytes) (λ records. Fits kind records.bytes) };
 }
@@ -122,13 +117,9 @@ impl<const BITS: u32> Codec for Integers<BITS> {
 
     ghost laws = { integers_laws (width_of BITS) };
 
-    fn most(record_length: Length) -> usize {
-        integers_of(BITS).most(record_length)
-    }
-
     fn start(record_length: Length) -> Self {
         Integers {
-            left: Self::most(record_length),
+            left: integers_of(BITS).most(record_length),
             fits: true,
         }
     }
@@ -218,16 +209,12 @@ impl Codec for Steim2 {
 
     ghost laws = { kind_laws Steim2 };
 
-    fn most(record_length: Length) -> usize {
-        Kind::Steim2.most(record_length)
-    }
-
     fn start(record_length: Length) -> Self {
         Steim2 {
             left: record_length.data_words() - 1,
             count: 0,
             most: 7,
-            more: Self::most(record_length),
+            more: Kind::Steim2.most(record_length),
             fits: true,
         }
     }
@@ -286,10 +273,6 @@ impl Codec for Steim1 {
     const LOOK_BACK: usize = 1;
 
     ghost laws = { kind_laws Steim1 };
-
-    fn most(record_length: Length) -> usize {
-        Kind::Steim1.most(record_length)
-    }
 
     fn start(record_length: Length) -> Self {
         Steim1 {

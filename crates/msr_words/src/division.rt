@@ -8,6 +8,7 @@ ghost use Rattle.msr_steim.specs.Word.{FitsBits};
 ghost use Rattle.msr_kinds.specs.Lengths.{bytes_of};
 ghost use Rattle.msr_kinds.specs.RecordLength.{words_of};
 ghost use Rattle.msr_words.specs.Division.{CanDivide};
+ghost use Rattle.msr_words.specs.Existence.{DivisionExists};
 ghost use Rattle.msr_words.specs.Fit.{most_counted};
 ghost use Rattle.msr_words.specs.Groups.{IsCapacity};
 ghost use Rattle.msr_words.specs.Canonical.{IsCanonicalDivision};
@@ -142,6 +143,11 @@ pub fn groups(
         Version::Two => steim2_groups(alloc, words, differences),
     }
 }
+
+/// Differences that can be divided have a canonical division.
+pub fn division_exists()
+    ensures { DivisionExists }
+{}
 
 /// One division of some differences is chosen.
 pub fn one_division()

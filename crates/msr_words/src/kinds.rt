@@ -6,6 +6,7 @@ ghost use Rattle.msr_kinds.specs.declared.storage.Version.TheVariants.{One, Two}
 ghost use Rattle.msr_kinds.specs.declared.kinds.Kind.TheVariants.{Steim1 as FirstSteim, Steim2 as SecondSteim};
 ghost use Rattle.msr_words.specs.Segment.{points, run_points, differences, difference_at, difference_from};
 ghost use Rattle.msr_words.specs.Division.{CanDivide};
+ghost use Rattle.msr_words.specs.Existence.{FirstKindExists, FittingIsDecided};
 ghost use Rattle.msr_words.specs.Groups.{IsCapacity, IsLongestGroup};
 ghost use Rattle.msr_words.specs.Laws.{DominanceLaw, look_back_of, most_any, most_in, most_of, room_of};
 ghost use Rattle.msr_words.specs.Fit.{Fits, FitsAny, FitsIn, IsFirstKind, IsInteger, IsRun, records_of};
@@ -248,6 +249,12 @@ pub fn difference(samples: &[i32], at: usize) -> i64
         samples[at] as i64 - samples[at - 1] as i64
     }
 }
+
+/// It is decided whether a run fits a record, and one that does has a kind that is tried first.
+pub fn fitting_is_decided()
+    ensures any { FittingIsDecided }
+    ensures first { FirstKindExists }
+{}
 
 /// If no difference after a cut is of exactly 16 bits, or of more than 30, the part after the cut fits
 /// Steim-2 if the run fits Steim-1: each group of Steim-1 is then one of Steim-2.

@@ -5,7 +5,6 @@ mod bounds;
 mod codecs;
 mod counts;
 mod division;
-mod existence;
 mod first_group;
 mod integers;
 mod kinds;
@@ -21,13 +20,12 @@ pub use bounds::{
 };
 pub use codecs::{Codec, Int16, Int24, Int32, Integers, Steim1, Steim2};
 pub use counts::{is_narrow, magnitude};
-pub use division::{groups, one_division};
-pub use existence::{division_exists, fitting_is_decided};
+pub use division::{division_exists, groups, one_division};
 pub use first_group::sizes_of;
 pub use integers::leading_of_bits;
 pub use kinds::{
-    Fitting, Run, difference, difference_after, first_kind, longest_group, longest_run, run_fits,
-    steim2_dominates,
+    Fitting, Run, difference, difference_after, first_kind, fitting_is_decided, longest_group,
+    longest_run, run_fits, steim2_dominates,
 };
 pub use msr_kinds::{Form, Kind, Kinds, Length};
 pub use msr_steim::fits_bits;

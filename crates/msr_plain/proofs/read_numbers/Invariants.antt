@@ -1,7 +1,9 @@
 -- The samples so far stand by place.
-use Rattle.std.proofs.Common.{◌≡◌, ◌<◌, ℕ, pos, get_or}
-use Rattle.msr_plain.specs.Plain.{sample_at}
+use Rattle.std.proofs.Common.{◌≡◌, ◌<◌, ◌*◌, ℕ, pos, drop, get_or}
+use Rattle.msr_kinds.specs.Storage.{size_of}
+use Rattle.msr_plain.specs.Plain.{number_in}
 use Rattle.msr_plain.proofs.read_numbers.Given as goal
 
 abbrev pub invariant-loop-place : goal.invariant-loop-place
-invariant-loop-place l = (k : ℕ) → k < l.place → get_or l.out k (pos 0) ≡ sample_at l.width l.order l.area k
+invariant-loop-place l = (k : ℕ) → k < l.place → get_or l.out k (pos 0)
+    ≡ number_in l.width l.order (drop (size_of l.width * k) l.area)

@@ -8,34 +8,7 @@ use Rattle.msr_kinds.specs.declared.storage.Version.TheVariants.{One, Two}
 use Rattle.msr_steim.specs.Word.{AreGroups, FitsBits, IsGroup, IsInnerGroup, group_width}
 use Rattle.msr_steim.proofs.Fields.{all_fit_push}
 use Rattle.msr_words.specs.Division.{CanDivide}
-use Rattle.msr_words.specs.Counts.{AtMost, EndsIn, IsLeastUpTo, Parts}
-
--- ---- one more difference
-
--- the least number of groups that end in one that others may follow is the least number of groups
-pub least_of_ends : (version : Version) (words c : ℕ) (d : ℤ) (past : List ℤ)
-    → IsLeastUpTo (EndsIn version false) words c (d ∷ past) → IsLeastUpTo (AtMost version) words c (d ∷ past)
-least_of_ends version words c d past least n few =
-    (λ le. at_most ((least n few).0 le), λ a. (least n few).1 (ends a.number a.few a.parts))
-  where
-    at_most : EndsIn version false n (d ∷ past) → AtMost version n (d ∷ past)
-    at_most e = record { number = suc e.number; few = e.few; parts = (e.group, e.rest, e.newest, e.parts, e.join) }
-
-    ends : (m : ℕ) → m ≤ n → Parts version m (d ∷ past) → EndsIn version false n (d ∷ past)
-    ends zero le parts = absurd (cc)
-    ends (suc m) le parts = record {
-      group = parts.0;
-      rest = parts.1;
-      number = m;
-      few = le;
-      newest = parts.2;
-      parts = parts.3;
-      join = parts.4;
-    }
-
--- no difference yet
-pub none_least : (version : Version) (words : ℕ) → IsLeastUpTo (AtMost version) words 0 []
-none_least version words n few = (λ le. record { number = 0; few = le; parts = refl }, λ a. omega arith)
+use Rattle.msr_words.specs.Counts.{EndsIn, Parts}
 
 -- ---- turned round
 
@@ -158,6 +131,3 @@ ends_is_division version words d ds = (divide, ends)
     ends : CanDivide version words (ds ++ d ∷ []) → EndsIn version true words (reverse (ds ++ d ∷ []))
     ends c = subst (λ p. EndsIn version true words (reverse p)) c.join
         (ends_of_groups version c.groups words c.are_groups (some c.groups c.join) c.few)
-
-pub reverse_push : (d : ℤ) (ds : List ℤ) → reverse (ds ++ d ∷ []) ≡ d ∷ reverse ds
-reverse_push d ds = reverse-append ds (d ∷ [])

@@ -1,12 +1,12 @@
 -- The laws of each kind: what a run begins with fits, and a part after a cut fits with a few of the samples before it.
-use Rattle.std.specs.Prelude.{◌≡◌, ℕ, ◌+◌, ◌-◌, ◌*◌, ◌/◌, ◌<◌, ◌≤◌, ◌⊎◌, ℤ, List, [], ◌∷◌, ◌++◌, min, length, drop, map, All}
+use Rattle.std.specs.Prelude.{◌≡◌, ℕ, ◌+◌, ◌-◌, ◌*◌, ◌/◌, ◌<◌, ◌≤◌, ◌⊎◌, ℤ, List, [], ◌∷◌, ◌++◌, length, drop, map, All}
 use Rattle.std.proofs.Common.{arith, length-append, subst, refl, sym, ap, ◌∙◌, inl, inr}
 use Rattle.std.proofs.lemmas.List.{take_at, drop_at, drop_all, map-append, length-drop, length-map, drop-map}
 use Rattle.std.proofs.lemmas.List.Elements.{All-nil, All-take, All-drop}
 use Rattle.std.proofs.lemmas.Nat.{le-div}
-use Rattle.std.proofs.Math.Nat.{mul-div-le, mul-le-mul_left, mul_comm}
+use Rattle.std.proofs.Math.Nat.{mul-le-mul_left, mul_comm}
 use Rattle.msr_kinds.specs.declared.kinds.Kind.{Kind}
-use Rattle.msr_kinds.specs.declared.kinds.Kind.TheVariants.{Int16, Int24, Int32, Steim1, Steim2}
+use Rattle.msr_kinds.specs.declared.kinds.Kind.TheVariants.{Int16, Int24, Int32}
 use Rattle.msr_kinds.specs.declared.storage.Version.{Version}
 use Rattle.msr_kinds.specs.declared.storage.Storage.{Storage}
 use Rattle.msr_kinds.specs.declared.storage.Storage.TheVariants.{Integers, Frames}
@@ -15,33 +15,11 @@ use Rattle.msr_kinds.specs.declared.storage.Width.{Width}
 use Rattle.msr_kinds.specs.declared.storage.Width.TheVariants.{Two as TwoBytes, Three as ThreeBytes, Four as FourBytes}
 use Rattle.msr_kinds.specs.Storage.{size_of, storage_of}
 use Rattle.msr_words.specs.Division.{CanDivide}
-use Rattle.msr_words.specs.Laws.{PrefixLaw, BackStepLaw, SuffixLaw, SizeLaw, FitsShort, TrackerLaws, largest_of, look_back_of, most_any, most_in, most_of, places_in, places_of, room_of}
+use Rattle.msr_words.specs.Laws.{PrefixLaw, BackStepLaw, SizeLaw, TrackerLaws, largest_of, look_back_of, most_of, places_in, places_of, room_of}
 use Rattle.msr_words.specs.Trackers.{integers}
 use Rattle.msr_words.specs.Lemmas.SteimLaws.{prefix_law, back_step_law, size_law, none_divides}
-use Rattle.msr_words.specs.Bounds.{AreIntegers}
-use Rattle.msr_words.specs.Fit.{FitsIntegers, FitsSteim, HasRoom, Fits, FitsIn, FitsAny, IsInteger, Records, most_counted}
+use Rattle.msr_words.specs.Fit.{FitsIntegers, FitsSteim, HasRoom, Fits, IsInteger}
 use Rattle.msr_kinds.specs.RecordLength.{words_of}
-use Rattle.msr_kinds.proofs.KindLemmas.{int32_is_chosen}
-
--- if each part after a cut fits by itself, none of the samples before it is needed; and the other way round
-pub back_step_by_suffix : (fits : List (ℤ × ℤ) → Type 0) → SuffixLaw fits → BackStepLaw 0 fits
-back_step_by_suffix fits suffix front back h =
-    let none : drop (length front) front ≡ [] = drop_all (length front) front (omega arith) in
-    (length front, omega arith, omega arith, rw none (suffix front back h))
-
-pub suffix_by_back_step : (fits : List (ℤ × ℤ) → Type 0) → BackStepLaw 0 fits → SuffixLaw fits
-suffix_by_back_step fits law front back h =
-    let r = law front back h in
-    let high = r.2 in
-    subst (λ part. fits (part ++ back)) (drop_all r.0 front (omega arith)) r.3
-
--- a look-back of more places serves too
-pub back_step_more : (fits : List (ℤ × ℤ) → Type 0) (places more : ℕ) → places ≤ more → BackStepLaw places fits
-    → BackStepLaw more fits
-back_step_more fits places more le law front back h =
-    let r = law front back h in
-    let high = r.2 in
-    (r.0, r.1, omega arith, r.3)
 
 -- if `many` samples of `size` bytes have room, fewer do
 fewer_have_room : (size bytes few many : ℕ) → few ≤ many → size * many + 64 ≤ bytes → size * few + 64 ≤ bytes
@@ -55,13 +33,17 @@ prefix_integers width bytes front back h = (
       (omega (arith, length-append front back)) h.1,
 )
 
+-- each part after a cut fits by itself
 back_step_integers : (width : Width) (bytes : ℕ) → BackStepLaw 0 (FitsIntegers width bytes)
-back_step_integers width bytes = back_step_by_suffix (FitsIntegers width bytes) (λ front back h. (
-  subst (All (λ p. IsInteger width p.0)) (drop_at front back (length front) refl)
-      (All-drop (λ p. IsInteger width p.0) (length front) (front ++ back) h.0),
-  fewer_have_room (size_of width) bytes (length back) (length (front ++ back))
-      (omega (arith, length-append front back)) h.1,
-))
+back_step_integers width bytes front back h =
+    let none : drop (length front) front ≡ [] = drop_all (length front) front (omega arith) in
+    let part : FitsIntegers width bytes back = (
+      subst (All (λ p. IsInteger width p.0)) (drop_at front back (length front) refl)
+          (All-drop (λ p. IsInteger width p.0) (length front) (front ++ back) h.0),
+      fewer_have_room (size_of width) bytes (length back) (length (front ++ back))
+          (omega (arith, length-append front back)) h.1,
+    ) in
+    (length front, omega arith, omega arith, subst (λ xs. FitsIntegers width bytes (xs ++ back)) (sym none) part)
 
 -- a list is empty or has a last member
 abbrev pub LastOf : List ℤ → Type 0
@@ -188,67 +170,10 @@ size_kind kind bytes run h = let room = size_room (storage_of kind) bytes run h.
 pub empty_kind : (kind : Kind) → EmptyLaw (Fits kind)
 empty_kind kind bytes header = (omega arith, empty_room (storage_of kind) bytes header)
 
--- integers fit by their width and their number
-pub fit_by_width : (width : Width) (bytes : ℕ) → 64 ≤ bytes → (run : List (ℤ × ℤ))
-    → All (λ p. IsInteger width p.0) run → length run ≤ min (room_of (Integers width) bytes) most_counted
-    → (length run ≤ most_counted) × FitsIntegers width bytes run
-fit_by_width width bytes header run all few =
-    let less : length run ≤ (bytes - 64) / size_of width = omega (arith, few) in
-    let room = mul-le-mul_left (size_of width) less in
-    let most = mul-div-le (bytes - 64) (size_of width) in
-    (omega (arith, few), (all, omega (arith, room, most, header)))
-
-pub int16_by_bits : (bytes : ℕ) → 64 ≤ bytes → AreIntegers Int16 16 bytes
-int16_by_bits bytes header = record { takes = fit_by_width TwoBytes bytes header; needs = λ run h. h.1.0 }
-
-pub int24_by_bits : (bytes : ℕ) → 64 ≤ bytes → AreIntegers Int24 24 bytes
-int24_by_bits bytes header = record { takes = fit_by_width ThreeBytes bytes header; needs = λ run h. h.1.0 }
-
-few_places : (storage : Storage) → places_in storage ≤ 1
+pub few_places : (storage : Storage) → places_in storage ≤ 1
 few_places (Integers width) = omega arith
 few_places (Frames One) = omega arith
 few_places (Frames Two) = omega arith
-
--- the laws for records of one kind
-pub prefix_in : (kind : Kind) (records : Records) → PrefixLaw (FitsIn kind records)
-prefix_in kind records front back h = (h.0, prefix_kind kind records.bytes front back h.1)
-
-pub back_step_in : (kind : Kind) (records : Records) → BackStepLaw (look_back_of kind) (FitsIn kind records)
-back_step_in kind records front back h =
-    let r = back_step_kind kind records.bytes front back h.1 in
-    (r.0, r.1, r.2, (h.0, r.3))
-
--- the laws for records of some of the kinds
-pub prefix_any : (records : Records) → PrefixLaw (FitsAny records)
-prefix_any records front back h = (h.0, prefix_in h.0 records front back h.1)
-
-pub back_step_any : (records : Records) → BackStepLaw 1 (FitsAny records)
-back_step_any records front back h =
-    let r = back_step_more (FitsIn h.0 records) (look_back_of h.0) 1 (few_places (storage_of h.0))
-    (back_step_in h.0 records) front back h.1 in
-    (r.0, r.1, r.2, (h.0, r.3))
-
-pub empty_any : (records : Records) → 64 ≤ records.bytes → FitsAny records []
-empty_any records header = (Int32, (int32_is_chosen records.kinds, empty_kind Int32 records.bytes header))
-
-within_any : (kind : Kind) (records : Records) → most_in kind records ≤ most_any records
-within_any Int16 records = omega arith
-within_any Int24 records = omega arith
-within_any Int32 records = omega arith
-within_any Steim1 records = omega arith
-within_any Steim2 records = omega arith
-
-pub size_any : (records : Records) → SizeLaw (most_any records) (FitsAny records)
-size_any records run h =
-    let size = size_kind h.0 records.bytes run h.1.1 in
-    let same : most_in h.0 records ≡ most_of h.0 records.bytes = rw h.1.0 refl in
-    let more = within_any h.0 records in
-    omega arith
-
--- a few samples fit a record of any of the lengths, as 32-bit integers
-pub short_any : (records : Records) → 256 ≤ records.bytes → FitsShort (FitsAny records)
-short_any records least run short =
-    (Int32, (int32_is_chosen records.kinds, (omega arith, ((λ k d in'. tt), omega arith))))
 
 -- the laws of the trackers
 pub kind_laws : (kind : Kind) → TrackerLaws

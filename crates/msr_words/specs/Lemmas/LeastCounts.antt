@@ -1,8 +1,7 @@
--- Lemmas on least counts.
-use Rattle.std.proofs.Common.{◌≡◌, ◌<◌, ◌≤◌, ℕ, ℤ, Bool, true, false, List, ◌++◌, length, take, drop, refl, sym, ap, ◌∙◌, subst, arith, ⊎_elim, eqb, None}
+-- How many differences a group has.
+use Rattle.std.proofs.Common.{◌≡◌, ◌<◌, ◌≤◌, ℕ, ℤ, Bool, true, false, List, length, refl, ap, ◌∙◌, subst, arith, ⊎_elim, eqb, None}
 use Rattle.std.specs.Prelude.{IsSomeAnd}
 use Rattle.std.specs.List.{AllByRecursion}
-use Rattle.std.proofs.Math.Seq.{take-append_seam, drop-append_seam}
 use Rattle.std.proofs.lemmas.Bool.Decides.{nat_tests}
 use Rattle.std.proofs.lemmas.Bool.{cases_lt}
 use Rattle.msr_kinds.specs.declared.storage.Version.{Version}
@@ -52,13 +51,3 @@ pub a_group_has_few : (version : Version) (last : Bool) (group : List ℤ) → I
 a_group_has_few version true group is = group_has_few version group is
 a_group_has_few One false group is = group_has_few One group is.0
 a_group_has_few Two false group is = group_has_few Two group is
-
--- the newest group and the rest, by the group's length
-pub front_is : (group rest past : List ℤ) (i : ℕ) → past ≡ group ++ rest → length group ≡ i
-    → (take i past ≡ group) × (drop i past ≡ rest)
-front_is group rest past i join size = (
-  ap (λ n. take n past) (sym size) ∙ ap (take (length group)) join
-      ∙ take-append_seam group rest,
-  ap (λ n. drop n past) (sym size) ∙ ap (drop (length group)) join
-      ∙ drop-append_seam group rest,
-)

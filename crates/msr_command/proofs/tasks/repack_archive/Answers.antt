@@ -7,11 +7,11 @@ returns-in_err-require_apart g c =
     let p = err_from_is_err_and c.from_residual.result c.from_residual.ensures.1 in
     rw (p.1, p.2) (archive_unbegun c.args.asked.days (g.O.Sink.device c.args.output.now) _ c.in_err-require_apart.ensures)
 
-pub returns-in_err-found : goal.returns-in_err-found
-returns-in_err-found g c =
-    let p = err_from_is_err_and c.from_residual-in_err-found.result c.from_residual-in_err-found.ensures.1 in
-    rw (p.1, p.2) (archive_stops _ _ _ _ c.in_err-found.ensures.answer)
+pub returns-in_err-walked : goal.returns-in_err-walked
+returns-in_err-walked g c =
+    let p = err_from_is_err_and c.from_residual-in_err-walked.result c.from_residual-in_err-walked.ensures.1 in
+    rw (p.1, p.2) (archive_stops _ _ _ _ c.in_err-walked.ensures.answer)
 
 pub returns : goal.returns
 returns g c =
-    rw c.of_archive.ensures (archive_done _ _ _ c.is_empty.result _ c.in_ok-found.ensures.answer)
+    rw c.of_walk.ensures (archive_done _ _ _ c.is_empty.result _ c.in_ok-walked.ensures.answer)

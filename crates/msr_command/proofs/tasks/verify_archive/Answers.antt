@@ -14,4 +14,4 @@ returns-in_err-found g c =
 
 pub returns : goal.returns
 returns g c =
-    rw c.of_verifying.ensures (verify_done _ _ c.is_empty.result _ c.in_ok-found.ensures.answer)
+    rw c.of_walk.ensures (verify_done _ _ c.is_empty.result _ c.in_ok-found.ensures.answer)

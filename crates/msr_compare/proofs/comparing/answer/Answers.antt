@@ -11,10 +11,10 @@ pub returns-in-Ok-None : goal.returns-in-Ok-None
 returns-in-Ok-None g c = λ settings h.
     let start_one = g.One.Source.device c.args.one.now in
     let start_other = g.Other.Source.device c.args.other.now in
-    answered_same settings start_one (g.One.Source.device c.agree.new.one) start_other
-    (g.Other.Source.device c.agree.new.other) c.agree.new.one_side c.agree.new.other_side c.same_segments.result
-    (rw c.in-Ok-None.field-0-is at (c.in-Ok-None.ensures.met settings start_one start_other h)) c.same_segments.ensures c.agree.ensures.few_one
-    c.agree.ensures.few_other
+    rw (c.tally-first.ensures, c.tally-second.ensures) (answered_same settings start_one
+    (g.One.Source.device c.agree.new.one) start_other (g.Other.Source.device c.agree.new.other) c.agree.new.one_side
+    c.agree.new.other_side (rw c.in-Ok-None.field-0-is at (c.in-Ok-None.ensures.met settings start_one start_other h))
+    c.agree.ensures.few_one c.agree.ensures.few_other)
 
 pub finish-requires-clause-one : goal.finish-requires-clause-one
 finish-requires-clause-one g c =

@@ -11,6 +11,7 @@ returns-clause-word c ds seen longest =
     let long = length-take-le c.args.size ds longest.within in
     let is = longest.group (omega (arith, c.requires.full)) in
     let same = c.fields_seen-fields.ensures.same ds seen
-    (group_bits Two ys c.args.size c.args.form.width long c.requires.width is) in
-    added_word_is ys c.args.size c.args.form.width c.args.form.top c.fields_seen-fields.result long
-    c.requires.positive c.requires.width is c.requires.top same c.requires.space
+    (group_bits Two ys c.args.size c.form_of-form.result.width long c.form_of-form.ensures.width is) in
+    added_word_is ys c.args.size c.form_of-form.result.width c.form_of-form.result.top c.fields_seen-fields.result long
+    c.form_of-form.ensures.positive c.form_of-form.ensures.width is c.form_of-form.ensures.top same
+    c.form_of-form.ensures.room

@@ -75,8 +75,7 @@ returns-in-Some-clause-next c =
     let is = given c.args.before c.args.run.now c.args.at c.from.result c.args.sizes.now c.requires.sizes less
     c.from.ensures in
     let word = c.word_seen.ensures in
-    word_there c.args.before c.args.run.now c.args.at c.from.result c.word_seen.result less is word.size
-    word.code word.small (word.word ds seen is.group)
+    word_there c.args.before c.args.run.now c.args.at c.from.result c.word_seen.result less is word.coded (word.word ds seen is.group)
 
 pub returns-clause-next : goal.returns-clause-next
 returns-clause-next c =
@@ -84,5 +83,4 @@ returns-clause-next c =
     let is = given c.args.before c.args.run.now c.args.at c.from-2.result c.args.sizes.now c.requires.sizes less
     c.from-2.ensures in
     let word = c.word_outside.ensures in
-    word_there c.args.before c.args.run.now c.args.at c.from-2.result c.word_outside.result less is word.size
-    word.code word.small word.word
+    word_there c.args.before c.args.run.now c.args.at c.from-2.result c.word_outside.result less is word.coded word.word

@@ -42,5 +42,4 @@ returns-in-Some-clause-next c =
     (c.in_ok-size.ensures.first ds seen (fits_from c.args.at
     (differences c.args.before c.args.run.now) c.requires.fits)) in
     let word = c.word_seen.ensures in
-    word_there c.args.before c.args.run.now c.args.at c.in_ok-size.size c.word_seen.result less is word.size
-    word.code word.small (word.word ds seen is.group)
+    word_there c.args.before c.args.run.now c.args.at c.in_ok-size.size c.word_seen.result less is word.coded (word.word ds seen is.group)

@@ -18,5 +18,4 @@ returns-clause-next c before fits =
     let is = size_there before c.args.run.now c.args.at c.in_ok-size.size less
     (c.in_ok-size.ensures.first before fits) in
     let word = c.word_inside.ensures in
-    word_there before c.args.run.now c.args.at c.in_ok-size.size c.word_inside.result less is word.size word.code
-    word.small (word.word before is.group)
+    word_there before c.args.run.now c.args.at c.in_ok-size.size c.word_inside.result less is word.coded (word.word before is.group)

@@ -12,4 +12,4 @@ returns-clause-next c =
     c.in_ok-size.ensures.first in
     let word = c.word_outside.ensures in
     word_there c.args.before c.args.run.now c.args.at c.in_ok-size.size c.word_outside.result c.requires.within is
-    word.size word.code word.small word.word
+    word.coded word.word

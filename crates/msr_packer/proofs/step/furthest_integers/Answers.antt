@@ -1,5 +1,5 @@
 use Rattle.std.proofs.Common.{arith, ◌+◌}
-use Rattle.msr_packer.proofs.OfBits.{leading_end}
+use Rattle.msr_words.proofs.OfBits.{leading_end}
 use Rattle.msr_packer.proofs.step.furthest_integers.Goals as goal
 
 pub returns : goal.returns

@@ -2,7 +2,7 @@
 use Rattle.std.proofs.Common.{arith, refl, ◌≡◌, ◌∷◌, max}
 use Rattle.msr_kinds.specs.declared.kinds.Kind.TheVariants.{Int24, Int32}
 use Rattle.msr_kinds.proofs.KindLemmas.{int32_is_chosen}
-use Rattle.msr_words.specs.Lemmas.KindLaws.{int24_by_bits}
+use Rattle.msr_words.proofs.AnyKind.{int24_by_bits}
 use Rattle.msr_packer.specs.declared.step.StepRun.{StepRun}
 use Rattle.msr_packer.specs.Steps.{longer_kinds}
 use Rattle.msr_packer.proofs.StepsByKinds.{not_shorter, of_form, one_covered, one_more}
@@ -48,20 +48,22 @@ returns c =
     let over = not_shorter c.or.result c.args.step c.or.ensures.first in
     let past = not_shorter c.or-2.result c.or.result c.or-2.ensures.first in
     record {
-      step = of_form form samples g c.or-2.result five;
-      kind = five.reached;
-      ends = all_ends form samples g c.args.step.end c.or-2.result.end c.max-reached.result c.args.ends
-          (record {
-            steim2 = c.args.ends.steim2;
-            groups = c.args.ends.groups;
-            steim1 = c.args.ends.steim1;
-            int16 = c.args.ends.int16;
-            int24 = c.integers_end-int24.result;
-            int32 =
-                c.int32_end-int32.result;
-          }) greatest (omega arith) c.requires.ends refl refl refl
-          c.integers_end-int24.ensures.fits c.integers_end-int24.ensures.chosen c.integers_end-int24.ensures.past
-          c.int32_end-int32.ensures;
+      step = record {
+        step = of_form form samples g c.or-2.result five;
+        kind = five.reached;
+        ends = all_ends form samples g c.args.step.end c.or-2.result.end c.max-reached.result c.args.ends
+            (record {
+              steim2 = c.args.ends.steim2;
+              groups = c.args.ends.groups;
+              steim1 = c.args.ends.steim1;
+              int16 = c.args.ends.int16;
+              int24 = c.integers_end-int24.result;
+              int32 =
+                  c.int32_end-int32.result;
+            }) greatest (omega arith) c.requires.ends refl refl refl
+            c.integers_end-int24.ensures.fits c.integers_end-int24.ensures.chosen c.integers_end-int24.ensures.past
+            c.int32_end-int32.ensures;
+      };
       steim2 = refl;
       groups = refl;
     }

@@ -16,13 +16,13 @@ returns-clause-streaming c =
     let long = ap length f.samples ∙ length-drop count held.samples.items in
     let few = s.few in
     record {
-      sound = f.sound;
-      stays = f.stays s.stays;
-      is_growing = rw (f.form, f.samples)
+      sound = f.needed.sound;
+      stays = f.needed.stays s.stays;
+      is_growing = rw (f.needed.form, f.samples)
           (growing_forgets (records_of held.form) held.samples.items (frontier_of held.current)
           (frontier_of c.forget.new.self.current) count c.args.growing.now _ s.is_growing may f.frontier
           (omega arith) refl);
-      few = rw f.form (omega arith);
+      few = rw f.needed.form (omega arith);
     }
 
 pub returns-clause-behind : goal.returns-clause-behind
@@ -34,4 +34,4 @@ returns-clause-behind c =
     let few = growing_few (records_of held.form) held.samples.items
     (frontier_of held.current) c.args.growing.now c.requires.is_growing in
     let frontier = f.frontier in
-    rw f.form (omega arith)
+    rw f.needed.form (omega arith)

@@ -11,7 +11,7 @@ use Rattle.msr_record.proofs.writing.fill_record.Goals as goal
 pub overflow_cast-count : goal.overflow_cast-count
 overflow_cast-count c =
     let few = few_samples c.args.run.now.kind
-    (bytes_of c.args.record_length) c.args.run.now.before c.args.run.now.samples.now c.requires.fits in
+    (bytes_of c.args.record_length) c.args.run.now.before c.args.run.now.samples.now c.requires.can.fits in
     search rules
 
 -- what is said of a header holds of one that is the same
@@ -26,7 +26,7 @@ read_by g h front size e s back = λ rest w l.
     back rest writable long ∙ ap (λ (h : Header). Ok (as_read h)) e
 
 pub fill_area-requires-clause-fits : goal.fill_area-requires-clause-fits
-fill_area-requires-clause-fits c = rw c.storage.ensures c.requires.fits.1
+fill_area-requires-clause-fits c = rw c.storage.ensures c.requires.can.fits.1
 
 pub returns : goal.returns
 returns c =
@@ -59,4 +59,4 @@ returns c =
     same c.write_header.ensures.read_back)
     (rw c.storage.ensures at c.in_ok-frames.ensures.carried) (rw c.storage.ensures at c.in_ok-frames.ensures.reverse)
     split c.exponent-exponent.ensures bounds.0 bounds.1
-    c.requires.quality c.requires.normal c.requires.some c.header_for-header.ensures.rate
+    c.requires.can.quality c.requires.can.normal c.requires.can.some c.header_for-header.ensures.rate

@@ -1,6 +1,7 @@
-use Rattle.std.proofs.Common.{◌∙◌, ap, sym, rules, ℕ, List, ◌++◌, ◌∷◌, codes, decimal}
+use Rattle.std.proofs.Common.{◌≡◌, ◌∙◌, ◌&&◌, ap, refl, sym, true, rules, ℕ, List, ◌++◌, ◌∷◌, codes, decimal}
 use Rattle.msr_kinds.specs.Lengths.{bytes_of}
 use Rattle.msr_report.specs.Text.{kinds_line}
+use Rattle.msr_report_reader.proofs.Begun.{one_of, other_of}
 use Rattle.msr_report_reader.proofs.FirstFaults.{fault_1, fault_2, fault_3, fault_counts}
 use Rattle.msr_report_reader.proofs.RestOfText.{counts_split, counts_then}
 use Rattle.msr_report_reader.proofs.first.first_lines.Goals as goal
@@ -26,11 +27,16 @@ returns-in_default-counts-clause-fault c = λ more enough.
     (fault_counts c.args.text.now c.in-Some.second.now c.in-Some-record_length.third.now c.in-Some-tolerance.fourth.now
     c.kinds-kinds.result.1.now more (bytes_of c.in-Some-record_length.length) c.in-Some-tolerance.tolerance
     c.kinds-kinds.result.0
-    c.may_go_on.result c.in-Some-record_length.ensures.is_length c.in-Some-tolerance.ensures.range.0
+    _ c.in-Some-record_length.ensures.is_length c.in-Some-tolerance.ensures.range.0
     c.in-Some-tolerance.ensures.range.1 c.in-Some.ensures.found c.in-Some-record_length.ensures.found
     c.in-Some-tolerance.ensures.found c.kinds-kinds.ensures.found c.kinds-kinds.ensures.only enough
-    (c.may_go_on.ensures.counts more)
-    (c.may_go_on.ensures.kinds more) c.in_default-counts.ensures.only)
+    (λ x is. one_of c.may_begin-in_default-counts.result (c.may_begin-in_default-counts-2.result && c.eq.result)
+    (c.may_begin-in_default-counts.ensures more x is))
+    (λ x all is.
+    let second = c.may_begin-in_default-counts-2.ensures more x is in
+    let same : c.eq.result ≡ true = rw all at c.eq.ensures in
+    other_of c.may_begin-in_default-counts.result (c.may_begin-in_default-counts-2.result && c.eq.result)
+    (rw (second, same) refl)) c.in_default-counts.ensures.only)
 
 pub returns-clause-found : goal.returns-clause-found
 returns-clause-found c =

@@ -1,6 +1,5 @@
-use Rattle.std.proofs.Common.{◌∙◌, ◌++◌, ◌∷◌}
+use Rattle.std.proofs.Common.{◌++◌, ◌∷◌}
 use Rattle.msr_report.specs.Text.{field_text}
-use Rattle.msr_report_reader.proofs.Bytes.{three, three_text}
 use Rattle.msr_report_reader.proofs.keys.channel_name.Goals as goal
 
 pub returns-in_err-channel-clause-only : goal.returns-in_err-channel-clause-only
@@ -11,9 +10,7 @@ returns-in_err-channel-clause-only c network station location channel rest are_n
     let second = c.in_ok-station.ensures.only station
     (field_text location ++ (46 ∷ (field_text channel ++ rest))) are_station first.1 in
     let third = c.in_ok-location.ensures.only location (field_text channel ++ rest) are_location second.1 in
-    let t = three channel are_channel in
-    absurd (c.in_err-channel.ensures.only t.a t.b t.c rest t.small_a t.small_b t.small_c
-    (third.1 ∙ three_text channel rest t))
+    absurd (c.in_err-channel.ensures.only channel rest are_channel third.1)
 
 pub returns-clause-only : goal.returns-clause-only
 returns-clause-only c network station location channel rest are_network are_station are_location are_channel is =
@@ -22,7 +19,4 @@ returns-clause-only c network station location channel rest are_network are_stat
     let second = c.in_ok-station.ensures.only station
     (field_text location ++ (46 ∷ (field_text channel ++ rest))) are_station first.1 in
     let third = c.in_ok-location.ensures.only location (field_text channel ++ rest) are_location second.1 in
-    let t = three channel are_channel in
-    let fourth = c.in_ok-channel.ensures.only t.a t.b t.c rest t.small_a t.small_b t.small_c
-    (third.1 ∙ three_text channel rest t) in
-    fourth.1
+    (c.in_ok-channel.ensures.only channel rest are_channel third.1).1

@@ -10,12 +10,21 @@ returns-in_default-clause-only c key start samples records rest is_key fits_samp
     let after_key : List ℕ = codes " start " ++ (opening.word ++ after_start) in
     absurd (c.in_default.ensures.only key after_key is_key refl opening.is)
 
+pub returns-in_err-text-clause-only : goal.returns-in_err-text-clause-only
+returns-in_err-text-clause-only c key start samples records rest is_key fits_samples fits_records opening =
+    let after_samples : List ℕ = codes " records " ++ (decimal records ++ (10 ∷ rest)) in
+    let after_start : List ℕ = codes " samples " ++ (decimal samples ++ after_samples) in
+    let after_key : List ℕ = codes " start " ++ (opening.word ++ after_start) in
+    absurd (c.in_err-text.ensures.only (opening.word ++ after_start)
+    (c.in-Some.ensures.only key after_key is_key refl opening.is))
+
 pub returns-in_err-start-clause-only : goal.returns-in_err-start-clause-only
 returns-in_err-start-clause-only c key start samples records rest is_key fits_samples fits_records opening =
     let after_samples : List ℕ = codes " records " ++ (decimal records ++ (10 ∷ rest)) in
     let after_start : List ℕ = codes " samples " ++ (decimal samples ++ after_samples) in
     let after_key : List ℕ = codes " start " ++ (opening.word ++ after_start) in
-    let first = c.in-Some.ensures.only key after_key is_key refl opening.is in
+    let first = c.in_ok-text.ensures.only (opening.word ++ after_start)
+    (c.in-Some.ensures.only key after_key is_key refl opening.is) in
     absurd (c.in_err-start.ensures.only start opening.word after_start opening.time first)
 
 pub returns-in_err-samples-clause-only : goal.returns-in_err-samples-clause-only
@@ -23,7 +32,8 @@ returns-in_err-samples-clause-only c key start samples records rest is_key fits_
     let after_samples : List ℕ = codes " records " ++ (decimal records ++ (10 ∷ rest)) in
     let after_start : List ℕ = codes " samples " ++ (decimal samples ++ after_samples) in
     let after_key : List ℕ = codes " start " ++ (opening.word ++ after_start) in
-    let first = c.in-Some.ensures.only key after_key is_key refl opening.is in
+    let first = c.in_ok-text.ensures.only (opening.word ++ after_start)
+    (c.in-Some.ensures.only key after_key is_key refl opening.is) in
     let second = c.in_ok-start.ensures.only start opening.word after_start opening.time first in
     absurd (c.in_err-samples.ensures.only samples after_samples fits_samples refl second.1)
 
@@ -32,7 +42,8 @@ returns-in_err-records-clause-only c key start samples records rest is_key fits_
     let after_samples : List ℕ = codes " records " ++ (decimal records ++ (10 ∷ rest)) in
     let after_start : List ℕ = codes " samples " ++ (decimal samples ++ after_samples) in
     let after_key : List ℕ = codes " start " ++ (opening.word ++ after_start) in
-    let first = c.in-Some.ensures.only key after_key is_key refl opening.is in
+    let first = c.in_ok-text.ensures.only (opening.word ++ after_start)
+    (c.in-Some.ensures.only key after_key is_key refl opening.is) in
     let second = c.in_ok-start.ensures.only start opening.word after_start opening.time first in
     let third = c.in_ok-samples.ensures.only samples after_samples fits_samples refl second.1 in
     absurd (c.in_err-records.ensures.only records rest fits_records third.1)
@@ -42,7 +53,8 @@ returns-clause-only c key start samples records rest is_key fits_samples fits_re
     let after_samples : List ℕ = codes " records " ++ (decimal records ++ (10 ∷ rest)) in
     let after_start : List ℕ = codes " samples " ++ (decimal samples ++ after_samples) in
     let after_key : List ℕ = codes " start " ++ (opening.word ++ after_start) in
-    let first = c.in-Some.ensures.only key after_key is_key refl opening.is in
+    let first = c.in_ok-text.ensures.only (opening.word ++ after_start)
+    (c.in-Some.ensures.only key after_key is_key refl opening.is) in
     let second = c.in_ok-start.ensures.only start opening.word after_start opening.time first in
     let third = c.in_ok-samples.ensures.only samples after_samples fits_samples refl second.1 in
     c.in_ok-records.ensures.only records rest fits_records third.1
@@ -55,7 +67,7 @@ returns-clause-found c =
       word = word.0;
       time = rw (to_z-of_z fits) word.1.0;
       is = c.in-Some.ensures.found ∙ ap (key_then c.in-Some.key)
-          (word.1.1 ∙ ap (λ (l : List ℕ). codes " start " ++ (word.0 ++ l))
-          (c.in_ok-samples.ensures.found ∙ ap (λ (l : List ℕ). codes " samples "
+          (c.in_ok-text.ensures.found ∙ ap (λ (l : List ℕ). codes " start " ++ l) word.1.1
+          ∙ ap (λ (l : List ℕ). codes " start " ++ (word.0 ++ l)) (c.in_ok-samples.ensures.found ∙ ap (λ (l : List ℕ). codes " samples "
           ++ (decimal c.in_ok-samples.samples ++ l)) c.in_ok-records.ensures.found));
     }

@@ -6,7 +6,7 @@ use Rattle.msr_steim.specs.Area.{IsUndefined, IsUndefinedBefore, arranged_word, 
 use Rattle.msr_steim.specs.Sums.{IsWritten, ReachesEnd}
 use Rattle.msr_steim.proofs.Beginning.{begins_on, code_here, codes_by, codes_on, end_reached, starts_here}
 use Rattle.msr_steim.proofs.FourWords.{AreOnes, four_place, four_reached, ones_within}
-use Rattle.msr_steim.proofs.Reading.{IsReached, IsStart, same_word, skip_first, slot_bounds, step_enough, step_more, undefined_before, undefined_so}
+use Rattle.msr_steim.proofs.Reading.{IsReached, IsStart, skip_first, slot_bounds, step_enough, step_more, undefined_before, undefined_so}
 use Rattle.msr_steim.proofs.area.decode_words.Goals as goal
 
 pub loop-slot-init : goal.loop-slot-init
@@ -88,8 +88,8 @@ loop-slot-preserved-then-at-out g c =
       few = (ones_within order area frame slot codes are).0;
     }
 
-pub returns-in-None-clause-bad : goal.returns-in-None-clause-bad
-returns-in-None-clause-bad g c =
+pub returns-in-None-clause-fault : goal.returns-in-None-clause-fault
+returns-in-None-clause-fault g c =
     let order = c.args.order in
     let area = c.args.area.now in
     let frame = c.loop-frame.frame in
@@ -106,12 +106,9 @@ returns-in-None-clause-bad g c =
     let word_is : word ≡ arranged_word c.args.version order code area number = c.arranged_word_at-word.ensures in
     let undefined : IsUndefined c.args.version order area number =
     undefined_so c.args.version order area number code word code_is word_is (c.in-None.ensures.none refl) in
-    let here : IsUndefinedBefore c.args.version order area (length c.args.out.now) number =
     subst (λ n. IsUndefinedBefore c.args.version order area n number) (c.loop-slot.auto.out ∙ c.loop-frame.auto.out)
     (undefined_before c.args.version order area (length c.loop-slot.out) number (constant order area 1)
-    (take at.place c.loop-slot.out) held.reached.read within undefined) in
-    λ other e. subst (λ n. IsUndefinedBefore c.args.version order area (length c.args.out.now) n)
-    (same_word number other e) here
+    (take at.place c.loop-slot.out) held.reached.read within undefined)
 
 pub returns-in-Some-write_last_word-clause-samples : goal.returns-in-Some-write_last_word-clause-samples
 returns-in-Some-write_last_word-clause-samples g c =

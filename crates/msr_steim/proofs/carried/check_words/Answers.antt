@@ -4,11 +4,11 @@ use Rattle.std.proofs.lemmas.Bool.{ne_eqb}
 use Rattle.std.proofs.lemmas.Int.{to_z-of_z}
 use mathlib.Core.Bool.{not}
 use Rattle.msr_steim.specs.declared.sums.Progress.{Progress}
-use Rattle.msr_steim.specs.Area.{IsUndefined, IsUndefinedBefore, code_of, constant}
+use Rattle.msr_steim.specs.Area.{IsUndefined, code_of, constant}
 use Rattle.msr_steim.proofs.Beginning.{code_here, codes_by, codes_on}
 use Rattle.msr_steim.proofs.Checking.{ArePassed, looked_at, none_passed, passed_enough, passed_on, undefined_alone}
 use Rattle.msr_steim.proofs.FourWords.{AreOnes, four_passed, ones_within}
-use Rattle.msr_steim.proofs.Reading.{same_word, skip_first, slot_bounds, undefined_before, undefined_so}
+use Rattle.msr_steim.proofs.Reading.{skip_first, slot_bounds, undefined_before, undefined_so}
 use Rattle.msr_steim.proofs.carried.check_words.Goals as goal
 
 pub loop-frame-init : goal.loop-frame-init
@@ -103,8 +103,8 @@ loop-slot-preserved-then-left-gt16 g c =
       few = (ones_within order area frame slot codes are).0;
     }
 
-pub returns-in_default-clause-bad : goal.returns-in_default-clause-bad
-returns-in_default-clause-bad g c =
+pub returns-in_default-clause-fault : goal.returns-in_default-clause-fault
+returns-in_default-clause-fault g c =
     let order = c.args.order in
     let area = c.args.area.now in
     let frame = c.loop-frame.frame in
@@ -121,10 +121,8 @@ returns-in_default-clause-bad g c =
     undefined_so c.args.version order area number code word code_is c.arranged_word_at-word.ensures
     (undefined_alone c.args.version code word (length c.loop-slot.samples) (omega (arith, c.arranged_word_at-word.array_long))
     (c.in_default.ensures.none refl)) in
-    let here : IsUndefinedBefore c.args.version order area c.args.count number =
     undefined_before c.args.version order area c.args.count number
-    (constant order area 1) held.passed.samples held.passed.read within undefined in
-    λ other e. subst (λ n. IsUndefinedBefore c.args.version order area c.args.count n) (same_word number other e) here
+    (constant order area 1) held.passed.samples held.passed.read within undefined
 
 pub returns-then-next-left-clause-samples : goal.returns-then-next-left-clause-samples
 returns-then-next-left-clause-samples g c =

@@ -18,15 +18,15 @@ overflow_add-codes c =
     let few = codes_lt c.args.version (map (λ g. g.items) c.args.groups.now) c.args.number c.loop-place.place in
     let bound : c.loop-place.codes < 1073741824 =
     codes_fit c.loop-place.codes c.loop-place.place (rw (← c.loop-place.invariant) at few) c.loop-place-test.true in
-    let same : c.from.result ≡ c.code_in.result = c.from.ensures in
-    let sum : c.loop-place.codes * 4 + c.from.result < 4294967296 = omega (arith, c.code_in.ensures.small) in
+    let same : c.from.result ≡ c.written_in-code.result.0 = c.from.ensures in
+    let sum : c.loop-place.codes * 4 + c.from.result < 4294967296 = omega (arith, c.written_in-code.ensures.small) in
     search (rules, sum)
 
 pub loop-place-preserved : goal.loop-place-preserved
 loop-place-preserved c =
     ap (λ n. n * 4 + c.from.result) c.loop-place.invariant
     ∙ ap (λ n. number_from_digits 4 (map (code_in c.args.version (map (λ g. g.items) c.args.groups.now))
-    (range_with_len c.args.number c.loop-place.place)) * 4 + n) (c.from.ensures ∙ c.code_in.ensures.value)
+    (range_with_len c.args.number c.loop-place.place)) * 4 + n) (c.from.ensures ∙ c.written_in-code.ensures.code)
     ∙ sym (codes_more c.args.version (map (λ g. g.items) c.args.groups.now) c.args.number c.loop-place.place)
 
 pub returns : goal.returns

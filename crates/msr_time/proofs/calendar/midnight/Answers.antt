@@ -1,10 +1,10 @@
-use Rattle.std.proofs.Common.{◌≡◌, ◌≤◌, ◌∙◌, refl, ap, arith, to_z-of_z, ℕ, ℤ, pos, neg_ℤ, ◌+ℤ◌, ◌-ℤ◌, ◌*ℤ◌, to_z, of_z, w32, w64, FitsSigned}
+use Rattle.std.proofs.Common.{◌≡◌, ◌≤◌, ◌∙◌, refl, ap, arith, to_z-of_z, ℕ, ℤ, pos, neg_ℤ, ◌+ℤ◌, ◌-ℤ◌, ◌*ℤ◌, to_z, of_z, w16, w32, w64, FitsSigned}
 use Rattle.std.proofs.lemmas.Int.{to_z_pos}
 use Rattle.jiff_core.specs.declared.civil.date.Date.{Date}
 use Rattle.jiff_core.specs.Calendar.{IsBetween}
 use Rattle.jiff_core.proofs.CalendarLemmas.{days_in_year_bounds}
 use Rattle.jiff_core.proofs.SignedLemmas.{signed_arith}
-use Rattle.jiff.specs.Words.{epoch_day}
+use Rattle.jiff_core.specs.Date.{epoch_day}
 use Rattle.msr_time.specs.Instant.{day_number}
 use Rattle.msr_time.proofs.CalendarLemmas.{day_number_bounds}
 use Rattle.msr_time.proofs.calendar.midnight.Goals as goal
@@ -27,8 +27,14 @@ pub returns : goal.returns
 returns c =
     let year = c.requires.year in
     let day = c.requires.day in
-    let first = c.to_unix_epoch_day-first.ensures.value ∙ ap (λ (d : Date). epoch_day d) c.to_plain.ensures
-    ∙ c.first_of_year.ensures.number in
+    let made = c.date.ensures in
+    let year_is : c.date.result.year ≡ pos c.args.year =
+    made.0 ∙ to_z_pos w16 c.args.year (omega (arith, year)) in
+    let month_is : c.date.result.month ≡ 1 = omega (arith, signed_arith, made.1) in
+    let day_is : c.date.result.day ≡ 1 = omega (arith, signed_arith, made.2) in
+    let number : epoch_day c.date.result ≡ day_number c.args.year 1 =
+    rw (year_is, month_is, day_is) (omega (arith, signed_arith)) in
+    let first = c.to_unix_epoch_day-first.ensures.value ∙ ap (λ (d : Date). epoch_day d) c.to_plain.ensures ∙ number in
     let most = days_in_year_bounds (pos c.args.year) in
     let within : IsBetween (neg_ℤ (pos 25_567)) (pos 47_846) c.to_unix_epoch_day-first.result =
     rw first (day_number_bounds c.args.year 1 year.0 year.1 (omega arith) (omega (arith, most.1))) in

@@ -1,13 +1,21 @@
 use Rattle.std.proofs.Common.{rules}
 use Rattle.std.proofs.lemmas.Result.{err_from_is_err_and}
+use Rattle.msr_walk.specs.Day.{IsOutcomeOfDay}
 use Rattle.msr_walk.specs.Entries.{IsDayOf}
-use Rattle.msr_walk.proofs.Days.{outcome_of}
+use Rattle.msr_walk.proofs.Days.{outcome_of, untouched}
 use Rattle.msr_walk.proofs.EntriesTold.{none_told}
+use Rattle.msr_walk.proofs.folders.tell_day.Goals.{then-apart+in_ok-day+in_ok-outcome, else-apart}
 use Rattle.msr_walk.proofs.folders.tell_day.Goals as goal
 
 pub returns-in_err-channel-clause-stops : goal.returns-in_err-channel-clause-stops
 returns-in_err-channel-clause-stops g c =
     let p = err_from_is_err_and c.from_residual.result c.from_residual.ensures.1 in
+    let out = g.O.Sink.device c.args.out.now in
+    rw (p.1, p.2) (none_told c.args.walker.now.archive.now.days out)
+
+pub returns-in_err-day-clause-stops : goal.returns-in_err-day-clause-stops
+returns-in_err-day-clause-stops g c =
+    let p = err_from_is_err_and c.from_residual-in_err-day.result c.from_residual-in_err-day.ensures.1 in
     let out = g.O.Sink.device c.args.out.now in
     rw (p.1, p.2) (none_told c.args.walker.now.archive.now.days out)
 
@@ -20,9 +28,17 @@ returns-in_err-outcome-clause-stops g c =
 pub returns-clause-told : goal.returns-clause-told
 returns-clause-told g c =
     let day : IsDayOf c.args.path.now c.as_str.result.now = search rules in
-    c.tell.ensures.told (outcome_of _ _ _ _ day c.in_ok-outcome.ensures)
+    let is : IsOutcomeOfDay c.args.walker.now.archive.now.days c.if-apart.outcome = elim c.if-apart.branch [
+      | then-apart+in_ok-day+in_ok-outcome w ↦ rw w.outcome-is w.in_ok-outcome.ensures
+      | else-apart w ↦ rw w.outcome-is (untouched _ _)
+    ] in
+    c.tell.ensures.told (outcome_of _ _ _ _ day is)
 
 pub returns-clause-stops : goal.returns-clause-stops
 returns-clause-stops g c =
     let day : IsDayOf c.args.path.now c.as_str.result.now = search rules in
-    c.tell.ensures.stops (outcome_of _ _ _ _ day c.in_ok-outcome.ensures)
+    let is : IsOutcomeOfDay c.args.walker.now.archive.now.days c.if-apart.outcome = elim c.if-apart.branch [
+      | then-apart+in_ok-day+in_ok-outcome w ↦ rw w.outcome-is w.in_ok-outcome.ensures
+      | else-apart w ↦ rw w.outcome-is (untouched _ _)
+    ] in
+    c.tell.ensures.stops (outcome_of _ _ _ _ day is)

@@ -62,7 +62,7 @@ returns-clause-answer g c =
     let counts = told.counts [] c.new-tally.ensures in
     walk_ends asked out0 out1 (g.O.Sink.device c.write_summary.new.out) c.new-tally.result c.visit_folders.new.tally _ told
     (c.in_ok-write_summary.ensures.all told.entries counts)
-    (c.end_of.ensures told.entries counts)
+    (c.end_of.ensures told.entries counts) counts.unopened
 
 pub returns-clause-write : goal.returns-clause-write
 returns-clause-write g c =

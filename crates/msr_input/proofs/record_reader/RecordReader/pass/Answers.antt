@@ -28,7 +28,7 @@ returns-clause-passed c start now records found has given =
     let next : IsNext old c.args.outline.now found = rw (← c.self.view_is) at given in
     let size : c.args.outline.now.length ≡ found.length = ap (λ (o : Outline). o.length) next.outline_is in
     let counted : CountsOneMore old.counts c.counted-self-inside.result found =
-    λ all same few. c.counted-self-inside.ensures all found next.outline_is same few in
+    c.counted-self-inside.ensures found next.outline_is in
     let passes : Passes old new found c.counted-self-inside.result = record {
       waiting = rw size at (ap (λ (w : Window). w.bytes) c.consume.ensures);
       ended = ap (λ (w : Window). w.ended) c.consume.ensures;

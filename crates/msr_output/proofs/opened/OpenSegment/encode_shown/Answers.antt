@@ -1,13 +1,12 @@
 use Rattle.std.proofs.Common.{rules, ◌≤◌, ◌-◌, arith, FitsSigned, w64, to_z-of_z, OnOk, ◌∙◌}
 use Rattle.std.specs.Prelude.{slice_range}
 use Rattle.msr_record.specs.Written.{AppendsRecord}
-use Rattle.msr_output.specs.Output.{sample_before}
 use Rattle.msr_time.specs.Instant.{IsInstant}
 use Rattle.msr_kinds.specs.Lengths.{bytes_of}
-use Rattle.msr_output.proofs.OpenSegments.{before_same}
 use Rattle.msr_output.proofs.Times.{nominal_between, nominal_found, some_where}
 use Rattle.msr_output.proofs.Runs.{record_of_run, on_ok}
 use Rattle.msr_output.proofs.opened.OpenSegment.encode_shown.Goals as goal
+use Rattle.msr_packer.specs.HeldSamples.{before_place}
 
 pub unwrap-first-requires : goal.unwrap-first-requires
 unwrap-first-requires c =
@@ -34,12 +33,11 @@ returns c = λ segment separator key_is start_is shown.
     let first_fits : FitsSigned w64 c.unwrap-first.result = search rules in
     let appended : OnOk c.encode_run.result
     (AppendsRecord c.args.out.now.items c.encode_run.new.out.items own.key c.unwrap-first.result
-    c.args.number (sample_before segment.samples c.args.run.start)
+    c.args.number (before_place segment.samples c.args.run.start)
     (slice_range segment.samples c.args.run.start c.args.run.end) c.args.run.kind (bytes_of own.form.length)) =
     rw (
       to_z-of_z first_fits,
-      c.sample_before.ensures ∙ shows.before_run
-          ∙ before_same segment.samples c.args.run.start,
+      c.sample_before.ensures ∙ shows.before_run,
       c.run_samples.ensures
           ∙ shows.run,
     ) at c.encode_run.ensures.appended in

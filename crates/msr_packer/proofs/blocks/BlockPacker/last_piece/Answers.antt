@@ -5,30 +5,41 @@ use Rattle.msr_packer.proofs.InBlocks.{all_given, holds_in, packs_all, packs_las
 use Rattle.msr_packer.proofs.ToldSizes.{shows_sizes}
 use Rattle.msr_packer.proofs.blocks.BlockPacker.last_piece.Goals as goal
 
-pub returns-in-Some-clause-given : goal.returns-in-Some-clause-given
-returns-in-Some-clause-given c = λ records samples runs separators p.
+pub returns-in-Some-clause-gives : goal.returns-in-Some-clause-gives
+returns-in-Some-clause-gives c = λ records.
     let open' : c.self.inside.ended ≡ false = search rules in
-    let q = subst (λ e. PacksLast records samples runs separators (holding_of c.self.inside.held e)) open'
-    (rw (← c.self.view_is) at p) in
-    rw open' (packs_last_next records samples runs separators c.self.inside.held c.next_piece.new.self
-    (Some c.in-Some.piece) c.in-Some.ensures.given q)
+    record {
+      given = λ samples runs separators p.
+          let q = subst (λ e. PacksLast records samples runs separators (holding_of c.self.inside.held e)) open'
+          (rw (← c.self.view_is) at p) in
+          rw open' (packs_last_next records samples runs separators c.self.inside.held c.next_piece.new.self
+          (Some c.in-Some.piece) c.in-Some.ensures.given q);
+      shows = λ samples runs separators p.
+          let q = subst (λ e. PacksLast records samples runs separators (holding_of c.self.inside.held e)) open'
+          (rw (← c.self.view_is) at p) in
+          shows_sizes c.next_piece.new.self samples (Some c.in-Some.piece) c.in-Some.ensures.given.sound
+          (c.in-Some.ensures.sizes c.self.invariant.1) (c.in-Some.ensures.given.shows samples runs separators
+          (holds_in records samples runs separators c.self.inside.held q.of_form q.left));
+    }
 
-pub returns-in-Some-clause-shows : goal.returns-in-Some-clause-shows
-returns-in-Some-clause-shows c = λ records samples runs separators p.
+pub returns-clause-gives : goal.returns-clause-gives
+returns-clause-gives c = λ records.
     let open' : c.self.inside.ended ≡ false = search rules in
-    let q = subst (λ e. PacksLast records samples runs separators (holding_of c.self.inside.held e)) open'
-    (rw (← c.self.view_is) at p) in
-    shows_sizes c.next_piece.new.self samples (Some c.in-Some.piece) c.in-Some.ensures.given.sound
-    (c.in-Some.ensures.sizes c.self.invariant.sizes) (c.in-Some.ensures.given.shows samples runs separators
-    (holds_in records samples runs separators c.self.inside.held q.of_form q.left))
-
-pub returns-clause-given : goal.returns-clause-given
-returns-clause-given c = λ records samples runs separators p.
-    let open' : c.self.inside.ended ≡ false = search rules in
-    let q = subst (λ e. PacksLast records samples runs separators (holding_of c.self.inside.held e)) open'
-    (rw (← c.self.view_is) at p) in
-    packs_all records samples runs separators c.self.inside.held c.last_piece.new.self c.next_piece.new.self
-    c.last_piece.result c.in_default.ensures.given c.last_piece.ensures.form c.last_piece.ensures.canonical q
+    record {
+      given = λ samples runs separators p.
+          let q = subst (λ e. PacksLast records samples runs separators (holding_of c.self.inside.held e)) open'
+          (rw (← c.self.view_is) at p) in
+          packs_all records samples runs separators c.self.inside.held c.last_piece.new.self c.next_piece.new.self
+          c.last_piece.result c.in_default.ensures.given c.last_piece.ensures.same.form c.last_piece.ensures.canonical q;
+      shows = λ samples runs separators p.
+          let q = subst (λ e. PacksLast records samples runs separators (holding_of c.self.inside.held e)) open'
+          (rw (← c.self.view_is) at p) in
+          shows_sizes c.last_piece.new.self samples c.last_piece.result c.last_piece.ensures.same.sound
+          (c.last_piece.ensures.sizes (c.in_default.ensures.sizes c.self.invariant.1))
+          (c.last_piece.ensures.shows samples runs separators
+          (holds_still c.self.inside.held c.next_piece.new.self samples runs separators c.in_default.ensures.given
+          (holds_in records samples runs separators c.self.inside.held q.of_form q.left)));
+    }
 
 pub returns-clause-all : goal.returns-clause-all
 returns-clause-all c = λ records samples runs separators p none.
@@ -36,16 +47,5 @@ returns-clause-all c = λ records samples runs separators p none.
     let q = subst (λ e. PacksLast records samples runs separators (holding_of c.self.inside.held e)) open'
     (rw (← c.self.view_is) at p) in
     let a = packs_all records samples runs separators c.self.inside.held c.last_piece.new.self c.next_piece.new.self
-    c.last_piece.result c.in_default.ensures.given c.last_piece.ensures.form c.last_piece.ensures.canonical q in
+    c.last_piece.result c.in_default.ensures.given c.last_piece.ensures.same.form c.last_piece.ensures.canonical q in
     all_given records samples runs separators c.last_piece.result none a.left
-
-pub returns-clause-shows : goal.returns-clause-shows
-returns-clause-shows c = λ records samples runs separators p.
-    let open' : c.self.inside.ended ≡ false = search rules in
-    let q = subst (λ e. PacksLast records samples runs separators (holding_of c.self.inside.held e)) open'
-    (rw (← c.self.view_is) at p) in
-    shows_sizes c.last_piece.new.self samples c.last_piece.result c.last_piece.ensures.sound
-    (c.last_piece.ensures.sizes (c.in_default.ensures.sizes c.self.invariant.sizes))
-    (c.last_piece.ensures.shows samples runs separators
-    (holds_still c.self.inside.held c.next_piece.new.self samples runs separators c.in_default.ensures.given
-    (holds_in records samples runs separators c.self.inside.held q.of_form q.left)))

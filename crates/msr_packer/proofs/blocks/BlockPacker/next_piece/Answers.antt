@@ -3,17 +3,17 @@ use Rattle.msr_packer.proofs.InBlocks.{holds_in, packs_next}
 use Rattle.msr_packer.proofs.ToldSizes.{shows_sizes}
 use Rattle.msr_packer.proofs.blocks.BlockPacker.next_piece.Goals as goal
 
-pub returns-clause-given : goal.returns-clause-given
-returns-clause-given c = λ records samples runs separators p.
-    let most = c.longest_run-most.ensures in
-    packs_next records samples runs separators c.self.inside.held c.next_piece.new.self c.self.inside.ended
-    c.next_piece.result c.next_piece.ensures.given (c.next_piece.ensures.stays (omega arith))
-    (rw (← c.self.view_is) at p)
-
-pub returns-clause-shows : goal.returns-clause-shows
-returns-clause-shows c = λ records samples runs separators p.
-    let q = rw (← c.self.view_is) at p in
-    shows_sizes c.next_piece.new.self samples c.next_piece.result c.next_piece.ensures.given.sound
-    (c.next_piece.ensures.sizes c.self.invariant.sizes)
-    (c.next_piece.ensures.given.shows samples runs separators
-    (holds_in records samples runs separators c.self.inside.held q.of_form q.holds))
+pub returns-clause-gives : goal.returns-clause-gives
+returns-clause-gives c = λ records. record {
+  given = λ samples runs separators p.
+      let most = c.longest_run-most.ensures in
+      packs_next records samples runs separators c.self.inside.held c.next_piece.new.self c.self.inside.ended
+      c.next_piece.result c.next_piece.ensures.given (c.next_piece.ensures.stays (omega arith))
+      (rw (← c.self.view_is) at p);
+  shows = λ samples runs separators p.
+      let q = rw (← c.self.view_is) at p in
+      shows_sizes c.next_piece.new.self samples c.next_piece.result c.next_piece.ensures.given.sound
+      (c.next_piece.ensures.sizes c.self.invariant.1)
+      (c.next_piece.ensures.given.shows samples runs separators
+      (holds_in records samples runs separators c.self.inside.held q.of_form q.holds));
+}

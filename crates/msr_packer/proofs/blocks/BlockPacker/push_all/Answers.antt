@@ -14,10 +14,9 @@ returns-in_err-take_places-clause-taken c = λ records before runs separators p.
     c.from_residual.ensures.1 in
     let t = c.take_places.ensures in
     let q = packs_held records before runs separators c.self.inside.held c.make_room.new.self c.self.inside.ended
-    c.make_room.ensures.form (c.make_room.ensures.holds before runs separators) c.make_room.ensures.stays
-    (rw (← c.self.view_is) at p) in
+    c.make_room.ensures.needed (rw (← c.self.view_is) at p) in
     rw e.1 (packs_same records before runs separators c.make_room.new.self c.take_places.new.self
-    c.self.inside.ended t.form t.held t.offset t.current q)
+    c.self.inside.ended t.same q)
 
 pub returns-in_err-extend_from_slice-clause-taken : goal.returns-in_err-extend_from_slice-clause-taken
 returns-in_err-extend_from_slice-clause-taken c = λ records before runs separators p.
@@ -25,10 +24,9 @@ returns-in_err-extend_from_slice-clause-taken c = λ records before runs separat
     c.from_residual-in_err-extend_from_slice.ensures.1 in
     let t = c.take_places.ensures in
     let q = packs_held records before runs separators c.self.inside.held c.make_room.new.self c.self.inside.ended
-    c.make_room.ensures.form (c.make_room.ensures.holds before runs separators) c.make_room.ensures.stays
-    (rw (← c.self.view_is) at p) in
+    c.make_room.ensures.needed (rw (← c.self.view_is) at p) in
     let r = packs_same records before runs separators c.make_room.new.self c.take_places.new.self
-    c.self.inside.ended t.form t.held t.offset t.current q in
+    c.self.inside.ended t.same q in
     rw e.1 (record {
       of_form = r.of_form;
       holds = rw c.in_err-extend_from_slice.ensures.items r.holds;
@@ -40,11 +38,10 @@ pub returns-clause-taken : goal.returns-clause-taken
 returns-clause-taken c = λ records before runs separators p.
     let t = c.take_places.ensures in
     let q = packs_held records before runs separators c.self.inside.held c.make_room.new.self c.self.inside.ended
-    c.make_room.ensures.form (c.make_room.ensures.holds before runs separators) c.make_room.ensures.stays
-    (rw (← c.self.view_is) at p) in
+    c.make_room.ensures.needed (rw (← c.self.view_is) at p) in
     let room = c.take_places.new.self in
     let r = packs_same records before runs separators c.make_room.new.self room
-    c.self.inside.ended t.form t.held t.offset t.current q in
+    c.self.inside.ended t.same q in
     let new : HeldSamples = record {
       form = room.form;
       samples = c.extend_from_slice.new.self;
@@ -62,8 +59,8 @@ pub invariant_of-self-2 : goal.invariant_of-self-2
 invariant_of-self-2 c =
     let room = c.take_places.new.self in
     let t = c.take_places.ensures in
-    let s = t.sound in
-    let knows = t.sizes (c.make_room.ensures.sizes c.self.invariant.sizes) in
+    let s = t.same.sound in
+    let knows = t.sizes (c.make_room.ensures.needed.sizes c.self.invariant.1) in
     let items = c.in_ok-extend_from_slice.ensures.items in
     let new : HeldSamples = record {
       form = room.form;
@@ -75,14 +72,13 @@ invariant_of-self-2 c =
       sizes = room.sizes;
     } in
     let few = rw (← c.self.view_is) at c.requires in
-    let number = c.make_room.ensures.number in
-    let offset = t.offset in
-    let held = ap length t.held in
+    let number = c.make_room.ensures.needed.number in
+    let offset = t.same.offset in
+    let held = ap length t.same.held in
     let long = ap length items ∙ length-append room.samples.items c.args.samples.now in
-    let more = sized_more room.samples.items c.args.samples.now in
-    record {
-      sound = sound_more room new c.args.samples.now s refl refl refl refl items (omega arith);
-      sizes = record {
+    let more = sized_more room.samples.items c.args.samples.now in (
+      sound_more room new c.args.samples.now s refl refl refl refl items (omega arith),
+      record {
         next = record {
           next = rw items (more (start_of room.current) (frontier_of room.current) _ _ _
               (start_within (records_of room.form) room.current (length room.samples.items) s.inside)
@@ -90,23 +86,22 @@ invariant_of-self-2 c =
               knows.next.next);
         };
         shown = rw items (more room.from room.to _ _ _ s.order s.within knows.shown);
-      };
-    }
+      },
+    )
 
 pub invariant_of-self-in_err-extend_from_slice : goal.invariant_of-self-in_err-extend_from_slice
 invariant_of-self-in_err-extend_from_slice c =
-    let s = c.take_places.ensures.sound in
-    let knows = c.take_places.ensures.sizes (c.make_room.ensures.sizes c.self.invariant.sizes) in
-    let items = c.in_err-extend_from_slice.ensures.items in
-    record {
-      sound = record {
+    let s = c.take_places.ensures.same.sound in
+    let knows = c.take_places.ensures.sizes (c.make_room.ensures.needed.sizes c.self.invariant.1) in
+    let items = c.in_err-extend_from_slice.ensures.items in (
+      record {
         number = rw items s.number;
         inside = rw items s.inside;
         order = s.order;
         within = rw items s.within;
-      };
-      sizes = record {
+      },
+      record {
         next = record { next = rw items knows.next.next };
         shown = rw items knows.shown;
-      };
-    }
+      },
+    )

@@ -51,6 +51,6 @@ returns c = λ records samples runs separators s.
           (rw (g.form, q.of_form) at canonical);
       given = held.offset + start_of held.current;
       joined = l.joined;
-      from_there = rw (c.remove_front.ensures, c.last_piece-last.ensures.held, g.held, c.start_of-start.ensures)
+      from_there = rw (c.remove_front.ensures, c.last_piece-last.ensures.same.held, g.held, c.start_of-start.ensures)
           l.from_there;
     }

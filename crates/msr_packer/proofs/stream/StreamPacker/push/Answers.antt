@@ -15,8 +15,8 @@ returns-in_err-extend_from_slice-clause-given c = λ records before runs separat
     let own = c.self.inside.held in
     let held = c.forget.new.held in
     let t = c.forget.ensures.streaming in
-    let q = packs_held records before runs separators own held false c.forget.ensures.form
-    (c.forget.ensures.holds before runs separators) (λ _. t.stays) (rw (← c.self.view_is) at s).packs in
+    let q = packs_held records before runs separators own held false c.forget.ensures.needed
+    (rw (← c.self.view_is) at s).packs in
     rw e.1 (record {
       packs = record { of_form = q.of_form; holds = rw items q.holds; stays = rw items q.stays; goes_on = q.goes_on };
       behind = rw items c.forget.ensures.behind;
@@ -49,8 +49,7 @@ returns-in_default-clause-given c = λ records before runs separators s.
       sizes = held.sizes;
     } in
     let m = packs_pushed records before runs separators own held new (c.args.sample ∷ []) false
-    c.forget.ensures.form (c.forget.ensures.holds before runs separators) t.stays refl refl refl
-    items (rw (← c.self.view_is) at s).packs in
+    c.forget.ensures.needed refl refl refl items (rw (← c.self.view_is) at s).packs in
     let growing = rw (c.as_slice-seen.ensures.value, c.frontier_of-frontier.ensures) at c.in_default.ensures.open refl
     in
     let behind = growing_few (records_of held.form) new.samples.items
@@ -78,7 +77,7 @@ invariant_of-self-in_default c =
     let behind = growing_few (records_of held.form) new.samples.items
     (frontier_of held.current) c.decide.new.self growing in
     let near = c.forget.ensures.near in
-    let number = c.forget.ensures.number in
+    let number = c.forget.ensures.needed.number in
     let allowed = rw (← c.self.view_is) at c.requires in
     let all = ap length items in
     let whole = length-append held.samples.items (c.args.sample ∷ []) in
@@ -94,7 +93,7 @@ go_on-requires-clause-sound c =
     let held = c.forget.new.held in
     let items = rw (to_z-of_z c.ranges.sample) at c.in_ok-extend_from_slice.ensures.items in
     let all = ap length items in
-    let number = c.forget.ensures.number in
+    let number = c.forget.ensures.needed.number in
     let allowed = rw (← c.self.view_is) at c.requires in
     let whole = length-append held.samples.items (c.args.sample ∷ []) in
     sound_more held _ (c.args.sample ∷ []) c.forget.ensures.streaming.sound refl refl refl refl items (omega arith)
@@ -117,8 +116,8 @@ returns-clause-given c = λ records before runs separators s.
       to = held.to;
       sizes = held.sizes;
     } in
-    let m = packs_pushed records before runs separators own held mid (c.args.sample ∷ []) false c.forget.ensures.form
-    (c.forget.ensures.holds before runs separators) t.stays refl refl refl items (rw (← c.self.view_is) at s).packs in
+    let m = packs_pushed records before runs separators own held mid (c.args.sample ∷ []) false c.forget.ensures.needed
+    refl refl refl items (rw (← c.self.view_is) at s).packs in
     let g = c.go_on.ensures in
     let end : frontier_of c.go_on.new.self.current ≡ found.step.end = ap frontier_of g.current
     ∙ c.of-next.ensures.end in
@@ -155,8 +154,8 @@ returns-clause-shown c = λ records before runs separators s.
       to = held.to;
       sizes = held.sizes;
     } in
-    let m = packs_pushed records before runs separators own held mid (c.args.sample ∷ []) false c.forget.ensures.form
-    (c.forget.ensures.holds before runs separators) t.stays refl refl refl items (rw (← c.self.view_is) at s).packs in
+    let m = packs_pushed records before runs separators own held mid (c.args.sample ∷ []) false c.forget.ensures.needed
+    refl refl refl items (rw (← c.self.view_is) at s).packs in
     let g = c.go_on.ensures in
     shown_if_any (before ++ c.args.sample ∷ []) _ _ c.go_on.result
     (g.given.shows (before ++ c.args.sample ∷ []) runs separators

@@ -1,4 +1,4 @@
-use Rattle.std.proofs.Common.{◌∙◌, ap, refl, rules, arith, List, ◌+◌, ◌*◌, ◌++◌, length}
+use Rattle.std.proofs.Common.{refl, rules, arith, List, ◌+◌, ◌*◌, ◌++◌, length}
 use Rattle.msr_report.specs.declared.report.SegmentLine.{SegmentLine}
 use Rattle.msr_report_reader.specs.declared.draft.Draft.{Draft}
 use Rattle.msr_report_reader.specs.Content.{lines_before}
@@ -10,12 +10,10 @@ use Rattle.msr_report_reader.proofs.draft.Draft.read_number.Goals as goal
 pub returns-in_default : goal.returns-in_default
 returns-in_default c = λ expected.
     let segments : List SegmentLine = c.args.self.now.segments.items in
-    let line = c.line_after.ensures.line
-    ∙ ap (λ (ss : List SegmentLine). 1 + lines_before c.args.first.kinds + 2 * length ss) c.as_slice.ensures.value in
     refused c.args.self.now _ c.args.text.now c.may_be_number.result c.args.text.now (1 + c.line_after.result) c.refuse.result refl
     (λ past more follows enough. at_number (past ++ (c.args.text.now ++ more))
     (2 + lines_before c.args.first.kinds + 2 * length segments)
-    (1 + c.line_after.result) (omega (arith, line)) (number_fault c.args.first segments c.args.line
+    (1 + c.line_after.result) (omega (arith, c.line_after.ensures.line)) (number_fault c.args.first segments c.args.line
     c.args.self.now.numbers.items c.may_be_number.result past c.args.text.now more
     (read_to c.args.self.now (Number c.args.first c.args.line) past expected follows)
     (λ n x small is. c.may_be_number.ensures n more x small is) enough c.in_default.ensures.only))

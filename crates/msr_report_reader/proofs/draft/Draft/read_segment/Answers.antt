@@ -1,4 +1,4 @@
-use Rattle.std.proofs.Common.{◌∙◌, ap, refl, rules, ◌||◌, Bool, List, ◌+◌, ◌*◌, ◌++◌, length}
+use Rattle.std.proofs.Common.{refl, rules, ◌||◌, Bool, List, ◌+◌, ◌*◌, ◌++◌, length}
 use Rattle.msr_report.specs.declared.report.SegmentLine.{SegmentLine}
 use Rattle.msr_report_reader.specs.Content.{lines_before}
 use Rattle.msr_report_reader.specs.declared.draft.Expected.TheVariants.{Segment}
@@ -21,13 +21,10 @@ pub returns : goal.returns
 returns c = λ expected.
     let segments : List SegmentLine = c.args.self.now.segments.items in
     let begins : Bool = c.may_begin.result || c.may_begin-2.result in
-    let line = c.line_after.ensures.line
-    ∙ ap (λ (ss : List SegmentLine). 1 + lines_before c.args.first.kinds + 2 * length ss) c.as_slice-2.ensures.value
-    in
     refused c.args.self.now _ c.args.text.now begins c.args.text.now c.line_after.result c.refuse.result refl
     (λ past more follows enough. at_number (past ++ (c.args.text.now ++ more))
     (1 + lines_before c.args.first.kinds + 2 * length segments)
-    c.line_after.result line (segment_fault c.args.first segments begins past c.args.text.now more
+    c.line_after.result c.line_after.ensures.line (segment_fault c.args.first segments begins past c.args.text.now more
     (read_to c.args.self.now (Segment c.args.first) past expected follows).0
     (λ x is. one_of c.may_begin.result c.may_begin-2.result (c.may_begin.ensures more x is))
     (λ x is. other_of c.may_begin.result c.may_begin-2.result (c.may_begin-2.ensures more x is)) enough c.in_default.ensures.only

@@ -1,8 +1,8 @@
 use Rattle.std.proofs.Common.{List, ℤ, ◌++◌, inl, inr, refl, sym, subst, ap, ◌∙◌, rules, FitsSigned, w64, to_z-of_z}
-use Rattle.std.specs.Prelude.{option_map, None}
+use Rattle.std.specs.Prelude.{None}
 use Rattle.msr_segments.specs.Spans.{Following, Overruns}
 use Rattle.msr_segments.specs.Segments.{row_span}
-use Rattle.msr_segments.specs.Joining.{segment_at, following_of, joining_of}
+use Rattle.msr_segments.specs.Joining.{following_of, joining_of}
 use Rattle.msr_segments.proofs.SpanLemmas.{moved_joins, moved_begins, counted_joins, following_same}
 use Rattle.msr_segments.proofs.StepLaws.{pushes_grow}
 use Rattle.msr_segments.proofs.joiner.Joiner.push.Goals as goal
@@ -14,11 +14,7 @@ returns-in_default-extend_from_slice-clause-memory_only_for_more c =
     let joins = rw (c.in-Joins.is, c.len.ensures, to_z-of_z fits) at c.in-Ok.ensures.step in
     let moved = moved_joins c.self.inside.follow c.step.new.self c.self.inside.samples _ c.args.row
     c.self.invariant joins refl in
-    λ memory. rw (← c.self.view_is) (record {
-      segment = moved.segment;
-      current = moved.current;
-      continues = moved.continues;
-    })
+    λ memory. rw (← c.self.view_is, moved.current) moved.continues
 
 pub invariant_of-self-in-Joins-1 : goal.invariant_of-self-in-Joins-1
 invariant_of-self-in-Joins-1 c =
@@ -60,17 +56,14 @@ pub returns-in-Begins-clause-step : goal.returns-in-Begins-clause-step
 returns-in-Begins-clause-step c =
     let fits : FitsSigned w64 c.args.row.start = search rules in
     let begins = rw (c.in-Begins.is, c.len.ensures, to_z-of_z fits) at c.in-Ok.ensures.step in
-    let ended = c.segment_of_samples-ended.ensures
-    ∙ ap (option_map (segment_at c.replace-samples.result)) c.current.ensures in
-    rw (ended, c.replace-samples.ensures.after, c.replace-samples.ensures.value, ← c.self.view_is)
+    rw (c.finish.ensures.value, c.replace.ensures.after, c.replace.ensures.value, ← c.self.view_is)
     (inr (moved_begins c.self.inside.follow c.step.new.self c.self.inside.samples c.args.row c.self.invariant
     begins))
 
 pub returns-in-Begins-clause-segments : goal.returns-in-Begins-clause-segments
 returns-in-Begins-clause-segments c =
-    λ rows given h. pushes_grow c.args.self.now
-    (joining_of c.step.new.self c.replace-samples.new.dest) rows given c.args.row
-    c.segment_of_samples-ended.result h (returns-in-Begins-clause-step c)
+    λ rows given h. pushes_grow c.args.self.now c.replace.new.dest rows given c.args.row c.finish.result h
+    (returns-in-Begins-clause-step c)
 
 pub returns-in-Begins-clause-time_range : goal.returns-in-Begins-clause-time_range
 returns-in-Begins-clause-time_range c =

@@ -11,4 +11,5 @@ returns c = record {
   bytes = c.new-bytes.ensures;
   bytes_read = refl;
   bytes_written = refl;
+  unopened = refl;
 }

@@ -6,7 +6,8 @@ use Rattle.msr_kinds.specs.declared.storage.Version.TheVariants.{One, Two}
 use Rattle.msr_words.specs.Fit.{most_counted}
 use Rattle.msr_words.specs.Laws.{room_of}
 use Rattle.msr_words.specs.Segment.{points}
-use Rattle.msr_words.specs.Lemmas.KindLaws.{fit_by_width, size_kind}
+use Rattle.msr_words.specs.Lemmas.KindLaws.{size_kind}
+use Rattle.msr_words.proofs.AnyKind.{fit_by_width}
 use Rattle.msr_words.proofs.Runs.{integers_points, length-points_before}
 use Rattle.msr_words.proofs.kinds.KindFitting.fits.Goals as goal
 

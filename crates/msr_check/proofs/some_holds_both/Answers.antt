@@ -1,9 +1,0 @@
-use Rattle.msr_words.specs.Fit.{records_of}
-use Rattle.msr_check.proofs.HoldsBoth.{none_says}
-use Rattle.msr_check.proofs.some_holds_both.Goals as goal
-
-pub returns : goal.returns
-returns c =
-    none_says (records_of c.args.form) c.args.samples.now c.args.first c.args.second c.requires.order
-    c.requires.within
-    _ _ _ _ c.holds_both.ensures c.holds_both-2.ensures c.holds_both-3.ensures c.steim_holds_both.ensures
