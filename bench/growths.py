@@ -84,24 +84,37 @@ def begins(usual, line):
     return words[:-1] == wanted[: len(words) - 1] and is_part(wanted[len(words) - 1], words[-1])
 
 
-def is_line_right(usual, line, told, all_from_there):
+def totals_left(row):
+    """What is left of a row of totals after none, one, .. of its additions, of which sums stop at 2^64 - 1."""
+    found, lines = {}, ["left"]
+    for word in row.split()[1:]:
+        name, read, written = word.split(",")
+        files, *sums = found.get(name, (0, 0, 0))
+        found[name] = (files + 1, *(min(old + int(new), 2**64 - 1) for old, new in zip(sums, (read, written))))
+        lines.append(" ".join(["left", *(f"{it} {' '.join(map(str, counts))}" for it, counts in found.items())]))
+    return lines
+
+
+def is_line_right(row, usual, line, told, all_from_there):
     """A line of a run of which a growth was refused."""
     if line == usual:
         return True
     if line in TOLD:
         return usual not in TOLD
     # An object that was refused a growth stands as it was: asked again it goes on, and ends as usual.
-    return line.startswith("left") and told and all_from_there and begins(usual, line)
+    if not (line.startswith("left") and told and all_from_there):
+        return False
+    return line in totals_left(row) if row.startswith("totals") else begins(usual, line)
 
 
-def are_lines_right(usual, lines, all_from_there):
+def are_lines_right(row, usual, lines, all_from_there):
     # A row that is not read to its end is no row.
     if lines == [NONE]:
         return True
     told = sum(it in TOLD for it in lines)
     if len(lines) != len(usual) or told > 1:
         return False
-    return all(is_line_right(wanted, line, told > 0, all_from_there) for wanted, line in zip(usual, lines))
+    return all(is_line_right(row, wanted, line, told > 0, all_from_there) for wanted, line in zip(usual, lines))
 
 
 def record(count, sequence, clock, samples):
@@ -195,7 +208,7 @@ class Bench:
             if lines[:1] != [row]:
                 return False, False, growth
             is_refused = 0 < growth <= ended[1]
-            right = are_lines_right(usual, lines[1:], all_from_there) if is_refused else lines[1:] == usual
+            right = are_lines_right(row, usual, lines[1:], all_from_there) if is_refused else lines[1:] == usual
             return right, any(it in TOLD for it in lines), ended[1]
 
         self.turn(row, once)
