@@ -8,7 +8,9 @@ use msr_kinds::Storage;
 use msr_plain::{PlainFault, SampleVec, decode_plain_into};
 use msr_steim::{Decoded, SteimFault, decode_steim_into};
 
-/// The samples of an area that stores them so, in the memory of `spare`.
+/// The samples of an area that stores them so, in the memory of `spare`. It stands apart, so that its loops over words
+/// have registers of their own.
+#[inline(never)]
 pub(crate) fn decode_area(
     spare: SampleVec,
     storage: Storage,

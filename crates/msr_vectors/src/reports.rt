@@ -9,6 +9,7 @@ use msr_devices::{Behavior, DeviceFault, TestSink, TestSource};
 use msr_output::{one_output, output_has_size, output_keeps_segments};
 use msr_report::{Report, has_text, one_text};
 use msr_report_reader::{one_report, read_report, report_in_range, report_of, text_is_read_back};
+use msr_sds::one_reading;
 use msr_tool::{
     one_refusal, one_repacking, readable_is_listed, readable_is_repacked, repacked_is_least,
     repacked_is_shown, strict_writes_the_same,
@@ -106,5 +107,6 @@ pub fn laws(words: &mut Words<'_>) -> Option<String> {
     call_report_laws();
     call_output_laws();
     call_tool_laws();
+    one_reading();
     format!(in words.alloc; "called").ok()
 }

@@ -56,10 +56,15 @@ pub fn near(words: &mut Words<'_>) -> Option<String> {
     format!(in words.alloc; "{is_near}").ok()
 }
 
-/// `path PATH`: the path of a day file of an archive, as it is written.
+/// `path PATH`: the network, station, location and channel of a day file of an archive, and its path as it is written; or
+/// why it is none.
 pub fn path(words: &mut Words<'_>) -> Option<String> {
-    SdsName::parse(words.word())
-        .ok()?
-        .path_text(words.alloc)
-        .ok()
+    let name = match SdsName::parse(words.word()) {
+        Ok(name) => name,
+        Err(fault) => return format!(in words.alloc; "{fault}").ok(),
+    };
+    let path = name.path_text(words.alloc).ok()?;
+    let (network, station) = (name.network(), name.station());
+    let (location, channel) = (name.location(), name.channel());
+    format!(in words.alloc; "{network}.{station}.{location}.{channel} {path}").ok()
 }

@@ -1,5 +1,0 @@
-//! Tests of the paths of days.
-#![tactic(auto)]
-
-#[cfg(test)]
-mod day_paths;
