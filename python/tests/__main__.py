@@ -5,6 +5,7 @@ What failed is told, then each test that was skipped, with its reason. The last 
 status is 0 if none failed, 2 if there is no program, which a line tells.
 """
 import os
+import signal
 import sys
 import unittest
 
@@ -22,6 +23,8 @@ def asked():
 
 
 def main():
+    # A shell has what it starts in the background ignore Ctrl-C, and so would each process that a test starts.
+    signal.signal(signal.SIGINT, signal.default_int_handler)
     if sys.argv[1:]:
         os.environ["MSREPACK"] = os.path.abspath(sys.argv[1])
     try:
