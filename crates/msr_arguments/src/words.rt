@@ -130,11 +130,7 @@ fn flag_in(found: &ArgMatches<'_>, name: &str) -> bool
 fn form_in(found: &ArgMatches<'_>) -> ListForm
     ensures { IsFormOf (one_text (found_of found.now) (codes "json")) result }
 {
-    if flag_in(found, "json") {
-        ListForm::Json
-    } else {
-        ListForm::Words
-    }
+    ListForm::asked(flag_in(found, "json"))
 }
 
 /// The options that clap found, with that length. The commands `list` and `compare` take none, and do not use the one

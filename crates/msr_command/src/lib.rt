@@ -10,5 +10,5 @@ mod task_fault;
 mod tasks;
 mod turns;
 
-pub use msr_options::Errors;
-pub use program::{complain, run};
+pub use msr_options::{Errors, complain};
+pub use program::run;

@@ -1,6 +1,5 @@
 //! What the program does with what it was asked: a task, or the text that is told in its place.
-ghost use Rattle.std.specs.Io.KnownBytes.{Appends};
-ghost use Rattle.std.specs.Prelude.{◌≡◌, ◌++◌, OnOk, codes, false, true};
+ghost use Rattle.std.specs.Prelude.{◌≡◌, OnOk, false, true};
 ghost use Rattle.msr_devices.specs.Device.{CanCountCall};
 ghost use Rattle.msr_command.specs.Ends.{EndsAsked, EndsText, status_of};
 ghost use Rattle.msr_command.specs.Hints.{TellsLengths, TellsPerson};
@@ -12,27 +11,12 @@ use crate::hints::{FilesRead, hint_of};
 use crate::task_fault::TaskFault;
 use crate::tasks::do_task;
 use msr_devices::{Sink, Source, write_all};
-use msr_options::{Ending, Errors, Hint, NoTask, Task, write_hint};
+use msr_options::{Ending, Errors, Hint, NoTask, Task, complain, write_complaint, write_hint};
 use msr_walk::LockFile;
 use std::alloc::Global;
 use std::io;
 use std::io::Write;
 use std::rt::Files;
-
-/// One line on standard error, for this status. If it cannot be written, the status alone tells.
-pub fn complain<E: Write>(errors: &mut E, status: u8, text: &str) -> u8
-    ensures { result ≡ status }
-{
-    write_complaint(errors, text).ok();
-    status
-}
-
-fn write_complaint<E: Write>(errors: &mut E, text: &str) -> io::Result<()>
-    ensures { OnOk result (Appends (E.contents errors.old) (E.contents errors.new)
-        (codes "msrepack: " ++ (text.now ++ codes "\n"))) }
-{
-    writeln!(errors, "msrepack: {text}")
-}
 
 /// Prints the line of a task's fault.
 fn write_fault<E: Write>(errors: &mut E, fault: &TaskFault<'_>) -> io::Result<()>

@@ -9,7 +9,7 @@ mod options;
 mod task;
 
 pub use days::DayOptions;
-pub use errors::Errors;
+pub use errors::{Errors, complain, write_complaint};
 pub use files::{hint_of_file, hint_of_folder, hint_of_report};
 pub use hint::{Hint, Side, Unopened, write_hint};
 pub use options::Options;

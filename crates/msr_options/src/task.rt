@@ -31,6 +31,22 @@ pub enum ListForm {
     Json,
 }
 
+impl ListForm {
+    ghost use Rattle.std.specs.Prelude.{◌≡◌, false, true};
+
+    /// The form of a list that is asked for in JSON, or not.
+    pub fn asked(in_json: bool) -> ListForm
+        ensures json { in_json ≡ true → result ≡ ListForm.Json }
+        ensures words { in_json ≡ false → result ≡ ListForm.Words }
+    {
+        if in_json {
+            ListForm::Json
+        } else {
+            ListForm::Words
+        }
+    }
+}
+
 /// A file whose segments are to be listed.
 #[derive(Clone, Copy, Debug)]
 pub struct Listing<'a> {
