@@ -9,6 +9,7 @@ ghost use Rattle.msr_report.specs.Text.{hex_text, byte_text, field_text};
 ghost use Rattle.msr_report_reader.specs.Fields.{AreBytes, EndsNumber, signed_len};
 
 use itoa::Buffer;
+use msr_report::number_of;
 use std::str;
 
 /// The text after the given word.
@@ -46,25 +47,6 @@ fn count_digits(text: &[u8]) -> usize
         count += 1;
     }
     count
-}
-
-/// The number that the digits are the decimal of, with no leading zeros.
-fn number_of(digits: &[u8]) -> Option<u64>
-    ensures found { IfSome result (λ n. digits.now ≡ decimal n) }
-    ensures only { (n : ℕ) → n < 2 ^ 64 → digits.now ≡ decimal n → IsSomeAnd result (λ x. x ≡ n) }
-{
-    let Ok(word) = str::from_utf8(digits) else {
-        return None;
-    };
-    let Ok(n) = word.parse::<u64>() else {
-        return None;
-    };
-    let mut buffer = Buffer::new();
-    if buffer.format(n) == word {
-        Some(n)
-    } else {
-        None
-    }
 }
 
 /// A number in decimal.
