@@ -81,6 +81,19 @@ fn shows(mut viewed: SteimSamples<'_>, samples: &[i32], agrees: bool) -> bool {
         && viewed.eq(samples.iter().copied().skip(1))
 }
 
+/// Whether the samples stand in the slice, and are shown so.
+fn are_both(
+    out: &[i32],
+    viewed: Result<SteimSamples<'_>, SteimFault>,
+    samples: &[i32],
+    agrees: bool,
+) -> bool {
+    match viewed {
+        Ok(viewed) => out == samples && shows(viewed, samples, agrees),
+        Err(_) => false,
+    }
+}
+
 /// `steim VERSION ORDER COUNT AREA`: so many samples of an area of frames and whether its reverse constant agrees; or why
 /// it has not as many.
 pub fn steim(words: &mut Words<'_>) -> Option<String> {
@@ -95,11 +108,7 @@ pub fn steim(words: &mut Words<'_>) -> Option<String> {
     match decode_steim(words.alloc, version, order, &area, count) {
         Ok(found) => {
             let (samples, agrees) = (found.samples.as_slice(), found.reverse_agrees);
-            let is_viewed = match viewed {
-                Ok(viewed) => shows(viewed, samples, agrees),
-                Err(_) => false,
-            };
-            if into != Ok(agrees) || out.as_slice() != samples || !is_viewed {
+            if into != Ok(agrees) || !are_both(&out, viewed, samples, agrees) {
                 return differ(words.alloc);
             }
             format!(in words.alloc; "{samples:?} {agrees}").ok()

@@ -11,7 +11,8 @@ use crate::words::{NONE, Words};
 use msr_base::SampleVec;
 use msr_folders::Totals;
 use msr_packer::{Piece, StreamPacker};
-use msr_segments::{Joiner, Segment};
+use msr_record::Row;
+use msr_segments::{JoinFault, Joiner, Segment};
 use msr_time::is_instant;
 use std::alloc::AllocError;
 use std::io;
@@ -132,6 +133,26 @@ fn put_segment(rt: &HostRuntime, ended: Option<Segment>) -> io::Result<()> {
     }
 }
 
+/// Joins a row, and once more if memory is refused, which `refused` tells from then on; or passes over one that no joiner
+/// takes.
+fn join_twice(
+    joiner: &mut Joiner,
+    row: Row,
+    refused: &mut bool,
+) -> Result<Option<Segment>, JoinFault> {
+    let count = row.samples.len();
+    if count < 1 || count > 65_535 || !is_instant(row.start) {
+        return Ok(None);
+    }
+    match joiner.push(row) {
+        Ok(ended) => Ok(ended),
+        Err(fault) => {
+            *refused = true;
+            joiner.push(fault.row)
+        }
+    }
+}
+
 /// `joins FACTOR,MULTIPLIER,START,COUNT ..`: the starts and the numbers of samples of the segments of rows, each of which
 /// is handed back if memory is refused.
 fn joins(rt: &HostRuntime, words: &mut Words<'_>) -> io::Result<()> {
@@ -142,20 +163,10 @@ fn joins(rt: &HostRuntime, words: &mut Words<'_>) -> io::Result<()> {
     let mut refused = false;
     print!(rt; "left")?;
     for row in rows {
-        let count = row.samples.len();
-        if count < 1 || count > 65_535 || !is_instant(row.start) {
-            continue;
-        }
-        match joiner.push(row) {
-            Ok(ended) => put_segment(rt, ended)?,
-            Err(fault) => {
-                refused = true;
-                match joiner.push(fault.row) {
-                    Ok(ended) => put_segment(rt, ended)?,
-                    Err(_) => break,
-                }
-            }
-        }
+        let Ok(ended) = join_twice(&mut joiner, row, &mut refused) else {
+            break;
+        };
+        put_segment(rt, ended)?;
     }
     put_segment(rt, joiner.finish())?;
     println!(rt; "\nrefused {refused}")

@@ -1,6 +1,5 @@
 //! Rows that join, and records that are read or compared, whose bytes come little by little.
 
-ghost use Rattle.std.specs.Prelude.{◌≤◌};
 ghost use Rattle.msr_devices.specs.Device.{CanCountCall, CountsFew};
 
 use crate::records::record_of;
@@ -11,12 +10,15 @@ use msr_devices::{Behavior, Source, TestSource};
 use msr_fixtures::key_at;
 use msr_input::{NextRecord, ReadFault, RowReader, Settings};
 use msr_record::{Kind, Row};
-use msr_segments::{Follow, JoinKind, Joiner, Step};
+use msr_segments::{Follow, JoinKind, Joiner, OutOfRange, Segment, Step};
 use msr_time::{Rate, is_instant};
 use std::alloc::Global;
 
-/// The tolerance of all rows of tables, in microseconds.
+/// The tolerance of rows of tables, in microseconds.
 pub const TOLERANCE: u32 = 1000;
+
+/// That of rows that read an input.
+const INPUT_TOLERANCE: u32 = 10_000;
 
 /// A row of samples of 0, `FACTOR,MULTIPLIER,START,COUNT`.
 fn row_of(alloc: Global, word: &str) -> Option<Row> {
@@ -44,6 +46,32 @@ pub fn rows_of(words: &mut Words<'_>) -> Option<Vec<Row>> {
     Some(rows)
 }
 
+/// What a follower says of the next row, the segment that the row ends, and whether the joiner does what was said.
+fn join(
+    follow: &mut Follow,
+    joiner: &mut Joiner,
+    row: Row,
+    is_first: bool,
+) -> Option<(Result<Step, OutOfRange>, Option<Segment>, bool)> {
+    let (start, count) = (row.start, row.samples.len());
+    if count < 1 || count > 65_535 || !is_instant(start) {
+        return None;
+    }
+    let step = follow.step(&row.key, start, count as u16);
+    match joiner.push(row) {
+        Ok(ended) => {
+            let begins = step == Ok(Step::Begins) && !is_first;
+            let is_same = step.is_ok() && ended.is_some() == begins;
+            Some((step, ended, is_same))
+        }
+        Err(fault) if fault.kind == JoinKind::TimeRange => {
+            let is_back = fault.row.start == start && fault.row.samples.len() == count;
+            Some((step, None, step.is_err() && is_back))
+        }
+        Err(_) => None,
+    }
+}
+
 /// `join FACTOR,MULTIPLIER,START,COUNT ..`: what each row does, and the starts and the numbers of samples of the segments.
 pub fn joined(words: &mut Words<'_>) -> Option<String> {
     let alloc = words.alloc;
@@ -52,28 +80,13 @@ pub fn joined(words: &mut Words<'_>) -> Option<String> {
     let mut steps = Vec::new(alloc);
     let mut segments = Vec::new(alloc);
     for row in rows_of(words)? {
-        let (start, count) = (row.start, row.samples.len());
-        if count < 1 || count > 65_535 || !is_instant(start) {
-            return None;
-        }
-        let step = follow.step(&row.key, start, count as u16);
-        steps.push(step).ok()?;
-        let is_same = match joiner.push(row) {
-            Ok(ended) => {
-                let begins = step == Ok(Step::Begins) && steps.len() > 1;
-                let is_same = step.is_ok() && ended.is_some() == begins;
-                if let Some(segment) = ended {
-                    segments.push((segment.start, segment.samples.len())).ok()?;
-                }
-                is_same
-            }
-            Err(fault) if fault.kind == JoinKind::TimeRange => {
-                step.is_err() && fault.row.start == start && fault.row.samples.len() == count
-            }
-            Err(_) => return None,
-        };
+        let (step, ended, is_same) = join(&mut follow, &mut joiner, row, steps.is_empty())?;
         if !is_same {
             return differ(alloc);
+        }
+        steps.push(step).ok()?;
+        if let Some(segment) = ended {
+            segments.push((segment.start, segment.samples.len())).ok()?;
         }
     }
     if let Some(last) = joiner.finish() {
@@ -221,11 +234,10 @@ fn add_outline<R: Source>(reader: &mut RowReader, source: &mut R, told: &mut Tol
 }
 
 /// The rows of at most three records without their samples.
-fn outlined(alloc: Global, settings: Settings, bytes: &[u8], behavior: Behavior) -> Option<Told>
-    requires { (1 ≤ settings.tolerance) × (settings.tolerance ≤ 1_000_000) }
-{
+fn outlined(alloc: Global, strict: bool, bytes: &[u8], behavior: Behavior) -> Option<Told> {
     let mut source = TestSource::new(bytes, behavior);
-    let mut reader = RowReader::new(alloc, settings);
+    let tolerance = INPUT_TOLERANCE;
+    let mut reader = RowReader::new(alloc, Settings { tolerance, strict });
     let mut told = Told::new(alloc);
     add_outline(&mut reader, &mut source, &mut told)?;
     add_outline(&mut reader, &mut source, &mut told)?;
@@ -237,14 +249,13 @@ fn outlined(alloc: Global, settings: Settings, bytes: &[u8], behavior: Behavior)
 /// At most three records, what is told after them, and the counts before that.
 fn recorded(
     alloc: Global,
-    settings: Settings,
+    strict: bool,
     bytes: &[u8],
     behavior: Behavior,
-) -> Option<(Told, Told, Counts)>
-    requires { (1 ≤ settings.tolerance) × (settings.tolerance ≤ 1_000_000) }
-{
+) -> Option<(Told, Told, Counts)> {
     let mut source = TestSource::new(bytes, behavior);
-    let mut reader = RowReader::new(alloc, settings);
+    let tolerance = INPUT_TOLERANCE;
+    let mut reader = RowReader::new(alloc, Settings { tolerance, strict });
     let mut told = Told::new(alloc);
     add_record(&mut reader, &mut source, &mut told)?;
     add_record(&mut reader, &mut source, &mut told)?;
@@ -267,14 +278,11 @@ fn is_told_again(told: &Told, again: &Told) -> bool {
 /// again; and how many records were read, were empty, and had another reverse constant.
 pub fn read(words: &mut Words<'_>) -> Option<String> {
     let alloc = words.alloc;
-    let settings = Settings {
-        tolerance: 10_000,
-        strict: words.word() == "strict",
-    };
+    let strict = words.word() == "strict";
     let behavior = behavior(words)?;
     let bytes = bytes_of(alloc, words.rest)?;
-    let outlines = outlined(alloc, settings, &bytes, behavior)?;
-    let (told, again, counts) = recorded(alloc, settings, &bytes, behavior)?;
+    let outlines = outlined(alloc, strict, &bytes, behavior)?;
+    let (told, again, counts) = recorded(alloc, strict, &bytes, behavior)?;
     if !told.has_rows(&outlines) || !is_told_again(&told, &again) {
         return differ(alloc);
     }

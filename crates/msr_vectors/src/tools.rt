@@ -63,37 +63,76 @@ struct Asked<'a> {
     told: &'a [u8],
 }
 
-/// Why the call stops, if it does, and how many records and how much text it wrote, if they are first parts of what they
-/// are to be.
-fn ended(
-    alloc: Global,
-    asked: &Asked<'_>,
-    devices: Devices<'_>,
-) -> Option<(Option<ToolFault>, usize, usize)> {
+/// Why a call stops, if it does, and how many bytes of records and of text it wrote.
+type Ended = (Option<ToolFault>, usize, usize);
+
+/// How many bytes a sink holds, if they are a first part of what it is to hold.
+fn part_of(sink: &TestSink, whole: &[u8]) -> Option<usize> {
+    let held = sink.bytes();
+    whole.starts_with(held).then_some(held.len())
+}
+
+/// A call that reads records and writes records.
+fn packed(alloc: Global, asked: &Asked<'_>, devices: Devices<'_>) -> Option<Ended> {
     let mut records = TestSource::new(asked.records, devices.behavior("records"));
-    let mut report = TestSource::new(asked.report, devices.behavior("report"));
+    let mut written = devices.sink(alloc, "written");
+    let fault = match asked.call {
+        "repack" => repack(alloc, &mut records, &mut written, asked.options).err(),
+        _ => feed(alloc, &mut records, &mut written, asked.options).err(),
+    };
+    Some((fault, part_of(&written, asked.written)?, 0))
+}
+
+/// A call that writes the text of a report, too.
+fn reported(alloc: Global, asked: &Asked<'_>, devices: Devices<'_>) -> Option<Ended> {
+    let mut records = TestSource::new(asked.records, devices.behavior("records"));
     let mut written = devices.sink(alloc, "written");
     let mut told = devices.sink(alloc, "told");
     let options = asked.options;
     let fault = match asked.call {
-        "repack" => repack(alloc, &mut records, &mut written, options).err(),
-        "feed" => feed(alloc, &mut records, &mut written, options).err(),
-        "list" => list_segments(alloc, &mut records, &mut told, options, ListForm::Words).err(),
-        "check" => check_packed(alloc, &mut records, &mut report).err(),
         "repack_and_report" => {
             repack_and_report(alloc, &mut records, &mut written, &mut told, options).err()
         }
-        "feed_and_report" => {
-            feed_and_report(alloc, &mut records, &mut written, &mut told, options).err()
-        }
-        "check_and_tell" => check_and_tell(alloc, &mut records, &mut report, &mut told).err(),
-        _ => return None,
+        _ => feed_and_report(alloc, &mut records, &mut written, &mut told, options).err(),
     };
-    let (written, told) = (written.bytes(), told.bytes());
-    if asked.written.starts_with(written) && asked.told.starts_with(told) {
-        Some((fault, written.len(), told.len()))
-    } else {
-        None
+    let written = part_of(&written, asked.written)?;
+    Some((fault, written, part_of(&told, asked.told)?))
+}
+
+/// The call that lists segments.
+fn listed(alloc: Global, asked: &Asked<'_>, devices: Devices<'_>) -> Option<Ended> {
+    let mut records = TestSource::new(asked.records, devices.behavior("records"));
+    let mut told = devices.sink(alloc, "told");
+    let form = ListForm::Words;
+    let fault = list_segments(alloc, &mut records, &mut told, asked.options, form).err();
+    Some((fault, 0, part_of(&told, asked.told)?))
+}
+
+/// The call that checks records by their report.
+fn checked(alloc: Global, asked: &Asked<'_>, devices: Devices<'_>) -> Ended {
+    let mut records = TestSource::new(asked.records, devices.behavior("records"));
+    let mut report = TestSource::new(asked.report, devices.behavior("report"));
+    (check_packed(alloc, &mut records, &mut report).err(), 0, 0)
+}
+
+/// The call that writes what it checks, too.
+fn verdict_told(alloc: Global, asked: &Asked<'_>, devices: Devices<'_>) -> Option<Ended> {
+    let mut records = TestSource::new(asked.records, devices.behavior("records"));
+    let mut report = TestSource::new(asked.report, devices.behavior("report"));
+    let mut told = devices.sink(alloc, "told");
+    let fault = check_and_tell(alloc, &mut records, &mut report, &mut told).err();
+    Some((fault, 0, part_of(&told, asked.told)?))
+}
+
+/// What comes of the call, if what it wrote are first parts of what it is to write.
+fn ended(alloc: Global, asked: &Asked<'_>, devices: Devices<'_>) -> Option<Ended> {
+    match asked.call {
+        "repack" | "feed" => packed(alloc, asked, devices),
+        "repack_and_report" | "feed_and_report" => reported(alloc, asked, devices),
+        "list" => listed(alloc, asked, devices),
+        "check" => Some(checked(alloc, asked, devices)),
+        "check_and_tell" => verdict_told(alloc, asked, devices),
+        _ => None,
     }
 }
 
@@ -200,9 +239,6 @@ pub fn memory(words: &mut Words<'_>) -> Option<String> {
     let (plain, steim, record) = (PlainFault::Memory, SteimFault::Memory, FaultKind::Memory);
     let (read, report) = (ReadFault::from(DeviceFault::Memory), ReportFault::Memory);
     let tool = ToolFault::Memory;
-    format!(in words.alloc;
-        "{plain}, {steim}, {record}, {read}, {report}, {tool}, status {}",
-        tool.status()
-    )
-    .ok()
+    let text = format!(in words.alloc; "{plain}, {steim}, {record}, {read}, {report}").ok()?;
+    format!(in words.alloc; "{text}, {tool}, status {}", tool.status()).ok()
 }
