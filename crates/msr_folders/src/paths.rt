@@ -51,30 +51,7 @@ pub fn folder_of(path: &str) -> &str
     }
 }
 
-/// A character of a path as it is printed: a line feed in a name would begin another line.
-#[derive(Clone, Copy)]
-struct ShownLetter {
-    letter: char,
-}
-
-impl fmt::Display for ShownLetter {
-    ghost use Rattle.std.specs.Prelude.{Some};
-    ghost use Rattle.msr_folders.specs.Paths.{shown_letter};
-
-    ghost output = { λ shown. Some (shown_letter shown.letter) };
-
-    #[tactic(auto, using(std::proofs::lemmas::Fmt::hex_byte))]
-    fn fmt<W: fmt::Write>(&self, f: &mut fmt::Formatter<W>) -> fmt::Result {
-        if self.letter.is_ascii_control() {
-            let code = self.letter as u8;
-            write!(f, "%{code:02x}")
-        } else {
-            f.write_char(self.letter)
-        }
-    }
-}
-
-/// A path, or the name of another file, as it is printed.
+/// A path, or the name of another file, as it is printed: a line feed in a name would begin another line.
 #[derive(Clone, Copy, Debug)]
 pub struct Shown<'a> {
     pub path: &'a str,
@@ -88,8 +65,12 @@ impl fmt::Display for Shown<'_> {
 
     fn fmt<W: fmt::Write>(&self, f: &mut fmt::Formatter<W>) -> fmt::Result {
         for letter in self.path.chars() {
-            let shown = ShownLetter { letter };
-            write!(f, "{shown}")?;
+            if letter.is_ascii_control() {
+                let code = letter as u8;
+                write!(f, "%{code:02x}")?;
+            } else {
+                f.write_char(letter)?;
+            }
         }
         Ok(())
     }

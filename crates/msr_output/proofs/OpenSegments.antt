@@ -1,5 +1,5 @@
 -- A writer in the middle of a segment.
-use Rattle.std.proofs.Common.{◌≡◌, ℕ, zero, suc, ◌+◌, ◌-◌, ◌<◌, ◌≤◌, ◌^◌, Bool, true, false, ℤ, List, [], ◌∷◌, ◌++◌, ◌∙◌, length, map, drop, arith, refl, sym, ap, subst, append_assoc, append-nil, length-append, length-take, length-drop, FitsSigned, Result, Ok, Err, MatchResult}
+use Rattle.std.proofs.Common.{◌≡◌, ℕ, ◌+◌, ◌-◌, ◌<◌, ◌≤◌, ◌^◌, Bool, true, false, ℤ, List, [], ◌∷◌, ◌++◌, ◌∙◌, length, map, drop, arith, refl, sym, ap, subst, append_assoc, append-nil, length-append, length-take, length-drop, FitsSigned, Result, Ok, Err, MatchResult}
 use Rattle.std.specs.Prelude.{All}
 use Rattle.std.specs.Int.{w32}
 use Rattle.std.specs.List.{flat_map}
@@ -14,7 +14,7 @@ use Rattle.msr_words.specs.Packing.{IsCanonical}
 use Rattle.msr_kinds.specs.declared.forms.Form.{Form}
 use Rattle.msr_kinds.specs.Lengths.{bytes_of}
 use Rattle.msr_packer.specs.Blocks.{Holding, Packs, pushed}
-use Rattle.msr_packer.specs.HeldSamples.{Shows, before_place}
+use Rattle.msr_packer.specs.HeldSamples.{Shows}
 use Rattle.msr_packer.specs.declared.held.Piece.{Piece}
 use Rattle.msr_packer.proofs.PackingsExist.{HasRest}
 use Rattle.msr_packer.proofs.Holding.{begins_all, begins_rest}

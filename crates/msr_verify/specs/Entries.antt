@@ -1,8 +1,7 @@
 -- The entries of a walk: what was found of each, its line, and what they sum up to.
-use Rattle.std.specs.Prelude.{◌≡◌, ℕ, ⊤, Bool, true, false, List, [], ◌∷◌, ◌++◌, codes, Result, Ok, Err}
+use Rattle.std.specs.Prelude.{◌≡◌, ℕ, ⊤, Bool, true, false, List, ◌++◌, codes, Result, Ok, Err}
 use Rattle.std.specs.List.{count_by}
 use Rattle.msr_sds.specs.SdsPath.{SdsPath, ReadsAsDay}
-use Rattle.msr_sds.specs.declared.SdsFault.{SdsFault}
 use Rattle.msr_folders.specs.Totals.{saturated}
 use Rattle.msr_folders.specs.Days.{IsNoDay}
 use Rattle.msr_folders.specs.Paths.{shown_path}

@@ -1,6 +1,5 @@
 use Rattle.std.proofs.Common.{◌≡◌, ℤ, arith, length, map, subst, sym, take}
 use Rattle.msr_words.specs.Groups.{AreGroupSizes}
-use Rattle.msr_words.specs.Segment.{run_points}
 use Rattle.msr_filling.specs.GroupWords.{AreGroupWords}
 use Rattle.msr_packer.proofs.ToldSizes.{points_of_run}
 use Rattle.msr_vectors.proofs.filling.are_alike.Goals as goal

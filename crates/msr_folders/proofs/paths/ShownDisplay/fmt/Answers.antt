@@ -1,6 +1,7 @@
-use Rattle.std.proofs.Common.{◌≡◌, ℕ, List, [], ◌∷◌, ◌++◌, ◌∙◌, ap, sym, append-nil, rules}
+use Rattle.std.proofs.Common.{◌≡◌, ℕ, List, [], ◌∷◌, ◌++◌, ◌∙◌, ap, sym, append-nil, arith, rules}
 use Rattle.std.proofs.Output.{has_written_append, has_written_of_eq}
-use Rattle.std.proofs.lemmas.Grind.{flat_map-append}
+use Rattle.std.proofs.lemmas.Fmt.{hex_byte}
+use Rattle.std.proofs.lemmas.Grind.{common_steps, flat_map-append}
 use Rattle.std.proofs.lemmas.Iterator.{YieldsList-from_chars}
 use Rattle.std.proofs.lemmas.Iterator.Consumers.{YieldsList-end}
 use Rattle.std.proofs.lemmas.List.{map-id}
@@ -15,19 +16,20 @@ one_more : (letters : List ℕ) (letter : ℕ)
 one_more letters letter =
     rw (flat_map-append shown_letter letters (letter ∷ []), append-nil (shown_letter letter)) cc
 
+-- a control character more
+pub loop-letter-preserved-in-Continue-1 : goal.loop-letter-preserved-in-Continue-1
+loop-letter-preserved-in-Continue-1 g c = λ plain.
+    has_written_of_eq _ _ _ _ _ (one_more c.loop-letter.yielded c.in-Some.letter)
+    (has_written_append _ _ _ _ _ _ (c.loop-letter.invariant plain) (grind (arith, hex_byte)))
+
 pub loop-letter-preserved : goal.loop-letter-preserved
 loop-letter-preserved g c = λ plain.
-    let so_far = c.loop-letter.invariant plain in
-    let letter = c.in-Some.letter in (
-      so_far.0 ++ shown_letter letter,
-      has_written_append _ _ _ _ _ _ so_far.1 (search rules),
-      ap (λ (text : List ℕ). text ++ shown_letter letter) so_far.2 ∙ one_more c.loop-letter.yielded letter,
-    )
+    has_written_of_eq _ _ _ _ _ (one_more c.loop-letter.yielded c.in-Some.letter)
+    (has_written_append _ _ _ _ _ _ (c.loop-letter.invariant plain) (grind (arith, common_steps)))
 
 pub returns-clause-writes : goal.returns-clause-writes
 returns-clause-writes g c = λ plain _.
-    let so_far = c.loop-letter.invariant plain in
     let t = YieldsList-end (YieldsList-from_chars c.args.self.now.path.now (search rules) cc) c.loop-letter.yielded _
     c.loop-letter.yielded_by _ _ c.in-None.is c.next.ensures.steps in
     let all : c.loop-letter.yielded ≡ chars c.args.self.now.path.now = sym (map-id c.loop-letter.yielded) ∙ t.0 in
-    has_written_of_eq _ _ _ _ _ (so_far.2 ∙ ap (flat_map shown_letter) all) so_far.1
+    has_written_of_eq _ _ _ _ _ (ap (flat_map shown_letter) all) (c.loop-letter.invariant plain)

@@ -1,4 +1,3 @@
-use Rattle.std.proofs.Common.{◌≡◌, ℕ, List}
 use Rattle.std.specs.Fmt.{HasWritten, IsPlainFormatter}
 use Rattle.std.specs.List.{flat_map}
 use Rattle.msr_folders.specs.Paths.{shown_letter}
@@ -6,5 +5,5 @@ use Rattle.msr_folders.proofs.paths.ShownDisplay.fmt.Given as goal
 
 abbrev pub invariant-loop-letter : goal.invariant-loop-letter
 invariant-loop-letter g l =
-    IsPlainFormatter l.initial.f → (done : List ℕ)
-    × HasWritten g.W.Write.write_str_gives l.initial.f done l.f × (done ≡ flat_map shown_letter l.yielded)
+    IsPlainFormatter l.initial.f
+    → HasWritten g.W.Write.write_str_gives l.initial.f (flat_map shown_letter l.yielded) l.f

@@ -1,4 +1,4 @@
-use Rattle.std.proofs.Common.{◌≡◌, ◌+◌, ◌++◌, ◌∷◌, [], ◌∙◌, length, arith, refl, ap, append-nil, length-append, false, to_z-of_z}
+use Rattle.std.proofs.Common.{◌≡◌, ◌++◌, ◌∷◌, [], ◌∙◌, length, arith, refl, ap, append-nil, length-append, false, to_z-of_z}
 use Rattle.std.proofs.lemmas.Result.{err_from_is_err_and}
 use Rattle.msr_packer.specs.HeldSamples.{Stays, frontier_of}
 use Rattle.msr_packer.specs.declared.held.HeldSamples.{HeldSamples}
