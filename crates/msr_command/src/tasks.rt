@@ -117,11 +117,7 @@ fn repack_file<'a, R: Files, I: Source, O: Sink>(
     ensures { RepacksNamed asked.entry.options asked.entry.input.now
         (I.device input.old) (O.device output.old) (O.device output.new) result }
 {
-    let Repacking {
-        options,
-        input: name,
-        output: to,
-    } = asked;
+    let (options, name, to) = (asked.options, asked.input, asked.output);
     if name == "-" {
         return repack_from(rt, alloc, options, to, standard_input(rt)?, input, output);
     }
@@ -244,11 +240,7 @@ fn list_file<'a, R: Files, I: Source, O: Sink>(
     ensures { ListsNamed asked.entry.form asked.entry.options asked.entry.input.now (I.device input.old)
         (O.device output.old) (O.device output.new) result }
 {
-    let Listing {
-        options,
-        form,
-        input: name,
-    } = asked;
+    let (options, form, name) = (asked.options, asked.form, asked.input);
     if name == "-" {
         standard_input(rt)?;
         return list_from(alloc, options, form, input, output);

@@ -68,19 +68,24 @@ pub enum Comparison {
 }
 
 impl Comparison {
-    ghost use Rattle.std.specs.Prelude.{◌≡◌};
+    ghost use Rattle.std.specs.Prelude.{◌≡◌, false, true};
     ghost use Rattle.msr_compare.specs.declared.comparison.SameSegments.{SameSegments as Told};
     ghost use Rattle.msr_compare.specs.declared.comparison.Difference.{Difference as Found};
+
+    /// Whether the two inputs have the same segments.
+    pub fn is_same(&self) -> bool
+        ensures same { (told : Told) → self.now ≡ Comparison.Same told → result ≡ true }
+        ensures differ { (difference : Found) → self.now ≡ Comparison.Differ difference → result ≡ false }
+    {
+        matches!(self, Comparison::Same(_))
+    }
 
     /// The exit status of a program that ends with this answer.
     pub fn status(&self) -> u8
         ensures same { (told : Told) → self.now ≡ Comparison.Same told → result ≡ 0 }
         ensures differ { (difference : Found) → self.now ≡ Comparison.Differ difference → result ≡ 3 }
     {
-        match self {
-            Comparison::Same(_) => 0,
-            Comparison::Differ(_) => 3,
-        }
+        if self.is_same() { 0 } else { 3 }
     }
 }
 

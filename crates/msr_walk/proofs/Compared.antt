@@ -24,6 +24,10 @@ told_by (Ok (Differ difference)) = Err Differs
 told_by (Err (One why)) = Err (fault_of_comparing why)
 told_by (Err (Other why)) = Err (fault_of_comparing why)
 
+pub told_apart : (found : Comparison) → ((told : SameSegments) → found ≡ Same told → ⊥) → told_by (Ok found) ≡ Err Differs
+told_apart (Same told) not_same = absurd (not_same told refl)
+told_apart (Differ difference) not_same = refl
+
 -- any other answer about the inputs says that their segments are not the same
 not_same : (settings : Settings) (one other : List ℕ) (answer : Result Comparison CompareFault) → IsOfInputs answer
     → CompareAnswers settings one other answer
@@ -69,14 +73,14 @@ told_failure (Err (Other read.Read)) P Q one other e = inr (other.0 refl)
 told_failure (Err (Other read.Memory)) P Q one other e = absurd cc
 
 pub compared : (choice : Choice) (tolerance : ℕ) (file0 file records0 records : Device) (input written : List ℕ)
-    (answer : Result Comparison CompareFault) → tolerance ≡ choice.tolerance
-    → HasLeft file0 input → HasLeft records0 written
+    (answer : Result Comparison CompareFault) (told : Result (Unit {0}) DayFault) → told_by answer ≡ told
+    → tolerance ≡ choice.tolerance → HasLeft file0 input → HasLeft records0 written
     → CompareAnswers (record { tolerance = tolerance; strict = false }) input written answer
     → IsErrOf answer (One read.Read) ↔ HasFailed file0 file
     → IsErrOf answer (Other read.Read) ↔ HasFailed records0 records
-    → ComparesDay choice file0 file records0 records (told_by answer)
-compared choice tolerance file0 file records0 records input written answer by left left_records answers one other =
-    record {
+    → ComparesDay choice file0 file records0 records told
+compared choice tolerance file0 file records0 records input written answer told is by left left_records answers one other =
+    subst (ComparesDay choice file0 file records0 records) is (record {
       input = input;
       written = written;
       left = left;
@@ -87,4 +91,4 @@ compared choice tolerance file0 file records0 records input written answer by le
         told_failure answer (HasFailed file0 file) (HasFailed records0 records) one other,
         told_back answer (HasFailed file0 file) (HasFailed records0 records) one other,
       );
-    }
+    })

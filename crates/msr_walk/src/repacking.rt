@@ -7,7 +7,7 @@ ghost use Rattle.msr_folders.specs.Totals.{saturated};
 ghost use Rattle.msr_walk.specs.Day.{ComparesDay, IsReportKept, IsShown, RepacksDay, fault_of_checking, fault_of_comparing};
 
 use crate::outcome::{DayFault, Repacked};
-use msr_compare::{CompareFault, Comparison, compare};
+use msr_compare::{CompareFault, compare};
 use msr_devices::{DeviceFault, ReadBuffer};
 use msr_header::{read_header, record_length};
 use msr_input::{ReadFault, Settings};
@@ -206,8 +206,8 @@ pub(crate) fn require_same<P: Source, Q: Source>(
         strict: false,
     };
     match compare(alloc, input, packed, settings) {
-        Ok(Comparison::Same(_)) => Ok(()),
-        Ok(Comparison::Differ(_)) => Err(DayFault::Differs),
+        Ok(found) if found.is_same() => Ok(()),
+        Ok(_) => Err(DayFault::Differs),
         Err(CompareFault::One(why)) => Err(fault_of_comparing(why)),
         Err(CompareFault::Other(why)) => Err(fault_of_comparing(why)),
     }
