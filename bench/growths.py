@@ -242,18 +242,32 @@ class Bench:
         self.turn(f"msrepack {words}", once)
 
 
+def shipped():
+    """The path of the program that ./msrepack runs; None if there is none, which standard error tells. Nothing is built."""
+    asked = [f"{ROOT}/tools/program", "--ready"]
+    told = subprocess.run(asked, stdout=subprocess.PIPE, encoding="utf-8", check=False)
+    return told.stdout.rstrip("\n") if told.returncode == 0 else None
+
+
 def main():
     words = argparse.ArgumentParser(description=__doc__.splitlines()[0])
     words.add_argument("--only", metavar="TEXT", default="")
     words.add_argument("--vectors", default=f"{CRATE}/out/msr_vectors", help="the built program of msr_vectors")
-    words.add_argument("--program", default=f"{ROOT}/msrepack", help="msrepack, as it is tried")
+    words.add_argument("--program", help="msrepack itself, else what ./msrepack runs: of a script its shell would be tried")
     given = words.parse_args()
+    vectors = os.path.abspath(given.vectors)
+    if not os.access(vectors, os.X_OK):
+        print(f"growths.py: no program {vectors}: rt run in crates/msr_vectors", file=sys.stderr)
+        return 2
+    program = given.program or shipped()
+    if program is None:
+        return 2
     found = answers()
     with tempfile.TemporaryDirectory() as folder:
         for name, data in INPUTS.items():
             with open(f"{folder}/{name}", "wb") as it:
                 it.write(data)
-        bench = Bench(os.path.abspath(given.vectors), os.path.abspath(given.program), folder)
+        bench = Bench(vectors, os.path.abspath(program), folder)
         for row in chosen(found):
             if given.only in row:
                 bench.try_row(row, found[row])
