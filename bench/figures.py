@@ -2,7 +2,7 @@
 
 A line that is not empty and does not begin with # is one of
 
-    NAME INSTRUCTIONS FAULTS KIB            what one day of that workload takes
+    NAME INSTRUCTIONS FAULTS KIB            what a tenth of that workload's day takes
     NAME rises: REASON                      lets `--write` put higher figures of it, once
     NAME rose FIGURES to FIGURES: REASON    what that line is afterwards
 """
@@ -11,8 +11,8 @@ import re
 
 Figures = collections.namedtuple("Figures", "instructions faults kib")
 TITLES = Figures("instructions", "page faults", "peak KiB")
-# How many per cent of what is kept a run may take.
-LIMITS = Figures(102, 110, 110)
+# How many per cent of what is kept a run may take. The system tells a peak of 2 MB to some 200 KB.
+LIMITS = Figures(102, 110, 150)
 
 NUMBER = r"[1-9][0-9]{0,2}(?:,?[0-9]{3})*"
 ROW = re.compile(rf"(\S+) ({NUMBER}) ({NUMBER}) ({NUMBER})")

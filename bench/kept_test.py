@@ -61,7 +61,7 @@ class Limits(unittest.TestCase):
             self.assert_last("faults", kept, last)
 
     def test_memory(self):
-        for kept, last in ((57_344, 63_078), (10, 11), (22_000, 24_200)):
+        for kept, last in ((57_344, 86_016), (10, 15), (2_119, 3_178)):
             self.assert_last("kib", kept, last)
 
     def test_how_much(self):
@@ -145,15 +145,29 @@ class Writing(unittest.TestCase):
 
 
 class Script(unittest.TestCase):
-    """The script itself over a program and a valgrind that are lines of a shell."""
+    """The script itself over days, a program and a valgrind that are lines of Python and of a shell."""
 
-    # It does its work if it is called for one day, with seed 1, and gets no huge pages.
     DAYS = """\
-#!/bin/sh
-[ "$*" = "calm 1 1" ] && ! grep -q "^THP_enabled:.*1" /proc/self/status || exit 5
-echo "calm: outputs 2 least 2 same 2 samples 8064, digest 0a"
+import collections
+DAYS = {"calm": collections.namedtuple("Day", "first second")(512, 4096)}
+def write(path, name, seed, parts):
+    with open(path, "w") as out:
+        print(name, seed, parts, file=out)
 """
-    ROOMY = "calm 1,509,000,000 1,000,000 1,000,000\n"
+    # It does its work if it is called for a tenth of a day with seed 1, and gets no huge pages.
+    PROGRAM = """\
+#!/bin/sh
+grep -qx "calm 1 10" day && ! grep -q "^THP_enabled:.*1" /proc/self/status || exit 5
+case "$*" in
+"repack --no-int24 --length 512 day first") echo first >first ;;
+"repack --no-int24 --length 4096 first second") cp first second ;;
+"check first first.txt" | "check second second.txt") echo least ;;
+"list first" | "list second") cat "$2" ;;
+"compare day first" | "compare first second") echo same segments 1 samples 302 ;;
+*) exit 6 ;;
+esac
+"""
+    ROOMY = "calm 12,000,000,000 1,000,000 1,000,000\n"
 
     def setUp(self):
         room = tempfile.TemporaryDirectory(prefix="msrepack-bench-")
@@ -162,12 +176,11 @@ echo "calm: outputs 2 least 2 same 2 samples 8064, digest 0a"
         for name in ("bench/kept", "bench/figures.py", "bench/workloads.py", "bench/day.py", "tools/built.py"):
             os.makedirs(os.path.dirname(f"{self.root}/{name}"), exist_ok=True)
             shutil.copy(f"{os.path.dirname(HERE)}/{name}", f"{self.root}/{name}")
-        self.put("bench/workloads.txt", "calm days calm 5 SEED\n")
+        self.put("bench/days.py", self.DAYS)
         self.put("bench/kept.txt", self.ROOMY)
-        self.put("crates.txt", "days: waves\nwaves:\n")
-        self.put("crates/waves/src/lib.rt", "")
-        self.put("crates/days/out/days", self.DAYS)
-        self.count(1509)
+        self.put("tools/program", f'#!/bin/sh\n[ "$*" = --ready ] && echo {self.root}/program\n')
+        self.put("program", self.PROGRAM)
+        self.count(1500)
 
     def put(self, name, text):
         os.makedirs(os.path.dirname(f"{self.root}/{name}"), exist_ok=True)
@@ -176,7 +189,7 @@ echo "calm: outputs 2 least 2 same 2 samples 8064, digest 0a"
         os.chmod(f"{self.root}/{name}", 0o755)
 
     def count(self, millions):
-        """Has valgrind count that many instructions."""
+        """Has valgrind count that many instructions of each of the eight jobs."""
         self.put("path/valgrind", VALGRIND.replace("MILLIONS", str(millions)))
 
     def kept(self, *words, path=None):
@@ -186,10 +199,10 @@ echo "calm: outputs 2 least 2 same 2 samples 8064, digest 0a"
         ran = subprocess.run(words, env=env, stdout=subprocess.PIPE, stderr=subprocess.STDOUT, text=True)
         return ran.returncode, ran.stdout
 
-    def assert_stops(self, said, *words, path=None):
+    def assert_stops(self, said, *words, path=None, status=1):
         before = self.text()
-        status, found = self.kept(*words, path=path)
-        self.assertEqual(status, 1, found)
+        ended, found = self.kept(*words, path=path)
+        self.assertEqual(ended, status, found)
         self.assertIn(said, found)
         self.assertNotIn("Traceback", found)
         self.assertEqual(self.text(), before)
@@ -201,32 +214,37 @@ echo "calm: outputs 2 least 2 same 2 samples 8064, digest 0a"
     def test_as_kept(self):
         status, said = self.kept()
         self.assertEqual((status, said.splitlines()[-1]), (0, "bench/kept: 0 of 1 workloads are beyond a limit"))
-        self.count(1539)
+        self.count(1530)
         self.assertEqual(self.kept()[0], 0)
 
     def test_beyond(self):
-        self.count(1540)
+        self.count(1531)
         for words in ((), ("--write",)):
-            self.put("bench/kept.txt", "calm 1,509,000,000 1 1\n")
-            self.assert_stops("| instructions 1.0205, page faults ", *words)
-        self.put("bench/kept.txt", "calm 1,600,000,000 1 1,000,000\n")
+            self.put("bench/kept.txt", "calm 12,000,000,000 1 1\n")
+            self.assert_stops("| instructions 1.0207, page faults ", *words)
+        self.put("bench/kept.txt", "calm 12,248,000,000 1 1,000,000\n")
         self.assert_stops("| page faults ")
-        self.put("bench/kept.txt", "calm 1,600,000,000 1,000,000 1\n")
+        self.put("bench/kept.txt", "calm 12,248,000,000 1,000,000 1\n")
         self.assert_stops("| peak KiB ")
+
+    def test_memory(self):
+        """The peak is that of the program, and not of this script, which takes more."""
+        self.put("bench/kept.txt", "calm 12,000,000,000 1,000,000 7,000\n")
+        self.assertEqual(self.kept()[0], 0)
 
     def test_write(self):
         self.count(1490)
         self.assertEqual(self.kept("--write")[0], 0)
-        self.assertRegex(self.text(), "^calm 1,490,000,000 ")
+        self.assertRegex(self.text(), "^calm 11,920,000,000 ")
         self.count(1540)
-        self.put("bench/kept.txt", "calm 1,490,000,000 1 1\n")
+        self.put("bench/kept.txt", "calm 11,920,000,000 1 1\n")
         self.assert_stops("| instructions 1.0336, page faults ", "--write")
-        self.put("bench/kept.txt", "calm 1,490,000,000 1 1\ncalm rises: a test more\n")
+        self.put("bench/kept.txt", "calm 11,920,000,000 1 1\ncalm rises: a test more\n")
         self.assert_stops("line 2: unused reason")
         status, said = self.kept("--write")
         self.assertEqual(status, 0)
-        self.assertRegex(said, "(?m)^calm rose 1,490,000,000 .* to 1,540,000,000 .*: a test more$")
-        self.assertRegex(self.text(), r"^calm 1,540,000,000 .*\ncalm rose .*: a test more\n$")
+        self.assertRegex(said, "(?m)^calm rose 11,920,000,000 .* to 12,320,000,000 .*: a test more$")
+        self.assertRegex(self.text(), r"^calm 12,320,000,000 .*\ncalm rose .*: a test more\n$")
         self.assertEqual(os.listdir(f"{self.root}/bench").count("kept.txt.new"), 0)
 
     def test_reason_without_rise(self):
@@ -236,14 +254,11 @@ echo "calm: outputs 2 least 2 same 2 samples 8064, digest 0a"
         self.assertIn("line 2: unused reason", said)
 
     def test_names(self):
-        self.put("bench/workloads.txt", "calm days calm 5 SEED\nearly days early 3 SEED\n")
-        self.assert_stops("early has no figures")
-        self.put("bench/workloads.txt", "early days calm 5 SEED\n")
+        self.put("bench/kept.txt", f"{self.ROOMY}early 1 2 3\n")
         for words in ((), ("--write",)):
-            self.assert_stops("line 1: calm is no workload", *words)
-        for text, said in (("calm\n", "line 1"), ("calm days\ncalm days\n", "line 2"), ("", "has no workload")):
-            self.put("bench/workloads.txt", text)
-            self.assert_stops(said)
+            self.assert_stops("line 2: early is no workload", *words)
+        self.put("bench/kept.txt", "")
+        self.assert_stops("calm has no figures")
 
     def test_malformed(self):
         self.put("bench/kept.txt", f"{self.ROOMY}\nearly 7\n")
@@ -255,31 +270,26 @@ echo "calm: outputs 2 least 2 same 2 samples 8064, digest 0a"
             self.assert_stops("apt-get install valgrind", *words, path=f"{self.root}/bench")
 
     def test_no_program(self):
-        os.remove(f"{self.root}/crates/days/out/days")
-        self.assert_stops("days is not built: rt run in crates/days")
-
-    def test_old_program(self):
-        os.utime(f"{self.root}/crates/days/out/days", (1, 1))
-        self.assert_stops("crates/waves/src/lib.rt is newer than")
+        self.put("tools/program", "#!/bin/sh\necho no program is built >&2\nexit 1\n")
+        for words in ((), ("--write",)):
+            self.assert_stops("no program is built", *words, status=2)
+        os.remove(f"{self.root}/tools/program")
+        self.assert_stops("no checkout of msrepack", status=2)
 
     def test_failing_program(self):
-        for body, said in (
-            ("exit 7", "ended with status 7"),
-            ("kill -9 $$", "ended with status -9"),
-            ("echo calm: no such kind of days", "did not do its work: calm: no such kind of days"),
-        ):
-            self.put("crates/days/out/days", f"#!/bin/sh\n{body}\n")
+        for body, said in (("exit 7", "ended with status 7"), ("kill -9 $$", "ended with status -9")):
+            self.put("program", f"#!/bin/sh\n{body}\n")
             for words in ((), ("--write",)):
                 self.assert_stops(said, *words)
 
     def test_work_not_done(self):
-        for said in (
-            "outputs 2 least 1 same 2 samples 1",
-            "outputs 2 least 2 same 1 samples 1",
-            "outputs 0 least 0 same 0 samples 0",
+        for done, said in (
+            ("least", "not least: fewer records"),
+            ("same segments 1 samples 302", "same segments 0 samples 0"),
+            ("same segments 1 samples 302", "different 0 0"),
         ):
-            self.put("crates/days/out/days", f"#!/bin/sh\necho 'calm: {said}, digest 0a'\n")
-            self.assert_stops("did not do its work")
+            self.put("program", self.PROGRAM.replace(f"echo {done}", f"echo {said}"))
+            self.assert_stops(f"said {said}")
 
     def test_failing_valgrind(self):
         for body in ("exit 1", "exit 0", "echo Collected : 7 >&2; exit 1"):
@@ -293,7 +303,7 @@ echo "calm: outputs 2 least 2 same 2 samples 8064, digest 0a"
         self.assertEqual(status, 1)
         self.assertIn("calm has no figures", said)
         self.assertEqual(self.kept("--write")[0], 0)
-        self.assertRegex(self.text(), "^calm 1,509,000,000 ")
+        self.assertRegex(self.text(), "^calm 12,000,000,000 ")
 
 
 if __name__ == "__main__":

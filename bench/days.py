@@ -1,0 +1,127 @@
+"""Made-up days of one channel, at 100 samples a second, as a station sends them. Nothing is by chance: a seed gives a day.
+
+A day is a swell under noise, with events that die down. Its records are those of docs/PROFILE.md, big-endian.
+"""
+import collections
+import datetime
+import struct
+
+# How far the swell reaches, how much of its period a sample takes (of 65,536 parts), how far the noise reaches, after how
+# many samples an event begins (0: none does), and after how many it has half its height.
+Shape = collections.namedtuple("Shape", "height step spread event_every half_life", defaults=(0, 0))
+# Its samples, the encoding and the bytes of a record, how many samples that has, and how many are missing after it; and
+# the lengths of the records that are packed from it, and then from these.
+Day = collections.namedtuple("Day", "shape samples encoding length each gap first second")
+
+INT16, INT32, STEIM2 = 1, 3, 11
+SAMPLES = 8_640_000
+# Microseism of some hundred counts, and an event every hour.
+CALM = Shape(400, 280, 43, 360_000, 1000)
+# A quiet vault: some ten counts.
+QUIET = Shape(30, 280, 8)
+# Swings of 24 bits that die down, over noise of some thousand counts.
+STRONG = Shape(10_000, 12, 5200, 20_000, 6000)
+# Noise within 16 bits, and white noise of 20,000 counts: a dead digitizer.
+WITHIN_16_BITS, WHITE = Shape(0, 0, 22_000), Shape(0, 0, 34_600)
+DAYS = {
+    "calm": Day(CALM, SAMPLES, INT32, 4096, 1008, 0, 512, 4096),
+    "early": Day(QUIET, SAMPLES, STEIM2, 512, 100, 0, 512, 4096),
+    "strong": Day(STRONG, SAMPLES, INT32, 4096, 1008, 0, 512, 4096),
+    "int16": Day(WITHIN_16_BITS, SAMPLES, INT16, 512, 224, 0, 512, 4096),
+    "noise": Day(WHITE, SAMPLES // 5, INT32, 4096, 1008, 0, 512, 256),
+    "pieces": Day(CALM, 20_000 * 112, STEIM2, 512, 112, 10, 512, 256),
+}
+# How many differences a word of Steim-2 holds, of how many bits, most first; its code, and the bits before them.
+LAYOUTS = ((7, 4, 3, 2), (6, 5, 3, 1), (5, 6, 3, 0), (4, 8, 1, 0), (3, 10, 2, 3), (2, 15, 2, 2), (1, 30, 2, 1))
+MASK = (1 << 64) - 1
+
+
+def next_of(number):
+    """The next number of a row that looks like chance."""
+    return (number * 6_364_136_223_846_793_005 + 1_442_695_040_888_963_407) & MASK
+
+
+def arch(phase):
+    """The height of a wave of height 2,048 at that part of its period: two arches of a parabola."""
+    part = phase & 0x7FFF
+    height = part * (0x8000 - part) >> 17
+    return -height if phase & 0x8000 else height
+
+
+def height_at(shape, place):
+    """How far the swell reaches in the record that begins at that sample: an event has half its height again and again."""
+    if not shape.event_every:
+        return shape.height
+    return max(900_000 >> min(place // shape.half_life, 12), shape.height)
+
+
+def runs_of(day, seed):
+    """The samples of each of its records."""
+    shape, noise, phase, since = day.shape, next_of(next_of(seed)), seed & 0xFFFF, 0
+    scale = 2 * shape.spread + 1
+    for _ in range(day.samples // day.each):
+        if since >= shape.event_every:
+            since = 0
+        height, run = height_at(shape, since), []
+        since += day.each
+        for _ in range(day.each):
+            noise = next_of(noise)
+            run.append(((noise >> 32) * scale >> 32) - shape.spread)
+        if height:
+            run = [(arch(phase + at * shape.step) * height >> 11) + sample for at, sample in enumerate(run)]
+            phase += day.each * shape.step
+        yield run
+
+
+def words_of(differences):
+    """The words of Steim-2 with their codes: each holds as many of the differences that are left as it can."""
+    place = 0
+    while place < len(differences):
+        for count, bits, code, top in LAYOUTS:
+            held, limit = differences[place : place + count], 1 << bits - 1
+            if len(held) == count and -limit <= min(held) and max(held) < limit:
+                break
+        else:
+            raise ValueError(f"a difference of more than 30 bits: {differences[place]}")
+        word = 0
+        for difference in held:
+            word = word << bits | difference & (1 << bits) - 1
+        yield code, top << 30 & 0xFFFF_FFFF | word
+        place += count
+
+
+def steim2(run, before, length):
+    """The frames of a record, and how many of them hold words."""
+    words, number = [0] * ((length - 64) // 4), 2
+    firsts = [run[0] if before is None else before, *run]
+    for code, word in words_of([sample - last for last, sample in zip(firsts, run)]):
+        number += 2 if number % 16 == 15 else 1
+        words[number] = word
+        words[number - number % 16] |= code << 30 - 2 * (number % 16)
+    words[1], words[2] = run[0] & 0xFFFF_FFFF, run[-1] & 0xFFFF_FFFF
+    return struct.pack(f">{len(words)}I", *words), number // 16 + 1
+
+
+def record(day, number, start, run, before):
+    """A record of channel XX.TEST.00.BHZ that starts so many samples after 2020-01-01 00:00:00."""
+    if day.encoding == STEIM2:
+        area, frames = steim2(run, before, day.length)
+    else:
+        area, frames = struct.pack(f">{len(run)}{'h' if day.encoding == INT16 else 'i'}", *run), 0
+    time = datetime.datetime(2020, 1, 1) + datetime.timedelta(microseconds=start * 10_000)
+    head = b"%06dD TEST 00BHZXX" % number
+    head += struct.pack(">HH3BxH", time.year, time.timetuple().tm_yday, time.hour, time.minute, time.second, time.microsecond // 100)
+    head += struct.pack(">HhhBBBBiHH", len(run), 100, 1, 0, 0, 0, 2, 0, 64, 48)
+    head += struct.pack(">HHBBBB", 1000, 56, day.encoding, 1, day.length.bit_length() - 1, 0)
+    head += struct.pack(">HHBbBB", 1001, 0, 0, 0, 0, frames)
+    return (head + area).ljust(day.length, b"\0")
+
+
+def write(path, name, seed, parts=1):
+    """Writes the day of that name, or the first of so many parts of it."""
+    day, before = DAYS[name], None
+    day = day._replace(samples=day.samples // parts)
+    with open(path, "wb") as out:
+        for place, run in enumerate(runs_of(day, next_of(seed))):
+            out.write(record(day, place + 1, place * (day.each + day.gap), run, before))
+            before = run[-1]
