@@ -172,31 +172,54 @@ fn joins(rt: &HostRuntime, words: &mut Words<'_>) -> io::Result<()> {
     println!(rt; "\nrefused {refused}")
 }
 
-/// `totals NAME,READ,WRITTEN ..`: the totals of the names, each of one file that is added.
-fn totals(rt: &HostRuntime, words: &mut Words<'_>) -> io::Result<()> {
-    let mut totals = Totals::new(words.alloc);
-    let mut refused = false;
-    for word in words.rest.split_whitespace() {
-        let (name, counts) = word.split_once(',').unwrap_or((word, ""));
-        let (read, written) = counts.split_once(',').unwrap_or((counts, ""));
-        let (Ok(read), Ok(written)) = (read.parse::<u64>(), written.parse::<u64>()) else {
-            return println!(rt; "{NONE}");
-        };
-        if totals.add(name, read, written).is_err() {
-            refused = true;
-            if totals.add(name, read, written).is_err() {
-                break;
-            }
+/// Adds a file, and once more if memory is refused, which `refused` tells from then on.
+fn add_twice(
+    totals: &mut Totals,
+    name: &str,
+    counts: (u64, u64),
+    refused: &mut bool,
+) -> Result<(), AllocError> {
+    match totals.add(name, counts.0, counts.1) {
+        Ok(()) => Ok(()),
+        Err(_) => {
+            *refused = true;
+            totals.add(name, counts.0, counts.1)
         }
     }
-    println!(rt; "refused {refused}")?;
+}
+
+/// Prints the first of the totals, at most so many.
+fn put_totals(rt: &HostRuntime, totals: &Totals, most: usize) -> io::Result<()> {
     print!(rt; "left")?;
-    for place in 0..words.rest.len() {
+    for place in 0..most {
         if let Some((name, total)) = totals.get(place) {
             print!(rt; " {name} {} {} {}", total.files, total.read, total.written)?;
         }
     }
     println!(rt; "")
+}
+
+/// The name and the numbers of bytes of a file, `NAME,READ,WRITTEN`.
+fn file_of(word: &str) -> Option<(&str, (u64, u64))> {
+    let (name, counts) = word.split_once(',')?;
+    let (read, written) = counts.split_once(',')?;
+    Some((name, (read.parse().ok()?, written.parse().ok()?)))
+}
+
+/// `totals NAME,READ,WRITTEN ..`: the totals of the names, each of one file that is added.
+fn totals(rt: &HostRuntime, words: &mut Words<'_>) -> io::Result<()> {
+    let mut totals = Totals::new(words.alloc);
+    let mut refused = false;
+    for word in words.rest.split_whitespace() {
+        let Some((name, counts)) = file_of(word) else {
+            return println!(rt; "{NONE}");
+        };
+        if add_twice(&mut totals, name, counts, &mut refused).is_err() {
+            break;
+        }
+    }
+    println!(rt; "refused {refused}")?;
+    put_totals(rt, &totals, words.rest.len())
 }
 
 /// Whether the line is such a row, which is then answered.

@@ -10,14 +10,16 @@ fn add_noise(numbers: &mut Vec<i64>, of: &[i64]) -> Option<()> {
     let [count, seed, calm, loud, stretch] = of else {
         return None;
     };
+    let stretch = stretch.cast_unsigned().max(1);
     let mut number = seed.cast_unsigned();
-    for place in 0..*count {
+    for place in 0..count.cast_unsigned() {
         number = next_of(number);
-        let is_loud = place / (*stretch).max(1) % 2 == 1;
+        let is_loud = place / stretch % 2 == 1;
         let height = if is_loud { *loud } else { *calm };
-        let above = (number >> 33) % height.cast_unsigned().max(1);
+        let height = height.cast_unsigned();
+        let above = ((number >> 33) % height.max(1)).cast_signed();
         numbers
-            .push(above.cast_signed().wrapping_sub(height / 2))
+            .push(above.wrapping_sub((height / 2).cast_signed()))
             .ok()?;
     }
     Some(())
