@@ -71,13 +71,16 @@ counts_told bytes repacked =
     codes " read " ++ (decimal repacked.read ++ (codes " written " ++ (decimal repacked.written
     ++ (bytes_told bytes repacked.bytes_read repacked.bytes_written ++ codes "\n"))))
 
--- The line of an entry that is refused or not kept, whose path is shown so. The texts of faults are shown by tests.
+-- The line of an entry that is refused, whose path is shown so. The texts of faults are shown by tests.
+abbrev pub IsRefused : (shown line : List ℕ) → Type 0
+IsRefused shown line = (why : List ℕ) × (line ≡ codes "refused " ++ (shown ++ (codes ": " ++ (why ++ codes "\n"))))
+
+-- The line of an entry that is refused or not kept, whose path is shown so.
 abbrev pub IsRefusedLine : (bytes : Bool) → List ℕ → DayFault → List ℕ → Type 0
 IsRefusedLine bytes shown NotShown line = line ≡ codes "notshown " ++ (shown ++ codes "\n")
 IsRefusedLine bytes shown Differs line = line ≡ codes "differs " ++ (shown ++ codes "\n")
 IsRefusedLine bytes shown (Larger repacked) line = line ≡ codes "larger " ++ (shown ++ counts_told bytes repacked)
-IsRefusedLine bytes shown _ line = (why : List ℕ)
-    × (line ≡ codes "refused " ++ (shown ++ (codes ": " ++ (why ++ codes "\n"))))
+IsRefusedLine bytes shown _ line = IsRefused shown line
 
 -- The line of an entry, with bytes or without.
 abbrev pub IsLineOf : (bytes : Bool) → List ℕ → Outcome → List ℕ → Type 0

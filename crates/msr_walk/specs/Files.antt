@@ -3,7 +3,6 @@ use Rattle.std.specs.Prelude.{ℕ, List, ◌++◌, codes}
 use Rattle.std.specs.Fmt.{decimal}
 use Rattle.msr_folders.specs.Paths.{ended, joined}
 use Rattle.msr_options.specs.declared.hint.Side.{Side}
-use Rattle.msr_options.specs.declared.hint.Side.TheVariants.{Records, Report}
 
 -- what a new file is of a day, and its names: the one that it gets, and the one beside it under which it is written
 pub record FileNames : Type 0 where
@@ -35,18 +34,4 @@ day_names root out reports path = record {
   report = ended (joined reports path) (codes ".txt");
   stamp = ended (joined reports path) (codes ".from");
   claim = ended (joined out path) (codes ".claim");
-}
-
--- the files that a walk makes of a day
-pub record FilesOfDay : Type 0 where
-  pub records : FileNames
-  pub report : FileNames
-  pub stamp : FileNames
-
--- those that the walk makes whose claim has that number; the stamp stands beside the report
-abbrev pub day_files : DayNames → (number : ℕ) → FilesOfDay
-day_files names number = record {
-  records = new_file Records names.records number;
-  report = new_file Report names.report number;
-  stamp = new_file Report names.stamp number;
 }

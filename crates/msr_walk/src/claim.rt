@@ -132,28 +132,39 @@ fn open_claim<R: Files>(rt: &R, path: &str) -> Result<Option<R::File>, ClaimFaul
     }
 }
 
-/// Removes what a walk left of the day that was killed, or could not remove it. One that is at work has its claim locked;
-/// if the system has no locks, nothing tells whether it is.
+/// Removes what a walk left of the day that was killed, or could not remove it.
 fn clear<R: Files>(rt: &R, alloc: Global, day: &Day) -> Result<(), ClaimFault>
 where
     R::File: LockFile,
 {
-    let path = day.claim.as_str();
-    let Some(file) = open_claim(rt, path)? else {
-        return Ok(());
-    };
+    match open_claim(rt, day.claim.as_str())? {
+        Some(file) => clear_left(rt, alloc, day, &file),
+        None => Ok(()),
+    }
+}
+
+/// The same, by the open file of its claim, which a walk at work has locked. Without locks nothing tells whether one is.
+fn clear_left<R: Files>(rt: &R, alloc: Global, day: &Day, file: &R::File) -> Result<(), ClaimFault>
+where
+    R::File: LockFile,
+{
     if file.lock() != Lock::Ours {
         return Err(ClaimFault::ClaimedByAnother);
     }
-    let Some(id) = leads_to(rt, path, &file) else {
+    let path = day.claim.as_str();
+    let Some(id) = leads_to(rt, path, file) else {
         return Ok(());
     };
-    let Ok(files) = day.files(alloc, id.number) else {
-        return Err(ClaimFault::Memory);
+    let is_swept = match day.files(alloc, id.number) {
+        Ok(files) => files.sweep(rt),
+        Err(_) => return Err(ClaimFault::Memory),
     };
     // Without the claim nobody would know what to remove.
-    if !files.sweep(rt) {
+    if !is_swept {
         return Err(ClaimFault::CannotOpen(None));
     }
-    fs::remove_file(rt, path).map_err(|error| ClaimFault::CannotOpen(Some(error)))
+    match fs::remove_file(rt, path) {
+        Ok(()) => Ok(()),
+        Err(error) => Err(ClaimFault::CannotOpen(Some(error))),
+    }
 }

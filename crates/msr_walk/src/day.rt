@@ -1,7 +1,7 @@
 //! One day file: from its file to the files of its records and its report.
 ghost use Rattle.std.specs.Prelude.{◌≡◌, false, IfOk, IfSome};
 ghost use Rattle.msr_walk.specs.Day.{IsComparedIfAsked, IsDayOutcome, IsKept, IsOutcomeOfDay, IsRepackedDay, IsShownIfAsked};
-ghost use Rattle.msr_walk.specs.Files.{day_files, day_names};
+ghost use Rattle.msr_walk.specs.Files.{day_names, new_file};
 
 use crate::claim::{Claim, ClaimFault, LockFile, claim_day};
 use crate::files::{NewFile, opened};
@@ -50,18 +50,6 @@ pub(crate) struct DayFiles {
     records: NewFile,
     report: NewFile,
     stamp: NewFile,
-}
-
-impl Model for DayFiles {
-    ghost use Rattle.msr_walk.specs.Files.{FilesOfDay};
-
-    ghost Value = { FilesOfDay };
-
-    ghost view = { λ files. record {
-      records = files.records;
-      report = files.report;
-      stamp = files.stamp;
-    } };
 }
 
 impl DayFiles {
@@ -160,7 +148,9 @@ impl Day {
 
     /// The files that the walk makes whose claim has that number.
     pub(crate) fn files(&self, alloc: Global, number: u64) -> Result<DayFiles, AllocError>
-        ensures { IfOk result (λ files. files ≡ day_files self.now number) }
+        ensures { IfOk result (λ files. files.records ≡ new_file Side.Records self.now.records number
+            × files.report ≡ new_file Side.Report self.now.report number
+            × files.stamp ≡ new_file Side.Report self.now.stamp number) }
     {
         Ok(DayFiles {
             records: NewFile::new(alloc, Side::Records, self.records.as_str(), number)?,
@@ -255,9 +245,9 @@ impl Day {
     {
         let (rt, alloc) = (work.rt, work.alloc);
         let stamp = Stamp::of(&look.input)?;
-        let Ok(true) = stamp.stands_in(rt, alloc, self.stamp.as_str(), &look.stamp) else {
+        if !stamp.stands_in(rt, alloc, self.stamp.as_str(), &look.stamp) {
             return None;
-        };
+        }
         let report = look.report.open(rt, self.report.as_str()).ok()?;
         let records = look.records.regular()?;
         let size = stamp.bytes;
@@ -377,11 +367,10 @@ impl Day {
         if !days.same_length {
             return Ok(length);
         }
-        let Ok(input) = open_regular(rt, self.input.as_str()) else {
-            return Ok(length);
-        };
-        let own = first_length(alloc, &mut FromRead::new(input))?;
-        Ok(own.unwrap_or(length))
+        match open_regular(rt, self.input.as_str()) {
+            Ok(input) => first_length(alloc, &mut FromRead::new(input), length),
+            Err(_) => Ok(length),
+        }
     }
 
     /// Does what is asked of the days of the archive.

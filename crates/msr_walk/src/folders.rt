@@ -127,8 +127,7 @@ where
         tally: &mut Tally,
     ) -> Result<(), DeviceFault> {
         if kind == FileKind::Gone {
-            let refused = Outcome::Refused(DayFault::Gone);
-            return tell(self, path, "", refused, out, tally);
+            return tell(self, path, "", Outcome::Refused(DayFault::Gone), out, tally);
         }
         match SdsName::parse(path) {
             Ok(name) => tell_day(self, path, &name, *apart, out, tally),

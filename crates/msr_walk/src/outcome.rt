@@ -1,41 +1,32 @@
 //! What becomes of an entry of a folder, and its line.
 ghost use Rattle.std.specs.Prelude.{◌≡◌, ◌++◌, IfOk};
 ghost use Rattle.std.specs.String.{string_bytes};
-ghost use Rattle.msr_walk.specs.Entries.{IsLineOf, IsRefusedLine, bytes_told, counts_told};
+ghost use Rattle.msr_walk.specs.Entries.{IsLineOf, IsRefused, IsRefusedLine, bytes_told, counts_told};
 
 use msr_folders::shown_path;
 use msr_options::Unopened;
 use msr_sds::SdsFault;
 use msr_tool::ToolFault;
 use std::alloc::{AllocError, Global};
-use thiserror::Error;
 
 /// Why a day file or a folder is refused, or what was made of a day is not kept.
-#[derive(Clone, Copy, Debug, Error)]
+#[derive(Clone, Copy)]
 pub(crate) enum DayFault {
     /// A file could not be opened, or not be made under its name.
-    #[error("cannot open")]
     CannotOpen(Unopened),
     /// A folder could not be listed, or has a name that is not UTF-8.
-    #[error("listing")]
     Listing,
     /// The report did not show that the records are the fewest, though it is their own.
-    #[error("not shown")]
     NotShown,
     /// The records, read again, have not the segments of the day's own file, read again.
-    #[error("differs")]
     Differs,
     /// Its records are not smaller than its file, and only those are kept that are.
-    #[error("larger")]
     Larger(Repacked),
     /// It stood in the list of its folder, and was gone when it was looked at.
-    #[error("cannot open")]
     Gone,
     /// Another walk has the day.
-    #[error("another walk is at work")]
     ClaimedByAnother,
     /// The file was not repacked.
-    #[error("{0}")]
     Tool(ToolFault),
 }
 
@@ -62,13 +53,20 @@ impl From<ToolFault> for DayFault {
 }
 
 /// How many records a day file had, and how many were written for it, and of both the bytes.
-#[derive(Clone, Copy, Debug)]
+#[derive(Clone, Copy)]
 pub(crate) struct Repacked {
     pub read: u64,
     pub written: u64,
     pub bytes_read: u64,
     /// The greatest number of 64 bits if they are more, which no file has.
     pub bytes_written: u64,
+}
+
+/// The line of an entry whose path is shown so, and that is refused for that.
+fn refused_line(alloc: Global, path: &str, why: &str) -> Result<String, AllocError>
+    ensures { IfOk result (λ line. IsRefused path.now (string_bytes line)) }
+{
+    format!(in alloc; "refused {path}: {why}\n")
 }
 
 impl DayFault {
@@ -80,13 +78,12 @@ impl DayFault {
             DayFault::NotShown => format!(in alloc; "notshown {path}\n"),
             DayFault::Differs => format!(in alloc; "differs {path}\n"),
             DayFault::Larger(repacked) => repacked.line(alloc, "larger ", path, bytes),
-            DayFault::CannotOpen(_)
-            | DayFault::Listing
-            | DayFault::Gone
-            | DayFault::ClaimedByAnother
-            | DayFault::Tool(_) => {
-                let why = self.to_string(alloc)?;
-                format!(in alloc; "refused {path}: {why}\n")
+            DayFault::CannotOpen(_) | DayFault::Gone => refused_line(alloc, path, "cannot open"),
+            DayFault::Listing => refused_line(alloc, path, "listing"),
+            DayFault::ClaimedByAnother => refused_line(alloc, path, "another walk is at work"),
+            DayFault::Tool(fault) => {
+                let why = fault.to_string(alloc)?;
+                refused_line(alloc, path, why.as_str())
             }
         }
     }

@@ -67,23 +67,25 @@ impl<S: Source> Source for Counting<S> {
     }
 }
 
-/// The length of the record that the source begins with, if records are written in it.
+/// The length of the record that the source begins with, if records are written in it, else the other.
 pub(crate) fn first_length<S: Source>(
     alloc: Global,
     source: &mut S,
-) -> Result<Option<Length>, AllocError>
+    other: Length,
+) -> Result<Length, AllocError>
     requires { CanCountCall (S.device source.old) }
 {
     let mut front = ReadBuffer::new(alloc);
     match front.fill(source, LONGEST) {
         Ok(()) => {}
         Err(DeviceFault::Memory) => return Err(AllocError),
-        Err(DeviceFault::Failed) => return Ok(None),
+        Err(DeviceFault::Failed) => return Ok(other),
     }
-    match read_header(front.bytes()) {
-        Ok(header) if header.exponent <= 16 => Ok(Length::new(record_length(header.exponent))),
-        _ => Ok(None),
-    }
+    let own = match read_header(front.bytes()) {
+        Ok(header) if header.exponent <= 16 => Length::new(record_length(header.exponent)),
+        _ => None,
+    };
+    Ok(own.unwrap_or(other))
 }
 
 /// Repacks a day, and counts its records and bytes.

@@ -60,17 +60,19 @@ impl Stamp {
         alloc: Global,
         path: &str,
         look: &Look,
-    ) -> Result<bool, AllocError> {
+    ) -> bool {
         let Some(metadata) = look.regular() else {
-            return Ok(false);
+            return false;
         };
-        let text = self.text(alloc)?;
+        let Ok(text) = self.text(alloc) else {
+            return false;
+        };
         if metadata.len() != text.len() as u64 {
-            return Ok(false);
+            return false;
         }
         match fs::read(&(rt, alloc), path) {
-            Ok(bytes) => Ok(bytes.as_slice() == text.as_bytes()),
-            Err(_) => Ok(false),
+            Ok(bytes) => bytes.as_slice() == text.as_bytes(),
+            Err(_) => false,
         }
     }
 
