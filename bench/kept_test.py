@@ -176,7 +176,7 @@ esac
         for name in ("bench/kept", "bench/figures.py", "bench/workloads.py", "bench/day.py", "tools/built.py"):
             os.makedirs(os.path.dirname(f"{self.root}/{name}"), exist_ok=True)
             shutil.copy(f"{os.path.dirname(HERE)}/{name}", f"{self.root}/{name}")
-        self.put("bench/days.py", self.DAYS)
+        self.put("bench/station.py", self.DAYS)
         self.put("bench/kept.txt", self.ROOMY)
         self.put("tools/program", f'#!/bin/sh\n[ "$*" = --ready ] && echo {self.root}/program\n')
         self.put("program", self.PROGRAM)

@@ -1,20 +1,20 @@
-"""The workloads: the jobs that a user of msrepack waits for, with the made-up days of days.py."""
+"""The workloads: the jobs that a user of msrepack waits for, with the made-up days of station.py."""
 import collections
 import os
 import subprocess
 import sys
 
-import days
+import station
 
-NAMES = [*days.DAYS]
+NAMES = [*station.DAYS]
 # The words of a run of the program, and the file that has what it prints.
 Job = collections.namedtuple("Job", "words printed")
 
 
 def jobs_of(name):
-    """What is done in a folder that has the day: it is repacked, what was written is checked, listed and compared with what
-    was read; and all of this once more with that, for records of another length."""
-    day = days.DAYS[name]
+    """What is done in a folder that has the day: it is repacked, what was written is checked, listed and compared with
+    what was read; and all of this once more with that, for records of another length."""
+    day = station.DAYS[name]
     given = "day"
     for packed, length in ("first", day.first), ("second", day.second):
         words = ["repack", "--no-int24", "--length", str(length), given, packed]

@@ -1,4 +1,4 @@
-"""Made-up days of one channel, at 100 samples a second, as a station sends them. Nothing is by chance: a seed gives a day.
+"""Made-up days of one channel, at 100 samples a second, as a station sends them. A seed gives a day: nothing is chance.
 
 A day is a swell under noise, with events that die down. Its records are those of docs/PROFILE.md, big-endian.
 """
@@ -6,8 +6,8 @@ import collections
 import datetime
 import struct
 
-# How far the swell reaches, how much of its period a sample takes (of 65,536 parts), how far the noise reaches, after how
-# many samples an event begins (0: none does), and after how many it has half its height.
+# How far the swell reaches, how much of its period a sample takes (of 65,536 parts), how far the noise reaches, after
+# how many samples an event begins (0: none does), and after how many it has half its height.
 Shape = collections.namedtuple("Shape", "height step spread event_every half_life", defaults=(0, 0))
 # Its samples, the encoding and the bytes of a record, how many samples that has, and how many are missing after it; and
 # the lengths of the records that are packed from it, and then from these.
@@ -48,11 +48,12 @@ def arch(phase):
     return -height if phase & 0x8000 else height
 
 
-def height_at(shape, place):
-    """How far the swell reaches in the record that begins at that sample: an event has half its height again and again."""
+def height_at(shape, since):
+    """How far the swell reaches in a record that begins so many samples after an event, whose height is halved again
+    and again."""
     if not shape.event_every:
         return shape.height
-    return max(900_000 >> min(place // shape.half_life, 12), shape.height)
+    return max(900_000 >> min(since // shape.half_life, 12), shape.height)
 
 
 def runs_of(day, seed):
@@ -110,7 +111,8 @@ def record(day, number, start, run, before):
         area, frames = struct.pack(f">{len(run)}{'h' if day.encoding == INT16 else 'i'}", *run), 0
     time = datetime.datetime(2020, 1, 1) + datetime.timedelta(microseconds=start * 10_000)
     head = b"%06dD TEST 00BHZXX" % number
-    head += struct.pack(">HH3BxH", time.year, time.timetuple().tm_yday, time.hour, time.minute, time.second, time.microsecond // 100)
+    head += struct.pack(">HH", time.year, time.timetuple().tm_yday)
+    head += struct.pack(">BBBBH", time.hour, time.minute, time.second, 0, time.microsecond // 100)
     head += struct.pack(">HhhBBBBiHH", len(run), 100, 1, 0, 0, 0, 2, 0, 64, 48)
     head += struct.pack(">HHBBBB", 1000, 56, day.encoding, 1, day.length.bit_length() - 1, 0)
     head += struct.pack(">HHBbBB", 1001, 0, 0, 0, 0, frames)
