@@ -14,11 +14,12 @@ import os
 import random
 import re
 import shutil
-import struct
 import subprocess
 import sys
 import tempfile
 import time
+
+import station
 
 ROOT = os.path.dirname(os.path.dirname(os.path.realpath(__file__)))
 sys.path.insert(0, os.path.join(ROOT, "tools"))
@@ -44,15 +45,8 @@ def made_up(count):
 
 def record(number, length, encoding, start, samples):
     """A big-endian record of channel XX.BENCH.00.HHZ that starts `start` samples after 2020-01-01 00:00:00."""
-    code = {1: "h", 3: "i"}[encoding]
-    second, rest = divmod(start, RATE)
-    day, second = divmod(second, 86400)
-    header = struct.pack(">6sBB5s2s3s2s", b"%06d" % (number % 1_000_000), ord("D"), 32, b"BENCH", b"00", b"HHZ", b"XX")
-    header += struct.pack(">HHBBBBH", 2020, day + 1, second // 3600, second // 60 % 60, second % 60, 0, rest * 100)
-    header += struct.pack(">HhhBBBBiHH", len(samples), RATE, 1, 0, 0, 0, 2, 0, 64, 48)
-    header += struct.pack(">HHBBBB", 1000, 56, encoding, 1, length.bit_length() - 1, 0)
-    header += struct.pack(">HHBbBB", 1001, 0, 0, 0, 0, 0)
-    return (header + struct.pack(f">{len(samples)}{code}", *samples)).ljust(length, b"\0")
+    area = station.integers(encoding, samples)
+    return station.record(b"BENCH00HHZXX", number % 1_000_000, length, encoding, start, len(samples), area)
 
 
 def write_plain(name, length, encoding, samples):

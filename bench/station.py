@@ -103,20 +103,22 @@ def steim2(run, before, length):
     return struct.pack(f">{len(words)}I", *words), number // 16 + 1
 
 
-def record(day, number, start, run, before):
-    """A record of channel XX.TEST.00.BHZ that starts so many samples after 2020-01-01 00:00:00."""
-    if day.encoding == STEIM2:
-        area, frames = steim2(run, before, day.length)
-    else:
-        area, frames = struct.pack(f">{len(run)}{'h' if day.encoding == INT16 else 'i'}", *run), 0
+def record(name, number, length, encoding, start, count, area, frames=0):
+    """A record whose area has so many samples, 100 a second, the first of them so many samples after 2020-01-01 00:00:00.
+    The name has the station, the location, the channel and the network, padded."""
     time = datetime.datetime(2020, 1, 1) + datetime.timedelta(microseconds=start * 10_000)
-    head = b"%06dD TEST 00BHZXX" % number
+    head = b"%06dD %s" % (number, name)
     head += struct.pack(">HH", time.year, time.timetuple().tm_yday)
     head += struct.pack(">BBBBH", time.hour, time.minute, time.second, 0, time.microsecond // 100)
-    head += struct.pack(">HhhBBBBiHH", len(run), 100, 1, 0, 0, 0, 2, 0, 64, 48)
-    head += struct.pack(">HHBBBB", 1000, 56, day.encoding, 1, day.length.bit_length() - 1, 0)
+    head += struct.pack(">HhhBBBBiHH", count, 100, 1, 0, 0, 0, 2, 0, 64, 48)
+    head += struct.pack(">HHBBBB", 1000, 56, encoding, 1, length.bit_length() - 1, 0)
     head += struct.pack(">HHBbBB", 1001, 0, 0, 0, 0, frames)
-    return (head + area).ljust(day.length, b"\0")
+    return (head + area).ljust(length, b"\0")
+
+
+def integers(encoding, samples):
+    """Samples as integers of 16 or of 32 bits."""
+    return struct.pack(f">{len(samples)}{'h' if encoding == INT16 else 'i'}", *samples)
 
 
 def write(path, name, seed, parts=1):
@@ -125,5 +127,10 @@ def write(path, name, seed, parts=1):
     day = day._replace(samples=day.samples // parts)
     with open(path, "wb") as out:
         for place, run in enumerate(runs_of(day, next_of(seed))):
-            out.write(record(day, place + 1, place * (day.each + day.gap), run, before))
+            if day.encoding == STEIM2:
+                area, frames = steim2(run, before, day.length)
+            else:
+                area, frames = integers(day.encoding, run), 0
+            start = place * (day.each + day.gap)
+            out.write(record(b"TEST 00BHZXX", place + 1, day.length, day.encoding, start, len(run), area, frames))
             before = run[-1]
