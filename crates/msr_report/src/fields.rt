@@ -103,16 +103,13 @@ pub(crate) fn name_string(alloc: Global, key: &Key) -> Result<String, AllocError
     Ok(text)
 }
 
-/// Appends the factor and the multiplier of a rate, with the words around them.
+/// Appends the factor and the multiplier of a rate.
 fn push_rate(text: &mut String, rate: Rate) -> Result<(), AllocError>
-    ensures { OnOk result (string_bytes text.new
-        ≡ string_bytes text.old ++ (codes "rate " ++ (rate_text rate ++ codes " flags "))) }
+    ensures { OnOk result (string_bytes text.new ≡ string_bytes text.old ++ rate_text rate) }
 {
-    text.push_str("rate ")?;
     push_signed(text, i32::from(rate.factor()))?;
     text.push(' ')?;
-    push_signed(text, i32::from(rate.multiplier()))?;
-    text.push_str(" flags ")
+    push_signed(text, i32::from(rate.multiplier()))
 }
 
 /// Appends the activity, clock and data quality flags.
@@ -184,7 +181,9 @@ fn push_timing(text: &mut String, key: &Key) -> Result<(), AllocError>
 pub(crate) fn push_settings(text: &mut String, key: &Key) -> Result<(), AllocError>
     ensures { OnOk result (string_bytes text.new ≡ string_bytes text.old ++ settings_text key.now) }
 {
+    text.push_str("rate ")?;
     push_rate(text, key.rate)?;
+    text.push_str(" flags ")?;
     push_flags(text, key)?;
     push_timing(text, key)?;
     Ok(())

@@ -183,8 +183,7 @@ fn why_apart(before: &Key, key: &Key, micros: i128) -> &'static str
     }
 }
 
-/// The last members: why the segment does not go on the one before it, and how many microseconds after the next sample of
-/// that one it begins if the name is the same.
+/// The last members: why the segment does not go on the one before it, and how far apart they are, if of one name.
 fn began_string(
     alloc: Global,
     before: Option<ListedSegment>,
@@ -211,8 +210,30 @@ fn times_string(alloc: Global, start: &str, end: &str, samples: u64) -> Result<S
     format!(in alloc; "\"start\":\"{start}\",\"end\":\"{end}\",\"samples\":{samples}")
 }
 
-/// Appends the line of a segment in JSON, which comes after `before` in its file. If memory is refused, nothing is
-/// appended.
+/// The line of a segment, which comes after `before` in its file.
+fn json_line(
+    alloc: Global,
+    before: Option<ListedSegment>,
+    segment: &ListedSegment,
+) -> Result<String, AllocError>
+    requires in_time { IsInTime segment.now.key.rate segment.now.start segment.now.count }
+    requires some { 1 ≤ segment.now.count }
+    ensures { IfOk result (λ text. IsJsonLine before segment.now (string_bytes text)) }
+{
+    let Some(last) = segment.key.rate.nominal(segment.start, segment.count - 1) else {
+        unreachable!()
+    };
+    let start = iso_string(alloc, segment.start)?;
+    let end = iso_string(alloc, last)?;
+    let name = name_string(alloc, &segment.key)?;
+    let times = times_string(alloc, start.as_str(), end.as_str(), segment.count)?;
+    let settings = settings_string(alloc, &segment.key)?;
+    let clock = clock_string(alloc, segment.key.correction, segment.key.timing)?;
+    let began = began_string(alloc, before, segment)?;
+    format!(in alloc; "{{{name},{times},{settings},{clock},{began}}}\n")
+}
+
+/// Appends the line of a segment in JSON, which comes after `before` in its file, or nothing if memory is refused.
 pub fn push_json_line(
     alloc: Global,
     out: &mut Vec<u8>,
@@ -225,17 +246,7 @@ pub fn push_json_line(
         × (IsJsonLine before segment.now line × (out.new.items ≡ out.old.items ++ line))) }
     ensures refused { OnErr result (out.new.items ≡ out.old.items) }
 {
-    let Some(last) = segment.key.rate.nominal(segment.start, segment.count - 1) else {
-        unreachable!()
-    };
-    let start = iso_string(alloc, segment.start)?;
-    let end = iso_string(alloc, last)?;
-    let name = name_string(alloc, &segment.key)?;
-    let times = times_string(alloc, start.as_str(), end.as_str(), segment.count)?;
-    let settings = settings_string(alloc, &segment.key)?;
-    let clock = clock_string(alloc, segment.key.correction, segment.key.timing)?;
-    let began = began_string(alloc, before, segment)?;
-    let line = format!(in alloc; "{{{name},{times},{settings},{clock},{began}}}\n")?;
+    let line = json_line(alloc, before, segment)?;
     out.extend_from_slice(line.as_bytes())
 }
 
@@ -244,11 +255,7 @@ pub fn push_json_counts(alloc: Global, out: &mut Vec<u8>, counts: &Counts) -> Re
     ensures pushed { OnOk result (out.new.items ≡ out.old.items ++ counts_json counts.now) }
     ensures refused { OnErr result (out.new.items ≡ out.old.items) }
 {
-    let Counts {
-        read,
-        empty,
-        mismatched,
-    } = *counts;
+    let (read, empty, mismatched) = (counts.read, counts.empty, counts.mismatched);
     let text = format!(in alloc;
         "{{\"read\":{read},\"empty\":{empty},\"mismatched\":{mismatched}}}\n"
     )?;

@@ -81,11 +81,7 @@ pub fn push_list_line(
 fn counts_string(alloc: Global, counts: &Counts) -> Result<String, AllocError>
     ensures { IfOk result (λ text. string_bytes text ≡ counts_line counts.now) }
 {
-    let Counts {
-        read,
-        empty,
-        mismatched,
-    } = *counts;
+    let (read, empty, mismatched) = (counts.read, counts.empty, counts.mismatched);
     format!(in alloc; "read {read} empty {empty} mismatched {mismatched}\n")
 }
 
