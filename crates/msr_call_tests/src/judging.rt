@@ -1,13 +1,12 @@
 //! msr_check: a judge of runs that come one after another, beside the check that has the whole segment at hand.
 
-ghost use Rattle.std.specs.Prelude.{◌<◌, ◌^◌};
-
 use crate::made::Made::{self, Bounds, Extremes, Noise, Signs, Teeth, Turns, Zeros};
 use Change::{Back, Doubled, Dropped, On, Stays};
 use msr_check::{Judge, shows_least_in};
 use msr_fixtures::expect;
-use msr_packer::pack_in;
+use msr_packer::{Packing, pack_in};
 use msr_words::Kind::{Int16, Int24, Int32, Steim1, Steim2};
+use msr_words::Kinds::{All, WithoutInt24};
 use msr_words::{Form, Kinds, Length, Run};
 use std::alloc::{AllocError, Global};
 use std::test::Fail;
@@ -33,260 +32,228 @@ enum Change {
 }
 
 impl Change {
-    /// The sample numbers that stand in its place.
-    fn of(self, number: u64) -> [Option<u64>; 2] {
-        let next = number.wrapping_add(1);
+    /// The first of the numbers that stand in its place one after another, and how many these are.
+    fn of(self, number: u64) -> (u64, u64) {
         match self {
-            Stays => [Some(number), None],
-            Back => [Some(number.wrapping_sub(1)), None],
-            On => [Some(next), None],
-            Dropped => [None, None],
-            Doubled => [Some(number), Some(next)],
+            Stays => (number, 1),
+            Back => (number.wrapping_sub(1), 1),
+            On => (number.wrapping_add(1), 1),
+            Dropped => (number, 0),
+            Doubled => (number, 2),
         }
     }
 }
 
-/// Adds a run that begins where the last one ends, as far as there are samples.
-fn add_run(runs: &mut Vec<Run>, samples: &[i32], end: u64, like: Run) -> Result<(), AllocError> {
-    let start = match runs.as_slice().last() {
-        Some(run) => run.end,
-        None => 0,
-    };
-    let end = end.min(samples.len() as u64).max(start);
-    let kind = like.kind;
-    runs.push(Run { start, end, kind })?;
-    Ok(())
+/// A judge, and the runs and separators that are judged.
+#[derive(Drop)]
+struct Trial {
+    judge: Judge,
+    runs: Vec<Run>,
+    separators: Vec<u64>,
 }
 
-/// The runs, with the end of one changed.
-fn runs_with(
-    alloc: Global,
-    samples: &[i32],
-    runs: &[Run],
-    place: usize,
-    change: Change,
-) -> Result<Vec<Run>, AllocError> {
-    let mut changed = Vec::new(alloc);
-    for at in 0..runs.len() {
-        let run = runs[at];
-        let change = if at == place { change } else { Stays };
-        for end in change.of(run.end) {
-            if let Some(end) = end {
-                add_run(&mut changed, samples, end, run)?;
+impl Trial {
+    /// Takes these runs of so many samples; the end of one is changed, and each begins where the one before it ends.
+    fn take_runs(
+        &mut self,
+        runs: &[Run],
+        place: usize,
+        change: Change,
+        samples: u64,
+    ) -> Result<(), AllocError> {
+        self.runs.clear();
+        let mut start = 0;
+        for at in 0..runs.len() {
+            let Run { end, kind, .. } = runs[at];
+            let change = if at == place { change } else { Stays };
+            let (first, count) = change.of(end);
+            for more in 0..count {
+                let end = first.wrapping_add(more).min(samples).max(start);
+                self.runs.push(Run { start, end, kind })?;
+                start = end;
             }
         }
+        Ok(())
     }
-    Ok(changed)
-}
 
-/// The separators, with one of them changed.
-fn separators_with(
-    alloc: Global,
-    separators: &[u64],
-    place: usize,
-    change: Change,
-) -> Result<Vec<u64>, AllocError> {
-    let mut changed = Vec::new(alloc);
-    for at in 0..separators.len() {
-        let change = if at == place { change } else { Stays };
-        for number in change.of(separators[at]) {
-            if let Some(number) = number {
-                changed.push(number)?;
+    /// Takes these separators, of which one is changed.
+    fn take_separators(
+        &mut self,
+        separators: &[u64],
+        place: usize,
+        change: Change,
+    ) -> Result<(), AllocError> {
+        self.separators.clear();
+        for at in 0..separators.len() {
+            let change = if at == place { change } else { Stays };
+            let (first, count) = change.of(separators[at]);
+            for more in 0..count {
+                self.separators.push(first.wrapping_add(more))?;
             }
         }
+        Ok(())
     }
-    Ok(changed)
-}
 
-/// What a judge says of runs that come one after another.
-fn judged(
-    judge: &mut Judge,
-    segment: Segment,
-    runs: &[Run],
-    separators: &[u64],
-) -> Result<bool, AllocError> {
-    judge.begin();
-    for run in runs {
-        let Some(part) = segment.samples.get(run.start as usize..run.end as usize) else {
-            return Ok(false);
-        };
-        judge.push(part, run.kind, segment.form, separators)?;
+    /// What is said of runs that come one after another, and of all at once, if it is the same.
+    fn verdict(&mut self, segment: Segment<'_>) -> Option<bool> {
+        let Segment { samples, form } = segment;
+        let (judge, separators) = (&mut self.judge, self.separators.as_slice());
+        judge.begin();
+        for run in &self.runs {
+            let part = samples.get(run.start as usize..run.end as usize)?;
+            judge.push(part, run.kind, form, separators).ok()?;
+        }
+        let one_by_one = judge.shows_least(form, separators, samples.len() as u64);
+        let at_once = shows_least_in(samples, form, &self.runs, separators);
+        (one_by_one == at_once).then_some(at_once)
     }
-    let number = segment.samples.len() as u64;
-    Ok(judge.shows_least(segment.form, separators, number))
-}
-
-/// What both say, if it is the same.
-fn verdict(
-    judge: &mut Judge,
-    segment: Segment,
-    runs: &[Run],
-    separators: &[u64],
-) -> Result<Option<bool>, AllocError> {
-    let one_by_one = judged(judge, segment, runs, separators)?;
-    let at_once = shows_least_in(segment.samples, segment.form, runs, separators);
-    Ok(if one_by_one == at_once {
-        Some(at_once)
-    } else {
-        None
-    })
 }
 
 /// A change of a run's end and one of a separator, and what has to be said of a least packing with its separators then, if
 /// that is known beforehand: no packing has fewer runs, none with more is least, and a record holds each separator with
 /// the sample before the next.
-fn changes() -> [(Change, Change, Option<bool>); 12] {
-    [
-        (Stays, Stays, Some(true)),
-        (Stays, Back, Some(false)),
-        (Stays, On, None),
-        (Stays, Dropped, Some(false)),
-        (Stays, Doubled, Some(false)),
-        (Back, Stays, None),
-        (On, Stays, None),
-        (On, On, None),
-        (Dropped, Stays, Some(false)),
-        (Dropped, Dropped, Some(false)),
-        (Doubled, Stays, Some(false)),
-        (Doubled, Doubled, Some(false)),
-    ]
-}
+const CHANGES: &[(Change, Change, Option<bool>)] = &[
+    (Stays, Stays, Some(true)),
+    (Stays, Back, Some(false)),
+    (Stays, On, None),
+    (Stays, Dropped, Some(false)),
+    (Stays, Doubled, Some(false)),
+    (Back, Stays, None),
+    (On, Stays, None),
+    (On, On, None),
+    (Dropped, Stays, Some(false)),
+    (Dropped, Dropped, Some(false)),
+    (Doubled, Stays, Some(false)),
+    (Doubled, Doubled, Some(false)),
+];
 
 /// Both say the same of a least packing with its separators after each change at that place, and nothing wrong.
 fn agree_at(
-    alloc: Global,
-    judge: &mut Judge,
-    segment: Segment,
-    runs: &[Run],
-    separators: &[u64],
+    trial: &mut Trial,
+    segment: Segment<'_>,
+    packing: &Packing,
     place: usize,
 ) -> Result<bool, AllocError> {
-    for (end, separator, known) in changes() {
-        let runs = runs_with(alloc, segment.samples, runs, place, end)?;
-        let separators = separators_with(alloc, separators, place, separator)?;
-        let said = verdict(judge, segment, &runs, &separators)?;
-        if said.is_none() || known.is_some() && said != known {
+    for (end, separator, known) in CHANGES {
+        trial.take_runs(&packing.runs, place, *end, segment.samples.len() as u64)?;
+        trial.take_separators(&packing.separators, place, *separator)?;
+        let said = trial.verdict(segment);
+        if said.is_none() || known.is_some() && said != *known {
             return Ok(false);
         }
     }
     Ok(true)
 }
 
-/// Both say the same if the last run is said to be of another kind.
+/// Both say the same of the packing if its last run is said to be of another kind.
 fn agree_on_kinds(
-    judge: &mut Judge,
-    segment: Segment,
-    runs: Vec<Run>,
-    separators: &[u64],
+    trial: &mut Trial,
+    segment: Segment<'_>,
+    packing: &Packing,
 ) -> Result<bool, AllocError> {
-    let mut runs = runs;
-    let Some(run) = runs.pop() else {
-        return Ok(true);
-    };
+    let samples = segment.samples.len() as u64;
+    trial.take_runs(&packing.runs, 0, Stays, samples)?;
+    trial.take_separators(&packing.separators, 0, Stays)?;
     for kind in [Steim2, Steim1, Int16, Int24, Int32] {
-        let (start, end) = (run.start, run.end);
-        runs.push(Run { start, end, kind })?;
-        let said = verdict(judge, segment, &runs, separators)?;
-        if said.is_none() {
+        if let Some(run) = trial.runs.last_mut() {
+            run.kind = kind;
+        }
+        if trial.verdict(segment).is_none() {
             return Ok(false);
         }
-        let _ = runs.pop();
     }
     Ok(true)
 }
 
 /// Both say the same of the segment's packing and its separators, changed at the first place, the second or the last.
-fn agree_on(alloc: Global, segment: Segment) -> Result<bool, AllocError> {
-    let packing = pack_in(alloc, segment.samples, segment.form)?;
-    let mut judge = Judge::new(alloc);
-    let (runs, separators) = (&packing.runs, &packing.separators);
-    for place in 0..runs.len() {
-        if 1 < place && place + 1 < runs.len() {
-            continue;
-        }
-        if !agree_at(alloc, &mut judge, segment, runs, separators, place)? {
+fn agree_on(
+    trial: &mut Trial,
+    segment: Segment<'_>,
+    packing: &Packing,
+) -> Result<bool, AllocError> {
+    let count = packing.runs.len();
+    for place in 0..count {
+        let is_tried = place <= 1 || place + 1 == count;
+        if is_tried && !agree_at(trial, segment, packing, place)? {
             return Ok(false);
         }
     }
-    agree_on_kinds(&mut judge, segment, packing.runs, &packing.separators)
-}
-
-/// How many samples the first run of the packing has.
-fn first_end(alloc: Global, segment: Segment) -> Result<usize, AllocError> {
-    let packing = pack_in(alloc, segment.samples, segment.form)?;
-    match packing.runs.as_slice().first() {
-        Some(run) => Ok(run.end as usize),
-        None => Ok(0),
-    }
+    agree_on_kinds(trial, segment, packing)
 }
 
 /// Both say the same of the samples of the first run with so many more, or as many as there are.
-fn agree_on_tails(
-    alloc: Global,
-    form: Form,
-    made: Made,
-    tails: &[usize],
-) -> Result<bool, AllocError> {
-    let samples = made.samples(alloc)?;
-    let samples = samples.as_slice();
-    let first = first_end(alloc, Segment { samples, form })?;
+fn agree_on_tails(alloc: Global, all: Segment<'_>, tails: &[usize]) -> Result<bool, AllocError> {
+    let Segment { samples, form } = all;
+    let first = pack_in(alloc, samples, form)?
+        .runs
+        .as_slice()
+        .first()
+        .map_or(0, |run| run.end as usize);
+    let mut trial = Trial {
+        judge: Judge::new(alloc),
+        runs: Vec::new(alloc),
+        separators: Vec::new(alloc),
+    };
     for tail in tails {
         let count = samples.len().min(first.saturating_add(*tail));
-        let samples = &samples[..count];
-        if !agree_on(alloc, Segment { samples, form })? {
+        let segment = Segment {
+            samples: &samples[..count],
+            form,
+        };
+        let packing = pack_in(alloc, segment.samples, form)?;
+        if !agree_on(&mut trial, segment, &packing)? {
             return Ok(false);
         }
     }
     Ok(true)
 }
 
-/// The kinds of records, and the samples that are packed into them.
-type Row = (Kinds, Made);
+/// A name, how many samples there are for each data word of a record, the kinds of records, and the samples. There are
+/// somewhat more than a record has room for; of most rows it has as many as a bound allows.
+type Row = (&'static str, usize, Kinds, Made);
 
-/// Somewhat more samples than a record has room for, if it has so many data words. Of most rows it has as many as a bound
-/// allows.
-fn rows(words: usize) -> [(&'static str, Row); 14]
-    requires { words < 2 ^ 40 }
-{
-    let (all, fewer) = (Kinds::All, Kinds::WithoutInt24);
-    let (two, three) = (2 * words, 3 * words);
-    [
-        ("seven a word", (all, Zeros(8 * words))),
-        ("four a word", (all, Teeth(5 * words, 100, 100, 1))),
-        ("two a word", (all, Teeth(three, 8_000, 8_000, 1))),
-        (
-            "two a word of Steim-1",
-            (all, Teeth(three, 20_000, 20_000, 1)),
-        ),
-        ("two a word or one", (all, Teeth(two, 8_000, 100_000, 6))),
-        ("16-bit integers", (all, Signs(three))),
-        ("24-bit integers", (all, Bounds(two))),
-        ("24 bits as 32", (fewer, Bounds(two))),
-        ("32-bit integers", (all, Extremes(two))),
-        ("noise", (all, Noise(4 * words, 5, 250))),
-        (
-            "Steim-1 reaches furthest",
-            (all, Turns(three, 9, 40, 40_000, 6)),
-        ),
-        (
-            "Steim-1 from before the frontier",
-            (all, Turns(three, 12, 60, 70_000, 40)),
-        ),
-        ("three kinds", (fewer, Turns(three, 42, 1_000, 70_000, 90))),
-        (
-            "more than 32 bits",
-            (all, Turns(three, 39, 1_000, 2_147_483_648, 80)),
-        ),
-    ]
-}
+const ROWS: &[Row] = &[
+    ("seven a word", 8, All, Zeros),
+    ("four a word", 5, All, Teeth(100, 100, 1)),
+    ("two a word", 3, All, Teeth(8_000, 8_000, 1)),
+    ("two a word of Steim-1", 3, All, Teeth(20_000, 20_000, 1)),
+    ("two a word or one", 2, All, Teeth(8_000, 100_000, 6)),
+    ("16-bit integers", 3, All, Signs),
+    ("24-bit integers", 2, All, Bounds),
+    ("24 bits as 32", 2, WithoutInt24, Bounds),
+    ("32-bit integers", 2, All, Extremes),
+    ("noise", 4, All, Noise(5, 250)),
+    ("Steim-1 reaches furthest", 3, All, Turns(9, 40, 40_000, 6)),
+    (
+        "Steim-1 from before the frontier",
+        3,
+        All,
+        Turns(12, 60, 70_000, 40),
+    ),
+    ("three kinds", 3, WithoutInt24, Turns(42, 1_000, 70_000, 90)),
+    (
+        "more than 32 bits",
+        3,
+        All,
+        Turns(39, 1_000, 2_147_483_648, 80),
+    ),
+];
 
-/// Both say the same of the rows for so many data words, at that length of records.
-fn agree_on_rows(alloc: Global, length: Length, words: usize, tails: &[usize]) -> Result<(), Fail>
-    requires { words < 2 ^ 40 }
-{
-    for (name, (kinds, made)) in rows(words) {
-        let form = Form { length, kinds };
-        expect(agree_on_tails(alloc, form, made, tails)?, name)?;
+/// Both say the same of the rows for so many records of that length and somewhat more.
+fn agree_at_length(alloc: Global, bytes: u32, records: usize, tails: &[usize]) -> Result<(), Fail> {
+    let length = Length::new(bytes).ok_or("a length")?;
+    let words = records.saturating_mul(length.data_words() as usize);
+    for (name, factor, kinds, made) in ROWS {
+        let form = Form {
+            length,
+            kinds: *kinds,
+        };
+        let samples = made.samples(alloc, words.saturating_mul(*factor))?;
+        let segment = Segment {
+            samples: &samples,
+            form,
+        };
+        expect(agree_on_tails(alloc, segment, tails)?, name)?;
     }
     Ok(())
 }
@@ -295,39 +262,31 @@ fn agree_on_rows(alloc: Global, length: Length, words: usize, tails: &[usize]) -
 #[test]
 fn judged_alike_in_short_records(rt: HostRuntime) -> Result<(), Fail> {
     for bytes in [256, 512, 1024, 2048] {
-        let length = Length::new(bytes).ok_or("a length")?;
-        let words = 3 * length.data_words() as usize;
-        agree_on_rows(rt.alloc(), length, words, &[1, 63, 64, 65, 66, usize::MAX])?;
+        agree_at_length(rt.alloc(), bytes, 3, &[1, 63, 64, 65, 66, usize::MAX])?;
     }
     Ok(())
-}
-
-/// Both say the same of the rows for one record of that length and somewhat more.
-fn agree_at_length(alloc: Global, bytes: u32, tails: &[usize]) -> Result<(), Fail> {
-    let length = Length::new(bytes).ok_or("a length")?;
-    agree_on_rows(alloc, length, length.data_words() as usize, tails)
 }
 
 /// After the first run there are as many samples as a window has places, or one more; so too below.
 #[test]
 fn judged_alike_in_longer_records(rt: HostRuntime) -> Result<(), Fail> {
     for bytes in [4096, 8192, 16_384] {
-        agree_at_length(rt.alloc(), bytes, &[64, 65])?;
+        agree_at_length(rt.alloc(), bytes, 1, &[64, 65])?;
     }
     Ok(())
 }
 
 #[test]
 fn judged_alike_in_records_of_32768_bytes(rt: HostRuntime) -> Result<(), Fail> {
-    agree_at_length(rt.alloc(), 32_768, &[64, 65])
+    agree_at_length(rt.alloc(), 32_768, 1, &[64, 65])
 }
 
 #[test]
 fn judged_alike_in_records_of_65536_bytes(rt: HostRuntime) -> Result<(), Fail> {
-    agree_at_length(rt.alloc(), 65_536, &[64])
+    agree_at_length(rt.alloc(), 65_536, 1, &[64])
 }
 
 #[test]
 fn judged_alike_in_records_of_65536_bytes_and_a_sample_more(rt: HostRuntime) -> Result<(), Fail> {
-    agree_at_length(rt.alloc(), 65_536, &[65])
+    agree_at_length(rt.alloc(), 65_536, 1, &[65])
 }

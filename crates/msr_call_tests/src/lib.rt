@@ -6,6 +6,8 @@
 #[cfg(test)]
 mod devices;
 #[cfg(test)]
+mod facts;
+#[cfg(test)]
 mod fixtures;
 #[cfg(test)]
 mod judging;

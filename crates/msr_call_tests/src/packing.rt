@@ -1,6 +1,7 @@
 //! Packers and areas, by calls that ask of their caller what no row of a table can know.
+use crate::facts::expect_all;
 use msr_fixtures::expect;
-use msr_packer::{BlockPacker, Packing, Run, pack};
+use msr_packer::{BlockPacker, Piece, Run, pack};
 use msr_plain::{Width, fill_plain};
 use msr_words::Kind::{self, Steim2};
 use msr_words::{Form, Kinds, Length, first_kind, one_division};
@@ -15,16 +16,16 @@ fn the_first_kind_of_a_run() -> Result<(), Fail> {
 }
 
 /// Whether each run has 721 samples of a day, or what is left of it, and its separator where it starts.
-fn are_sevens_of_a_day(packing: &Packing) -> bool {
+fn are_sevens_of_a_day(runs: &[Run], separators: &[u64]) -> bool {
     let mut start = 0u64;
-    for (run, separator) in packing.runs.iter().zip(packing.separators.as_slice()) {
+    for at in 0..runs.len() {
         let end = start.saturating_add(721).min(8_640_000);
         let expected = Run {
             start,
             end,
             kind: Steim2,
         };
-        if *run != expected || *separator != start {
+        if runs[at] != expected || separators.get(at) != Some(&start) {
             return false;
         }
         start = end;
@@ -41,44 +42,50 @@ fn the_ramp_of_a_day(rt: HostRuntime) -> Result<(), Fail> {
         samples.push(sample)?;
     }
     let packing = pack(rt.alloc(), samples.as_slice(), record_length)?;
-    let counts = (packing.runs.len(), packing.separators.len());
-    expect(counts == (11_984, 11_984), "how many")?;
-    expect(are_sevens_of_a_day(&packing), "each run and separator")?;
-    let last = packing.runs.as_slice().last().copied();
+    let (runs, separators) = (packing.runs.as_slice(), packing.separators.as_slice());
     let expected = Run {
         start: 8_639_743,
         end: 8_640_000,
         kind: Steim2,
     };
-    expect(last == Some(expected), "the last run")
+    expect_all(&[
+        (
+            (runs.len(), separators.len()) == (11_984, 11_984),
+            "how many",
+        ),
+        (
+            are_sevens_of_a_day(runs, separators),
+            "each run and separator",
+        ),
+        (runs.last() == Some(&expected), "the last run"),
+    ])
+}
+
+/// Whether the packer gave a piece, of which it tells groups of these sizes.
+fn has_groups(packer: &BlockPacker, piece: Option<Piece>, sizes: &[u8]) -> bool {
+    piece.is_some() && packer.group_sizes() == sizes
 }
 
 /// Of 603 samples of 0 the sizes of all groups are told: twice 43 words of seven, and a word of one.
 #[test]
 fn sizes_of_groups_of_zeros(rt: HostRuntime) -> Result<(), Fail> {
-    let alloc = rt.alloc();
-    let zeros = vec![in alloc; 0; 603]?;
     let length = Length::new(256).ok_or("a length")?;
     let kinds = Kinds::All;
-    let mut packer = BlockPacker::new(alloc, Form { length, kinds });
-    expect(packer.group_sizes().is_empty(), "none before the first")?;
-    packer.push_all(&zeros)?;
-    let full = [7u8; 43];
-    let first = packer.next_piece();
-    expect(
-        first.is_some() && packer.group_sizes() == &full[..],
-        "the first record",
-    )?;
-    let second = packer.last_piece();
-    expect(
-        second.is_some() && packer.group_sizes() == &full[..],
-        "the second record",
-    )?;
-    let third = packer.last_piece();
-    expect(
-        third.is_some() && packer.group_sizes() == &[1u8][..],
-        "one sample",
-    )
+    let mut packer = BlockPacker::new(rt.alloc(), Form { length, kinds });
+    let none = packer.group_sizes().is_empty();
+    packer.push_all(&[0; 603])?;
+    let piece = packer.next_piece();
+    let first = has_groups(&packer, piece, &[7; 43]);
+    let piece = packer.last_piece();
+    let second = has_groups(&packer, piece, &[7; 43]);
+    let piece = packer.last_piece();
+    let third = has_groups(&packer, piece, &[1]);
+    expect_all(&[
+        (none, "none before the first"),
+        (first, "the first record"),
+        (second, "the second record"),
+        (third, "one sample"),
+    ])
 }
 
 /// The area begins with these bytes, and the others are 0.

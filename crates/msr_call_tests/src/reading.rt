@@ -1,17 +1,16 @@
 //! A reader that has records at hand, rows whose samples are joined, and laws.
-ghost use Rattle.std.specs.Prelude.{◌≡◌, IfOk, length};
-
+use crate::facts::expect_all;
 use msr_base::SampleVec;
 use msr_devices::{Behavior, TestSource};
-use msr_fixtures::{Edit, START, expect, int32_record, key_at};
+use msr_fixtures::{Edit, START, int32_record, key_at};
 use msr_input::{NextRecord, ReadFault, RowReader, Settings};
 use msr_record::{Key, Kind, Row};
 use msr_segments::{
     Joiner, cuts_grow_by_rows, cuts_keep_segments, followers_stand_with_joiners,
     overruns_are_out_of_range, rows_have_one_division, steps_are_pushes,
 };
-use msr_time::{Rate, one_nominal_instant};
-use std::alloc::{AllocError, Global};
+use msr_time::{Rate, is_instant, one_nominal_instant};
+use std::alloc::Global;
 use std::test::Fail;
 
 /// Whether a record was given, with or without a row as it was asked for.
@@ -51,38 +50,46 @@ fn records_at_hand_need_no_read(rt: HostRuntime) -> Result<(), Fail> {
     let second = has_row(reader.next_record(&mut source), true);
     let after = reader.holds_record();
     let failed = reader.next_record(&mut source).err() == Some(ReadFault::Read);
-    expect(!before && empty, "the first record")?;
-    expect(between && second, "the second record")?;
-    expect(!after && failed, "the read after them")
+    expect_all(&[
+        (!before && empty, "the first record"),
+        (between && second, "the second record"),
+        (!after && failed, "the read after them"),
+    ])
 }
 
-/// A row of two samples, the second greater by one.
-fn rising(alloc: Global, key: Key, start: i64, first: i32) -> Result<Row, AllocError>
-    ensures start { IfOk result (λ row. row.start ≡ start) }
-    ensures samples { IfOk result (λ row. length row.samples ≡ 2) }
-{
-    Ok(Row {
+/// Whether a row of two samples joins, the second greater by one.
+fn joins(alloc: Global, joiner: &mut Joiner, key: Key, start: i64, first: i32) -> bool {
+    let Ok(samples) = [first, first.wrapping_add(1)].to_vec(alloc) else {
+        return false;
+    };
+    let row = Row {
         key,
         start,
         kind: Kind::Int32,
-        samples: SampleVec::from_vec([first, first.wrapping_add(1)].to_vec(alloc)?),
-    })
+        samples: SampleVec::from_vec(samples),
+    };
+    is_instant(start) && matches!(joiner.push(row), Ok(None))
 }
 
 #[test]
 fn samples_are_joined_in_order(rt: HostRuntime) -> Result<(), Fail> {
     let key = key_at(Rate::new(1, 1).ok_or("no rate")?);
     let mut joiner = Joiner::new(rt.alloc(), 1000);
+    let mut joined = true;
     for (start, first) in [(START, 1), (START + 2_000_000, 3), (START + 4_000_000, 5)] {
-        let ended = joiner.push(rising(rt.alloc(), key, start, first)?);
-        expect(matches!(ended, Ok(None)), "a row that joins")?;
+        joined = joins(rt.alloc(), &mut joiner, key, start, first) && joined;
     }
-    let segment = joiner.finish().ok_or("no segment")?;
-    expect(segment.key == key, "the key")?;
-    expect(
-        segment.samples.as_slice() == [1, 2, 3, 4, 5, 6].as_slice(),
-        "the samples",
-    )
+    let Some(segment) = joiner.finish() else {
+        return Err(Fail::new("no segment"));
+    };
+    expect_all(&[
+        (joined, "a row that joins"),
+        (segment.key == key, "the key"),
+        (
+            segment.samples.as_slice() == [1, 2, 3, 4, 5, 6].as_slice(),
+            "the samples",
+        ),
+    ])
 }
 
 #[test]

@@ -1,4 +1,5 @@
 //! Texts of faults that no input shows.
+use crate::facts::is_text;
 use msr_devices::DeviceFault;
 use msr_fixtures::expect;
 use msr_header::HeaderFault;
@@ -12,9 +13,12 @@ use std::test::Fail;
 fn memory_is_its_own_fault(rt: HostRuntime) -> Result<(), Fail> {
     let (plain, steim, record) = (PlainFault::Memory, SteimFault::Memory, FaultKind::Memory);
     let read = ReadFault::from(DeviceFault::Memory);
-    let text = format!(in rt.alloc(); "{plain}, {steim}, {record}, {read}")?;
+    let text = format!(in rt.alloc(); "{plain}, {steim}, {record}, {read}");
     expect(
-        text.as_str() == "out of memory, out of memory, out of memory, out of memory",
+        is_text(
+            text,
+            "out of memory, out of memory, out of memory, out of memory",
+        ),
         "out of memory",
     )
 }
@@ -27,10 +31,7 @@ fn faults_of_inputs(rt: HostRuntime) -> Result<(), Fail> {
         ReadFault::Input(fault),
         ReadFault::from(DeviceFault::Failed),
     );
-    let text = format!(in rt.alloc(); "{fault}, {input}, {read}")?;
-    expect(
-        text.as_str()
-            == "offset 0: 5 OtherBlockette 500, offset 0: 5 OtherBlockette 500, read fault",
-        "a fault",
-    )
+    let text = format!(in rt.alloc(); "{fault}, {input}, {read}");
+    let expected = "offset 0: 5 OtherBlockette 500, offset 0: 5 OtherBlockette 500, read fault";
+    expect(is_text(text, expected), "a fault")
 }
