@@ -1,57 +1,42 @@
 //! A run that is repeated with each number of a range.
 
-use crate::numbers::{count, no_step};
 use crate::runs;
 use crate::runs::Answer;
-use std::io;
-
-/// The first number, the last one, and the run, `FROM to TO SETTINGS $ WORDS`.
-fn parts(text: &str) -> io::Result<(usize, usize, &str)> {
-    let Some((from, rest)) = text.split_once(" to ") else {
-        return Err(no_step());
-    };
-    let Some((to, run)) = rest.split_once(' ') else {
-        return Err(no_step());
-    };
-    let (from, to) = (count(from)?, count(to)?);
-    if from <= to {
-        Ok((from, to, run))
-    } else {
-        Err(no_step())
-    }
-}
+use crate::stage::Stage;
 
 /// What came of the run with that number in the place of `{number}`.
-fn answer_with(rt: &HostRuntime, run: &str, number: usize) -> io::Result<Answer> {
-    let digits = format!(in rt.alloc(); "{number}")?;
-    let run = run.replace(rt.alloc(), "{number}", digits.as_str())?;
-    match run.split_once('$') {
-        Some((before, after)) if !run.contains('{') => runs::answer_to(rt, before, after),
-        _ => Err(no_step()),
-    }
+fn answer_with(stage: &mut Stage<'_>, run: &str, number: usize) -> Answer {
+    let digits = stage.made(format!(in stage.alloc(); "{number}"));
+    let run = stage.made(run.replace(stage.alloc(), "{number}", digits.as_str()));
+    stage.note(!run.contains('{'));
+    runs::answer_to(stage, run.as_str())
 }
 
 /// Prints what came of the run with these numbers, the first and the last of which are told.
-fn tell_alike(rt: &HostRuntime, first: usize, last: usize, answer: &Answer) -> io::Result<()> {
-    if first == last {
-        print!(rt; "{first}: ")?;
+fn tell_alike(stage: &mut Stage<'_>, first: usize, last: usize, answer: &Answer) {
+    let numbers = if first == last {
+        format!(in stage.alloc(); "{first}: ")
     } else {
-        print!(rt; "{first} to {last}: ")?;
-    }
-    answer.tell(rt)
+        format!(in stage.alloc(); "{first} to {last}: ")
+    };
+    stage.say(numbers);
+    answer.tell(stage);
 }
 
-/// The run with each number from the first to the last; like neighbours are told once.
-pub fn step(rt: &HostRuntime, text: &str) -> io::Result<()> {
-    let (mut first, last, run) = parts(text)?;
-    let mut answer = answer_with(rt, run, first)?;
+/// The run with each number from the first to the last, `FIRST to LAST SETTINGS $ WORDS`; like neighbours are told once.
+pub fn step(stage: &mut Stage<'_>, text: &str) {
+    let (first, rest) = stage.parts(text, " to ");
+    let (last, run) = stage.parts(rest, " ");
+    let (mut first, last) = (stage.count(first), stage.count(last));
+    stage.note(first <= last);
+    let mut answer = answer_with(stage, run, first);
     for number in first..=last {
-        let next = answer_with(rt, run, number)?;
+        let next = answer_with(stage, run, number);
         if next != answer {
-            tell_alike(rt, first, number.saturating_sub(1), &answer)?;
+            tell_alike(stage, first, number.saturating_sub(1), &answer);
             first = number;
             answer = next;
         }
     }
-    tell_alike(rt, first, last, &answer)
+    tell_alike(stage, first, last, &answer);
 }

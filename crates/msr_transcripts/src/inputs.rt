@@ -3,40 +3,33 @@
 use msr_fixtures::{Edit, header_bytes};
 use std::alloc::{AllocError, Global};
 
-/// 302 samples of 32 bits from 2020-01-01 00:00:00 on, 20 a second, in a record of 4096 bytes.
-fn header() -> [u8; 64] {
-    header_bytes(&[
+/// A record of 4096 bytes with this header and these words after it.
+fn long_record(alloc: Global, header: &[u8], words: &[u8]) -> Result<Vec<u8>, AllocError> {
+    let mut record = header.to_vec(alloc)?;
+    record.extend_from_slice(words)?;
+    record.resize(4096, 0)?;
+    Ok(record)
+}
+
+/// A record of 4096 bytes with 302 samples of 0 from 2020-01-01 00:00:00 on, 20 a second.
+pub fn zeros(alloc: Global) -> Result<Vec<u8>, AllocError> {
+    let header = header_bytes(&[
         Edit::SampleCount(302),
         Edit::Encoding(3),
         Edit::Exponent(12),
         Edit::Frames(0),
-    ])
-}
-
-/// A record of 4096 bytes with 302 samples of 0.
-pub fn zeros(alloc: Global) -> Result<Vec<u8>, AllocError> {
-    let mut record = vec![in alloc; 0; 4096]?;
-    record.as_mut_slice()[..64].copy_from_slice(&header());
-    Ok(record)
+    ]);
+    long_record(alloc, &header, &[])
 }
 
 /// A record of 4096 bytes with one sample of 0, whose reverse constant is 1.
 pub fn mismatched(alloc: Global) -> Result<Vec<u8>, AllocError> {
-    let mut first = [0; 76];
-    first[..64].copy_from_slice(&header_bytes(&[
-        Edit::SampleCount(1),
-        Edit::Exponent(12),
-        Edit::Frames(0),
-    ]));
-    first[64] = 1;
-    first[75] = 1;
-    let mut record = vec![in alloc; 0; 4096]?;
-    record.as_mut_slice()[..76].copy_from_slice(&first);
-    Ok(record)
+    let header = header_bytes(&[Edit::SampleCount(1), Edit::Exponent(12), Edit::Frames(0)]);
+    long_record(alloc, &header, &[1, 0, 0, 0, 0, 0, 0, 0, 0, 0, 0, 1])
 }
 
 /// A wave that dies down, as the samples of each record of the second sample file.
-const WAVE: [i16; 100] = [
+const WAVE: &[i16] = &[
     0, 957, 1765, 2342, 2638, 2635, 2348, 1821, 1123, 338, -445, -1142, -1682, -2014, -2112, -1977,
     -1636, -1134, -534, 94, 681, 1166, 1502, 1659, 1629, 1425, 1077, 629, 136, -348, -771, -1090,
     -1276, -1315, -1210, -979, -654, -275, 116, 475, 766, 959, 1040, 1004, 862, 633, 348, 38, -260,
@@ -45,35 +38,30 @@ const WAVE: [i16; 100] = [
     100, -21, -134, -226, -290, -319, -312, -272, -205, -119, -24, 69, 150, 211, 246, 252,
 ];
 
-/// A record of that file, by its number and the second at which it begins.
-fn short_record(number: [u8; 6], second: u8) -> [u8; 512] {
-    let mut record = [0; 512];
-    record[..64].copy_from_slice(&header_bytes(&[
+/// Adds a record of that file, by its number and the second at which it begins.
+fn add_record(bytes: &mut Vec<u8>, number: [u8; 6], second: u8) -> Result<(), AllocError> {
+    bytes.extend_from_slice(&header_bytes(&[
         Edit::Sequence(number),
         Edit::Clock(0, 0, second, 0),
         Edit::SampleCount(100),
         Edit::Encoding(1),
         Edit::Exponent(9),
         Edit::Frames(0),
-    ]));
-    for (place, sample) in WAVE.iter().enumerate() {
-        record[64 + 2 * place..66 + 2 * place].copy_from_slice(&sample.to_be_bytes());
+    ]))?;
+    for sample in WAVE {
+        bytes.extend_from_slice(&sample.to_be_bytes())?;
     }
-    record
+    bytes.extend_from_slice(&[0; 248])
 }
 
 /// The second sample file: five records of 512 bytes with 100 samples of 16 bits each, and a gap of ten seconds
 /// after the third.
 pub fn two_segments(alloc: Global) -> Result<Vec<u8>, AllocError> {
     let mut bytes = Vec::new(alloc);
-    for (number, second) in [
-        (*b"000001", 0),
-        (*b"000002", 5),
-        (*b"000003", 10),
-        (*b"000004", 25),
-        (*b"000005", 30),
-    ] {
-        bytes.extend_from_slice(&short_record(number, second))?;
-    }
+    add_record(&mut bytes, *b"000001", 0)?;
+    add_record(&mut bytes, *b"000002", 5)?;
+    add_record(&mut bytes, *b"000003", 10)?;
+    add_record(&mut bytes, *b"000004", 25)?;
+    add_record(&mut bytes, *b"000005", 30)?;
     Ok(bytes)
 }

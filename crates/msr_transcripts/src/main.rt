@@ -9,16 +9,17 @@ mod each;
 mod files;
 mod inputs;
 mod names;
-mod numbers;
 mod odd_files;
 mod questions;
 mod records;
 mod runs;
 mod samples;
 mod settings;
+mod stage;
 mod steps;
 
 use names::Names;
+use stage::Stage;
 use std::io;
 
 fn main(rt: HostRuntime) -> io::Result<()> {
@@ -26,7 +27,12 @@ fn main(rt: HostRuntime) -> io::Result<()> {
     for line in rt.lines(rt.alloc()) {
         let line = line?;
         println!(&rt; "{line}")?;
-        if steps::step(&rt, &mut names, line.as_str()).is_err() {
+        let mut stage = Stage {
+            rt: &rt,
+            has_failed: false,
+        };
+        steps::step(&mut stage, &mut names, line.as_str());
+        if stage.has_failed {
             println!(&rt; "no such step, or a file that cannot be used")?;
         }
     }

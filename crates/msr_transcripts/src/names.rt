@@ -1,11 +1,11 @@
 //! Names that a script gives to texts.
 
-use std::alloc::{AllocError, Global};
+use crate::stage::Stage;
+use std::alloc::Global;
 
 /// The texts that a script gave names, each with its name in braces.
 #[derive(Drop)]
 pub struct Names {
-    alloc: Global,
     rows: Vec<(String, String)>,
 }
 
@@ -13,25 +13,24 @@ impl Names {
     /// No names.
     pub fn new(alloc: Global) -> Names {
         Names {
-            alloc,
             rows: Vec::new(alloc),
         }
     }
 
     /// Gives a text a name, also one that another text had.
-    pub fn add(&mut self, name: &str, text: &str) -> Result<(), AllocError> {
-        let mark = format!(in self.alloc; "{{{name}}}")?;
-        let text = text.to_string(self.alloc)?;
-        self.rows.push((mark, text))?;
-        Ok(())
+    pub fn add(&mut self, stage: &mut Stage<'_>, name: &str, text: &str) {
+        let mark = stage.made(format!(in stage.alloc(); "{{{name}}}"));
+        let text = stage.made(text.to_string(stage.alloc()));
+        stage.note(self.rows.push((mark, text)).is_ok());
     }
 
     /// The line with each name in braces replaced by its text.
-    pub fn expanded(&self, line: &str) -> Result<String, AllocError> {
-        let mut expanded = line.to_string(self.alloc)?;
+    pub fn expanded(&self, stage: &mut Stage<'_>, line: &str) -> String {
+        let mut expanded = stage.made(line.to_string(stage.alloc()));
         for (mark, text) in self.rows.iter().rev() {
-            expanded = expanded.replace(self.alloc, mark.as_str(), text.as_str())?;
+            let next = expanded.replace(stage.alloc(), mark.as_str(), text.as_str());
+            expanded = stage.made(next);
         }
-        Ok(expanded)
+        expanded
     }
 }

@@ -1,6 +1,5 @@
 //! The system's files, but for one folder, some names, and what standard input and output are redirected to.
 
-use crate::numbers::no_step;
 use std::alloc::{Allocator, Global};
 use std::fs::{Metadata, OpenFile, OpenOptions};
 use std::io::{ErrorKind, Read};
@@ -11,18 +10,18 @@ use std::{fs, io};
 /// What another program writes to a file that it took.
 const TAKEN: &[u8] = b"another's";
 
-/// The folder with the path, which ends in a slash, has these names, each ended by a NUL, or cannot be opened. If the
-/// last name is cut short, reading fails there. A file gets the later name only if the earlier one is there and the one
-/// that is to be gone is not. Once a file whose name matches `made` is there, the other one is opened in its place. When
-/// a new file is made whose name matches `when`, the file `taken` is replaced, as another program would. When a claim is
-/// made, the file `linked` gets the name beside that of the records, too. A file whose name matches `stays` cannot be
-/// removed. Standard input is redirected from the file `redirected`, and standard output to the file `redirecting`, if
-/// these are names.
+/// The folder with the path, which ends in a slash, has these names, each ended by a NUL; without any it cannot be
+/// opened. If the last name is cut short, reading fails there. A file gets the later name only if the earlier one is
+/// there and the one that is to be gone is not. Once a file whose name matches `made` is there, the other one is opened
+/// in its place. When a new file is made whose name matches `when`, the file `taken` is replaced, as another program
+/// would. When a claim is made, the file `linked` gets the name beside that of the records, too. A file whose name
+/// matches `stays` cannot be removed. Standard input is redirected from the file `redirected`, and standard output to
+/// the file `redirecting`, if these are names.
 #[derive(Clone, Copy)]
 pub struct OddFiles<'a> {
     rt: &'a HostRuntime,
     path: &'a str,
-    names: Option<&'static [u8]>,
+    names: &'static [u8],
     earlier: &'a str,
     later: &'a str,
     made: &'a str,
@@ -42,7 +41,7 @@ impl<'a> OddFiles<'a> {
         OddFiles {
             rt,
             path: "",
-            names: None,
+            names: b"",
             earlier: "",
             later: "",
             made: "",
@@ -57,11 +56,11 @@ impl<'a> OddFiles<'a> {
         }
     }
 
-    /// The files with one thing more that is odd, by its name and value.
-    pub fn with(mut self, name: &str, value: &'a str) -> io::Result<OddFiles<'a>> {
+    /// Adds one thing that is odd, by its name and value, if there are such.
+    pub fn set(&mut self, name: &str, value: &'a str) -> bool {
         match name {
             "folder" => self.path = value,
-            "names" => self.names = listed(value)?,
+            "names" => return self.set_names(value),
             "earlier" => self.earlier = value,
             "later" => self.later = value,
             "made" => self.made = value,
@@ -73,9 +72,23 @@ impl<'a> OddFiles<'a> {
             "stays" => self.stays = value,
             "redirected" => self.redirected = value,
             "redirecting" => self.redirecting = value,
-            _ => return Err(no_step()),
+            _ => return false,
         }
-        Ok(self)
+        true
+    }
+
+    /// Takes the names of a folder that cannot be opened, that cannot be read to its end, or that has a name that is not
+    /// UTF-8; or names with control characters, and one without; or that of a day.
+    fn set_names(&mut self, kind: &str) -> bool {
+        self.names = match kind {
+            "closed" => b"",
+            "cut" => b"XX.TEST.00.BHN",
+            "latin" => b"a\0\xff\0",
+            "marked" => b"a\nrefused b\0\t\0\x7f\x1f\0\xc3\xa9 ~\0",
+            "day" => b"XX.TEST.00.BHZ.D.2020.001\0",
+            _ => return false,
+        };
+        true
     }
 
     /// The path of a file, also if it is that of standard input or output.
@@ -114,19 +127,6 @@ fn matches(pattern: &str, path: &str) -> bool {
     match path.strip_prefix(head) {
         Some(rest) => rest.ends_with(tail),
         None => false,
-    }
-}
-
-/// The names of a folder that cannot be opened, that cannot be read to its end, or that has a name that is not UTF-8;
-/// or names with control characters, and one without; or that of a day.
-fn listed(text: &str) -> io::Result<Option<&'static [u8]>> {
-    match text {
-        "closed" => Ok(None),
-        "cut" => Ok(Some(b"XX.TEST.00.BHN")),
-        "latin" => Ok(Some(b"a\0\xff\0")),
-        "marked" => Ok(Some(b"a\nrefused b\0\t\0\x7f\x1f\0\xc3\xa9 ~\0")),
-        "day" => Ok(Some(b"XX.TEST.00.BHZ.D.2020.001\0")),
-        _ => Err(no_step()),
     }
 }
 
@@ -179,10 +179,10 @@ impl<'a> Files for OddFiles<'a> {
         if path != self.path {
             return Ok(Names::Host(self.rt.open_dir(path)?));
         }
-        match self.names {
-            Some(names) => Ok(Names::Odd(names)),
-            None => Err(ErrorKind::PermissionDenied.into()),
+        if self.names.is_empty() {
+            return Err(ErrorKind::PermissionDenied.into());
         }
+        Ok(Names::Odd(self.names))
     }
 
     fn metadata(&self, path: &str) -> io::Result<Metadata> {

@@ -1,87 +1,95 @@
 //! Steps that print what is in files.
 
-use crate::files::tell;
-use crate::numbers::{count, no_step, number};
-use std::{fs, io};
+use crate::stage::Stage;
+use std::fs;
 
 /// How many bytes a file has.
-fn size(rt: &HostRuntime, path: &str) -> io::Result<()> {
-    let bytes = fs::read(rt, path)?;
-    println!(rt; "{} bytes", bytes.len())
+fn size(stage: &mut Stage<'_>, path: &str) {
+    let count = stage.read(path).len();
+    stage.say(format!(in stage.alloc(); "{count} bytes\n"));
 }
 
 /// Whether there is something, also a link that leads nowhere.
-fn has(rt: &HostRuntime, path: &str) -> io::Result<()> {
-    let is_there = fs::symlink_metadata(rt, path).is_ok();
-    println!(rt; "{is_there}")
+fn has(stage: &mut Stage<'_>, path: &str) {
+    stage.say_whether(fs::symlink_metadata(stage.rt, path).is_ok());
 }
 
-/// A name in a folder. The number of a claim, which differs from run to run, is told as `N`.
-fn name_told(rt: &HostRuntime, name: &str) -> io::Result<String> {
-    if let Some(whole) = name.strip_suffix(".part") {
-        if let Some((path, number)) = whole.rsplit_once('.') {
-            if number.bytes().all(|digit| digit.is_ascii_digit()) {
-                return Ok(format!(in rt.alloc(); "{path}.N.part")?);
-            }
-        }
-    }
-    Ok(name.to_string(rt.alloc())?)
+/// The part of a name before the number of a claim, which differs from run to run.
+fn before_number(name: &str) -> Option<&str> {
+    let (path, number) = name.strip_suffix(".part")?.rsplit_once('.')?;
+    number.parse::<u64>().is_ok().then_some(path)
+}
+
+/// Adds a name in a folder. The number of a claim is told as `N`.
+fn add_name(stage: &mut Stage<'_>, names: &mut Vec<String>, name: &str) {
+    let told = match before_number(name) {
+        Some(path) => format!(in stage.alloc(); "{path}.N.part"),
+        None => name.to_string(stage.alloc()),
+    };
+    let told = stage.made(told);
+    stage.note(names.push(told).is_ok());
 }
 
 /// The names in a folder, in the order of their bytes.
-fn names(rt: &HostRuntime, folder: &str) -> io::Result<()> {
-    let mut names = Vec::new(rt.alloc());
-    for entry in fs::read_dir(rt, folder)? {
-        names.push(name_told(rt, entry?.file_name())?)?;
+fn names(stage: &mut Stage<'_>, folder: &str) {
+    let Ok(entries) = fs::read_dir(stage.rt, folder) else {
+        return stage.note(false);
+    };
+    let mut names = Vec::new(stage.alloc());
+    for entry in entries {
+        match entry {
+            Ok(entry) => add_name(stage, &mut names, entry.file_name()),
+            Err(_) => stage.note(false),
+        }
     }
     names.sort_unstable();
     for name in &names {
-        println!(rt; "{name}")?;
+        stage.put(name.as_str().as_bytes());
+        stage.put(b"\n");
     }
-    Ok(())
 }
 
 /// Whether two files have the same bytes.
-fn same(rt: &HostRuntime, one: &str, other: &str) -> io::Result<()> {
-    let is_same = fs::read(rt, one)?.as_slice() == fs::read(rt, other)?.as_slice();
-    println!(rt; "{is_same}")
+fn same(stage: &mut Stage<'_>, one: &str, other: &str) {
+    let (one, other) = (stage.read(one), stage.read(other));
+    stage.say_whether(one.as_slice() == other.as_slice());
 }
 
 /// Whether the bytes of a file begin with those of another.
-fn prefix(rt: &HostRuntime, part: &str, whole: &str) -> io::Result<()> {
-    let part = fs::read(rt, part)?;
-    let begins = fs::read(rt, whole)?.as_slice().starts_with(part.as_slice());
-    println!(rt; "{begins}")
+fn prefix(stage: &mut Stage<'_>, part: &str, whole: &str) {
+    let (part, whole) = (stage.read(part), stage.read(whole));
+    stage.say_whether(whole.as_slice().starts_with(part.as_slice()));
 }
 
 /// The text of a file.
-fn show(rt: &HostRuntime, path: &str) -> io::Result<()> {
-    tell(rt, fs::read(rt, path)?.as_slice())
+fn show(stage: &mut Stage<'_>, path: &str) {
+    let bytes = stage.read(path);
+    stage.tell(bytes.as_slice());
 }
 
 /// The first bytes of a file and its last, `FIRST/LAST`.
-fn ends(rt: &HostRuntime, path: &str, counts: &str) -> io::Result<()> {
-    let Some((first, last)) = counts.split_once('/') else {
-        return Err(no_step());
-    };
-    let bytes = fs::read(rt, path)?;
-    let head = count(first)?.min(bytes.len());
-    let tail = bytes.len() - count(last)?.min(bytes.len());
-    tell(rt, &bytes[..head])?;
-    tell(rt, &bytes[tail..])
+fn ends(stage: &mut Stage<'_>, path: &str, counts: &str) {
+    let (first, last) = stage.parts(counts, "/");
+    let (first, last) = (stage.count(first), stage.count(last));
+    let bytes = stage.read(path);
+    let bytes = bytes.as_slice();
+    stage.tell(&bytes[..first.min(bytes.len())]);
+    stage.tell(&bytes[bytes.len() - last.min(bytes.len())..]);
 }
 
 /// The bytes of a file from a place to another, `FROM..TO`, in hexadecimal.
-fn hex(rt: &HostRuntime, path: &str, range: &str) -> io::Result<()> {
-    let Some((from, to)) = range.split_once("..") else {
-        return Err(no_step());
-    };
-    let (from, to) = (count(from)?, count(to)?);
-    let bytes = fs::read(rt, path)?;
-    for byte in bytes.iter().take(to).skip(from) {
-        print!(rt; "{byte:02x}")?;
+fn hex(stage: &mut Stage<'_>, path: &str, range: &str) {
+    let (from, to) = stage.parts(range, "..");
+    let (from, to) = (stage.count(from), stage.count(to));
+    let bytes = stage.read(path);
+    for byte in bytes
+        .as_slice()
+        .get(from..to.min(bytes.len()))
+        .unwrap_or(&[])
+    {
+        stage.say(format!(in stage.alloc(); "{byte:02x}"));
     }
-    println!(rt; "")
+    stage.put(b"\n");
 }
 
 /// The number of samples and the encoding of a record.
@@ -93,30 +101,31 @@ fn shape_of(record: &[u8]) -> (u16, u8) {
 }
 
 /// A line for records that are alike.
-fn tell_shapes(rt: &HostRuntime, shape: (u16, u8), times: usize) -> io::Result<()> {
+fn tell_shapes(stage: &mut Stage<'_>, shape: (u16, u8), times: usize) {
     let (samples, encoding) = shape;
     match times {
-        0 => Ok(()),
-        1 => println!(rt; "{samples} {encoding}"),
-        _ => println!(rt; "{samples} {encoding} *{times}"),
+        0 => {}
+        1 => stage.say(format!(in stage.alloc(); "{samples} {encoding}\n")),
+        _ => stage.say(format!(in stage.alloc(); "{samples} {encoding} *{times}\n")),
     }
 }
 
 /// The number of samples and the encoding of each record of that length, like neighbours in one line.
-fn shapes(rt: &HostRuntime, path: &str, length: &str) -> io::Result<()> {
-    let bytes = fs::read(rt, path)?;
+fn shapes(stage: &mut Stage<'_>, path: &str, length: &str) {
+    let bytes = stage.read(path);
+    let length = stage.count(length).max(1);
     let mut shape = (0, 0);
     let mut times = 0usize;
-    for record in bytes.chunks(count(length)?.max(1)) {
+    for record in bytes.as_slice().chunks(length) {
         let next = shape_of(record);
         if next != shape {
-            tell_shapes(rt, shape, times)?;
+            tell_shapes(stage, shape, times);
             times = 0;
         }
         shape = next;
         times = times.saturating_add(1);
     }
-    tell_shapes(rt, shape, times)
+    tell_shapes(stage, shape, times);
 }
 
 /// Numbers of which each is as far above the one before it as the second one is above the first.
@@ -149,52 +158,54 @@ impl Rise {
         })
     }
 
-    fn tell(self, rt: &HostRuntime) -> io::Result<()> {
-        if self.by == 0 {
-            return println!(rt; "{}", self.first);
+    fn tell(self, stage: &mut Stage<'_>) {
+        let Rise { first, by, last } = self;
+        if by == 0 {
+            stage.say(format!(in stage.alloc(); "{first}\n"));
+        } else {
+            stage.say(format!(in stage.alloc(); "{first} by {by} to {last}\n"));
         }
-        println!(rt; "{} by {} to {}", self.first, self.by, self.last)
     }
 }
 
 /// The numbers after the first word of a line, those that rise evenly in one line.
-fn rises(rt: &HostRuntime, path: &str, line: &str) -> io::Result<()> {
-    let place = count(line)?.saturating_sub(1);
-    let text = fs::read_to_string(rt, path)?;
-    let Some(line) = text.lines().nth(place) else {
-        return Err(no_step());
+fn rises(stage: &mut Stage<'_>, path: &str, line: &str) {
+    let place = stage.count(line).saturating_sub(1);
+    let text = stage.read_text(path);
+    let Some(line) = text.as_str().lines().nth(place) else {
+        return stage.note(false);
     };
     let mut words = line.split(' ').skip(1);
     let Some(word) = words.next() else {
-        return Ok(());
+        return;
     };
-    let mut rise = Rise::of(number(word)?);
+    let mut rise = Rise::of(stage.number(word));
     for word in words {
-        let next = number(word)?;
-        match rise.with(next) {
-            Some(longer) => rise = longer,
+        let number = stage.number(word);
+        rise = match rise.with(number) {
+            Some(longer) => longer,
             None => {
-                rise.tell(rt)?;
-                rise = Rise::of(next);
+                rise.tell(stage);
+                Rise::of(number)
             }
-        }
+        };
     }
-    rise.tell(rt)
+    rise.tell(stage);
 }
 
 /// The question with these words.
-pub fn ask(rt: &HostRuntime, verb: &str, one: &str, other: &str) -> io::Result<()> {
+pub fn ask(stage: &mut Stage<'_>, verb: &str, one: &str, other: &str) {
     match verb {
-        "size" => size(rt, one),
-        "has" => has(rt, one),
-        "names" => names(rt, one),
-        "same" => same(rt, one, other),
-        "prefix" => prefix(rt, one, other),
-        "show" => show(rt, one),
-        "ends" => ends(rt, one, other),
-        "hex" => hex(rt, one, other),
-        "shapes" => shapes(rt, one, other),
-        "rises" => rises(rt, one, other),
-        _ => Err(no_step()),
+        "size" => size(stage, one),
+        "has" => has(stage, one),
+        "names" => names(stage, one),
+        "same" => same(stage, one, other),
+        "prefix" => prefix(stage, one, other),
+        "show" => show(stage, one),
+        "ends" => ends(stage, one, other),
+        "hex" => hex(stage, one, other),
+        "shapes" => shapes(stage, one, other),
+        "rises" => rises(stage, one, other),
+        _ => stage.note(false),
     }
 }

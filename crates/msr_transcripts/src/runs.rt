@@ -1,12 +1,11 @@
 //! Runs of msrepack over streams of memory.
 
-use crate::files;
 use crate::settings::Settings;
+use crate::stage::Stage;
 use msr_arguments::read_words;
 use msr_command::{Errors, run};
 use msr_tool::{TestSink, TestSource};
 use std::fs::{File, OpenOptions};
-use std::{fs, io};
 
 /// What came of a run: what it printed, unless a file keeps that, its complaint, and its status.
 #[derive(Drop, PartialEq)]
@@ -18,79 +17,87 @@ pub struct Answer {
 
 impl Answer {
     /// Prints it, with the complaint marked.
-    pub fn tell(&self, rt: &HostRuntime) -> io::Result<()> {
-        files::tell(rt, self.printed.as_slice())?;
+    pub fn tell(&self, stage: &mut Stage<'_>) {
+        stage.tell(self.printed.as_slice());
         if !self.complaint.is_empty() {
-            print!(rt; "! ")?;
-            files::tell(rt, self.complaint.as_slice())?;
+            stage.put(b"! ");
+            stage.tell(self.complaint.as_slice());
         }
-        println!(rt; "status {}", self.status)
+        let status = self.status;
+        stage.say(format!(in stage.alloc(); "status {status}\n"));
     }
 }
 
 /// The bytes of standard input: those of the file that is named, as many as come.
-fn given(rt: &HostRuntime, settings: &Settings<'_>) -> io::Result<Vec<u8>> {
+fn given(stage: &mut Stage<'_>, settings: &Settings<'_>) -> Vec<u8> {
     if settings.from.is_empty() {
-        return Ok(Vec::new(rt.alloc()));
+        return Vec::new(stage.alloc());
     }
-    let mut bytes = fs::read(rt, settings.from)?;
+    let mut bytes = stage.read(settings.from);
     bytes.truncate(settings.cut);
-    Ok(bytes)
+    bytes
 }
 
-/// What a run printed, or nothing, if a file is to keep it.
-fn shown(rt: &HostRuntime, printed: &[u8], into: &str) -> io::Result<Vec<u8>> {
-    if into.is_empty() {
-        return Ok(printed.to_vec(rt.alloc())?);
-    }
-    files::write(rt, into, printed)?;
-    Ok(Vec::new(rt.alloc()))
-}
-
-/// Locks the file, as another program would, until it is closed.
-fn hold(rt: &HostRuntime, path: &str) -> io::Result<Option<File>> {
+/// The file, locked as by another program until it is closed, if there is one with that path.
+fn held(stage: &mut Stage<'_>, path: &str) -> Option<File> {
     if path.is_empty() {
-        return Ok(None);
+        return None;
     }
-    let file = OpenOptions::new().write(true).open(rt, path)?;
-    file.try_lock()?;
-    Ok(Some(file))
+    let file = OpenOptions::new().write(true).open(stage.rt, path).ok();
+    match &file {
+        Some(file) => stage.note(file.try_lock().is_ok()),
+        None => stage.note(false),
+    }
+    file
 }
 
-/// Runs msrepack with these words, of which the first is its name.
-fn run_with(rt: &HostRuntime, settings: &Settings<'_>, words: &[&str]) -> io::Result<Answer> {
-    let _held = hold(rt, settings.held)?;
-    let input = given(rt, settings)?;
+/// What came of msrepack with these words, of which the first is its name.
+fn answer_with(stage: &mut Stage<'_>, settings: &Settings<'_>, words: &[&str]) -> Answer {
+    let alloc = stage.alloc();
+    let _held = held(stage, settings.held);
+    let input = given(stage, settings);
     let mut source = TestSource::new(input.as_slice(), settings.reading);
-    let mut sink = TestSink::new(Vec::new(rt.alloc()), settings.writing);
+    let mut sink = TestSink::new(Vec::new(alloc), settings.writing);
     let mut errors = Errors {
-        to: Vec::new(rt.alloc()),
+        to: Vec::new(alloc),
         is_terminal: settings.is_terminal,
     };
-    let status = run(
-        &settings.odd,
-        rt.alloc(),
-        read_words(rt.alloc(), words),
-        &mut source,
-        &mut sink,
-        &mut errors,
-    );
-    Ok(Answer {
-        printed: shown(rt, sink.bytes(), settings.into)?,
+    let mut status = 0;
+    if !stage.has_failed {
+        let words = read_words(alloc, words);
+        status = run(
+            &settings.odd,
+            alloc,
+            words,
+            &mut source,
+            &mut sink,
+            &mut errors,
+        );
+    }
+    let mut printed = Vec::new(alloc);
+    if settings.into.is_empty() {
+        stage.note(printed.extend_from_slice(sink.bytes()).is_ok());
+    } else {
+        stage.write(settings.into, sink.bytes());
+    }
+    Answer {
+        printed,
         complaint: errors.to,
         status,
-    })
+    }
 }
 
-/// What came of a run whose settings stand before the `$` and its words after it.
-pub fn answer_to(rt: &HostRuntime, before: &str, after: &str) -> io::Result<Answer> {
-    let mut settings = Settings::new(rt);
+/// What came of a run, `SETTINGS $ WORDS`.
+pub fn answer_to(stage: &mut Stage<'_>, line: &str) -> Answer {
+    let (before, after) = stage.parts(line, "$");
+    let mut settings = Settings::new(stage.rt);
     for setting in before.split_whitespace() {
-        settings = settings.with(setting)?;
+        settings.set(stage, setting);
     }
-    let mut words = vec![in rt.alloc(); "msrepack"]?;
+    let mut words = Vec::new(stage.alloc());
+    stage.note(words.push("msrepack").is_ok());
     for word in after.split_whitespace() {
-        words.push(word)?;
+        stage.note(words.push(word).is_ok());
     }
-    run_with(rt, &settings, words.as_slice())
+    answer_with(stage, &settings, words.as_slice())
 }

@@ -1,9 +1,8 @@
 //! What a run is given beside its words.
 
-use crate::numbers::count;
 use crate::odd_files::OddFiles;
+use crate::stage::Stage;
 use msr_tool::Behavior;
-use std::io;
 
 /// A device that moves all that it is given, and never fails.
 const PLAIN: Behavior = Behavior {
@@ -15,7 +14,7 @@ const PLAIN: Behavior = Behavior {
 /// What a run is given beside its words: the name of the file that is its standard input and how many of its bytes come
 /// at most, of the one that keeps what it prints, and of one that another program has locked, if there are such; how its
 /// streams behave, whether standard error is a terminal, and what is odd in the files that it sees.
-#[derive(Clone, Copy)]
+#[derive(Drop)]
 pub struct Settings<'a> {
     pub from: &'a str,
     pub cut: usize,
@@ -29,21 +28,17 @@ pub struct Settings<'a> {
 
 /// How a device behaves: with `100@3` it moves at most 100 bytes in a call, and fails at call 3, counted from 0. With
 /// `3` it moves all bytes.
-fn behavior(text: &str) -> io::Result<Behavior> {
-    let (most, at) = match text.split_once('@') {
-        Some((most, at)) => (count(most)?, at),
-        None => (usize::MAX, text),
-    };
-    let fails_at = if at.is_empty() {
-        None
-    } else {
-        Some(count(at)? as u64)
-    };
-    Ok(Behavior {
-        most,
-        fails_at,
-        ..PLAIN
-    })
+fn behavior(stage: &mut Stage<'_>, text: &str) -> Behavior {
+    let mut behavior = PLAIN;
+    let mut at = text;
+    if let Some((most, last)) = text.split_once('@') {
+        behavior.most = stage.count(most);
+        at = last;
+    }
+    if !at.is_empty() {
+        behavior.fails_at = Some(stage.count(at) as u64);
+    }
+    behavior
 }
 
 impl<'a> Settings<'a> {
@@ -61,19 +56,18 @@ impl<'a> Settings<'a> {
         }
     }
 
-    /// The settings with one more, written `NAME=VALUE`, or `terminal`.
-    pub fn with(mut self, setting: &'a str) -> io::Result<Settings<'a>> {
+    /// Adds a setting, written `NAME=VALUE`, or `terminal`.
+    pub fn set(&mut self, stage: &mut Stage<'_>, setting: &'a str) {
         let (name, value) = setting.split_once('=').unwrap_or((setting, ""));
         match name {
             "from" => self.from = value,
-            "cut" => self.cut = count(value)?,
+            "cut" => self.cut = stage.count(value),
             "into" => self.into = value,
             "held" => self.held = value,
-            "reading" => self.reading = behavior(value)?,
-            "writing" => self.writing = behavior(value)?,
+            "reading" => self.reading = behavior(stage, value),
+            "writing" => self.writing = behavior(stage, value),
             "terminal" => self.is_terminal = true,
-            _ => self.odd = self.odd.with(name, value)?,
+            _ => stage.note(self.odd.set(name, value)),
         }
-        Ok(self)
     }
 }

@@ -1,36 +1,35 @@
 //! One line of a script.
 
 use crate::names::Names;
-use crate::numbers::no_step;
+use crate::stage::Stage;
 use crate::{each, files, runs};
-use std::io;
 
 /// What the line asks for once its names are replaced: a name for a text, or a step with files.
-fn named_step(rt: &HostRuntime, names: &mut Names, line: &str) -> io::Result<()> {
+fn named_step(stage: &mut Stage<'_>, names: &mut Names, line: &str) {
     let (verb, rest) = line.split_once(' ').unwrap_or((line, ""));
     let (one, other) = rest.split_once(' ').unwrap_or((rest, ""));
     if verb == "let" {
-        names.add(one, other)?;
-        return Ok(());
+        names.add(stage, one, other);
+    } else {
+        files::step(stage, verb, one, other);
     }
-    files::step(rt, verb, one, other)
 }
 
 /// What the line asks for: a run, `SETTINGS $ WORDS`, or one that is repeated; nothing, `# TEXT` or no text; or another
 /// step.
-pub fn step(rt: &HostRuntime, names: &mut Names, line: &str) -> io::Result<()> {
+pub fn step(stage: &mut Stage<'_>, names: &mut Names, line: &str) {
     if line.is_empty() || line.starts_with('#') {
-        return Ok(());
+        return;
     }
-    let line = names.expanded(line)?;
+    let line = names.expanded(stage, line);
+    let line = line.as_str();
     if let Some(repeated) = line.strip_prefix("each ") {
-        return each::step(rt, repeated);
-    }
-    if line.contains('{') {
-        return Err(no_step());
-    }
-    match line.split_once('$') {
-        Some((before, after)) => runs::answer_to(rt, before, after)?.tell(rt),
-        None => named_step(rt, names, line.as_str()),
+        each::step(stage, repeated);
+    } else if line.contains('{') {
+        stage.note(false);
+    } else if line.contains('$') {
+        runs::answer_to(stage, line).tell(stage);
+    } else {
+        named_step(stage, names, line);
     }
 }
