@@ -1,124 +1,137 @@
 //! Areas of samples, and words of differences.
 
-ghost use Rattle.std.specs.Prelude.{IsTrue, map};
+ghost use Rattle.std.specs.Prelude.{IsTrue, map, ◌≤◌, length};
 ghost use Rattle.msr_steim.specs.Word.{AreGroups};
 
-use crate::lists::{Hexadecimal, samples};
-use crate::words::{Words, differ};
-use msr_base::SampleVec;
-use msr_plain::{PlainFault, decode_plain, decode_plain_into, plain_samples};
+use crate::line::Line;
+use crate::lists::Hexadecimal;
+use msr_base::{Order, SampleVec};
+use msr_plain::{PlainFault, PlainSamples, decode_plain, decode_plain_into, plain_samples};
 use msr_steim::{
     Group, SteimFault, SteimSamples, Version, decode_steim, decode_steim_into, fill_steim,
     group_width, is_group, read_word, steim_samples, write_word,
 };
-use std::alloc::Global;
 
 /// A list to which the first sample is pushed, and the others at once.
-fn grown_of(alloc: Global, first: i32, others: &[i32]) -> Option<SampleVec> {
-    let mut grown = SampleVec::new(alloc);
-    if !grown.as_slice().is_empty() {
-        return None;
-    }
-    grown.push(first).ok()?;
-    grown.extend_from_slice(others).ok()?;
-    Some(grown)
+fn grown_of(line: &mut Line<'_>, first: i32, others: &[i32]) -> SampleVec {
+    let mut grown = SampleVec::new(line.alloc);
+    line.agree(grown.as_slice().is_empty());
+    line.is_bad |= grown.push(first).is_err();
+    line.is_bad |= grown.extend_from_slice(others).is_err();
+    grown
+}
+
+/// Shows the vector of a list, from which the list can be made.
+fn put_vector(line: &mut Line<'_>, grown: SampleVec, first: i32, others: &[i32]) {
+    let values = grown.into_vec();
+    line.put(format_args!("{values:?}"));
+    let is_same = SampleVec::from_vec(values) == grown_of(line, first, others);
+    line.agree(is_same);
 }
 
 /// `samples NUMBERS`: a list to which the first is pushed and the others at once, its count, and its vector.
-pub fn grown(words: &mut Words<'_>) -> Option<String> {
-    let (alloc, samples) = (words.alloc, words.samples()?);
-    let (first, others) = samples.as_slice().split_first()?;
-    let grown = grown_of(alloc, *first, others)?;
-    let text = format!(in alloc; "{grown:?}, {}", grown.len()).ok()?;
-    if (grown == grown_of(alloc, *first, &[])?) != others.is_empty() {
-        return differ(alloc);
-    }
-    let values = grown.into_vec();
-    let text = format!(in alloc; "{text}, {values:?}").ok()?;
-    if SampleVec::from_vec(values) != grown_of(alloc, *first, others)? {
-        return differ(alloc);
-    }
-    Some(text)
+pub fn grown(line: &mut Line<'_>) {
+    let samples = line.samples();
+    let Some((first, others)) = samples.as_slice().split_first() else {
+        return line.bad(());
+    };
+    let grown = grown_of(line, *first, others);
+    line.put(format_args!("{grown:?}, {}, ", grown.len()));
+    let is_first = grown == grown_of(line, *first, &[]);
+    line.agree(is_first == others.is_empty());
+    put_vector(line, grown, *first, others);
 }
+
+/// What is put where samples are to be decoded.
+const BEFORE: i32 = 7;
 
 /// `plain WIDTH ORDER COUNT AREA`: so many samples of an area of integers, or why it has not as many.
-pub fn plain(words: &mut Words<'_>) -> Option<String> {
-    let (width, order, count) = (words.width()?, words.order()?, words.number::<u16>()?);
-    let area = words.bytes()?;
-    let kept = vec![in words.alloc; 7; usize::from(count)].ok()?;
-    let mut out = vec![in words.alloc; 7; usize::from(count)].ok()?;
+pub fn plain(line: &mut Line<'_>) {
+    let (width, order, count) = (line.width(), line.order(), line.number());
+    let area = line.bytes();
+    let mut out = line.repeated(BEFORE, count);
     let into = decode_plain_into(width, order, &area, &mut out);
-    let viewed = plain_samples(width, order, &area, count);
-    match decode_plain(words.alloc, width, order, &area, count) {
+    match plain_samples(width, order, &area, count) {
+        Some(viewed) => {
+            line.agree(into.is_ok());
+            agree_viewed(line, viewed, &out);
+        }
+        None => line.agree(into.is_err() && are_all_before(&out)),
+    }
+    match decode_plain(line.alloc, width, order, &area, count) {
         Ok(found) => {
-            let Some(viewed) = viewed else {
-                return differ(words.alloc);
-            };
-            let is_viewed = viewed.clone().unwrap().eq(out.iter().copied())
-                && viewed.eq(found.as_slice().iter().copied());
-            if into.is_err() || !is_viewed {
-                return differ(words.alloc);
-            }
-            format!(in words.alloc; "{:?}", found.as_slice()).ok()
+            line.agree(into.is_ok() && out.as_slice() == found.as_slice());
+            line.put(format_args!("{:?}", found.as_slice()));
         }
-        Err(PlainFault::Memory) => None,
+        Err(PlainFault::Memory) => line.is_bad = true,
         Err(fault) => {
-            let is_kept = into == Err(fault) && viewed.is_none() && out == kept;
-            if !is_kept {
-                return differ(words.alloc);
-            }
-            format!(in words.alloc; "{fault}").ok()
+            line.agree(into == Err(fault));
+            line.put(fault);
         }
     }
 }
 
-/// The samples are shown one by one, from the first on, and after one of them from the second.
-fn shows(mut viewed: SteimSamples<'_>, samples: &[i32], agrees: bool) -> bool {
-    viewed.reverse_agrees() == agrees
-        && viewed.clone().unwrap().eq(samples.iter().copied())
-        && viewed.next() == samples.first().copied()
-        && viewed.reverse_agrees() == agrees
-        && viewed.eq(samples.iter().copied().skip(1))
+/// Notes whether samples are shown one by one, and once more by a copy.
+fn agree_viewed(line: &mut Line<'_>, viewed: PlainSamples<'_>, samples: &[i32]) {
+    line.agree(viewed.clone().unwrap().eq(samples.iter().copied()));
+    line.agree(viewed.eq(samples.iter().copied()));
 }
 
-/// Whether the samples stand in the slice, and are shown so.
-fn are_both(
-    out: &[i32],
-    viewed: Result<SteimSamples<'_>, SteimFault>,
-    samples: &[i32],
-    agrees: bool,
-) -> bool {
-    match viewed {
-        Ok(viewed) => out == samples && shows(viewed, samples, agrees),
-        Err(_) => false,
-    }
+/// Whether no sample was decoded.
+fn are_all_before(samples: &[i32]) -> bool {
+    samples.iter().all(|sample| *sample == BEFORE)
+}
+
+/// Notes whether samples are shown one by one, from the first on, and after one of them from the second.
+fn agree_shown(line: &mut Line<'_>, mut viewed: SteimSamples<'_>, samples: &[i32], agrees: bool) {
+    line.agree(viewed.reverse_agrees() == agrees);
+    line.agree(viewed.clone().unwrap().eq(samples.iter().copied()));
+    line.agree(viewed.next() == samples.first().copied());
+    line.agree(viewed.reverse_agrees() == agrees);
+    line.agree(viewed.eq(samples.iter().copied().skip(1)));
 }
 
 /// `steim VERSION ORDER COUNT AREA`: so many samples of an area of frames and whether its reverse constant agrees; or why
 /// it has not as many.
-pub fn steim(words: &mut Words<'_>) -> Option<String> {
-    let (version, order, count) = (words.version()?, words.order()?, words.number::<u16>()?);
-    let area = words.bytes()?;
-    if count == 0 || area.len() > 1_048_576 {
-        return None;
+pub fn steim(line: &mut Line<'_>) {
+    let (version, order, count) = (line.version(), line.order(), line.number());
+    let area = line.bytes();
+    let mut out = line.repeated(BEFORE, count);
+    if count == 0 || out.is_empty() || area.len() > 1_048_576 {
+        return line.bad(());
     }
-    let mut out = vec![in words.alloc; 7; usize::from(count)].ok()?;
     let into = decode_steim_into(version, order, &area, &mut out);
-    let viewed = steim_samples(version, order, &area, count);
-    match decode_steim(words.alloc, version, order, &area, count) {
+    put_steim(line, (version, order, count), &area, &out, into);
+}
+
+/// What is decoded in memory of its own, and whether it was decoded so into the slice, and is shown so.
+fn put_steim(
+    line: &mut Line<'_>,
+    of: (Version, Order, u16),
+    area: &[u8],
+    out: &[i32],
+    into: Result<bool, SteimFault>,
+)
+    requires some { 1 ≤ of.2 }
+    requires small { length area.now ≤ 1_048_576 }
+{
+    match steim_samples(of.0, of.1, area, of.2) {
+        Ok(viewed) => {
+            line.agree(into.is_ok());
+            agree_shown(line, viewed, out, into == Ok(true));
+        }
+        Err(fault) => line.agree(into == Err(fault)),
+    }
+    match decode_steim(line.alloc, of.0, of.1, area, of.2) {
         Ok(found) => {
             let (samples, agrees) = (found.samples.as_slice(), found.reverse_agrees);
-            if into != Ok(agrees) || !are_both(&out, viewed, samples, agrees) {
-                return differ(words.alloc);
-            }
-            format!(in words.alloc; "{samples:?} {agrees}").ok()
+            line.agree(into == Ok(agrees) && out == samples);
+            line.put(format_args!("{samples:?} {agrees}"));
         }
-        Err(SteimFault::Memory) => None,
+        Err(SteimFault::Memory) => line.is_bad = true,
         Err(fault) => {
-            if into != Err(fault) || viewed.err() != Some(fault) {
-                return differ(words.alloc);
-            }
-            format!(in words.alloc; "{fault}").ok()
+            line.agree(into == Err(fault));
+            line.put(fault);
         }
     }
 }
@@ -139,68 +152,67 @@ fn are_groups(version: Version, groups: &[Group]) -> bool
 }
 
 /// Groups of differences with a `+` between them, each once or `DIFFERENCES*TIMES`.
-fn groups_of(alloc: Global, text: &str) -> Option<Vec<Group>> {
-    let mut groups = Vec::new(alloc);
+fn groups_of(line: &mut Line<'_>) -> Vec<Group> {
+    let (mut groups, text) = (Vec::new(line.alloc), line.word());
     for part in text.split('+') {
         let (list, times) = part.split_once('*').unwrap_or((part, "1"));
-        let list = samples(alloc, list)?;
-        for _ in 0..times.parse::<u32>().ok()? {
-            groups.push(Group::try_from(list.as_slice()).ok()?).ok()?;
+        line.rest = list;
+        let list = line.samples();
+        for _ in 0..line.number_of::<u32>(times) {
+            match Group::try_from(list.as_slice()) {
+                Ok(group) => line.push(&mut groups, group),
+                Err(_) => line.is_bad = true,
+            }
         }
     }
-    Some(groups)
+    groups
 }
 
 /// `frames VERSION FIRST LAST GROUPS`: the area of 192 bytes with these groups between the two constants.
-pub fn frames(words: &mut Words<'_>) -> Option<String> {
-    let (version, first, last) = (
-        words.version()?,
-        words.number::<i32>()?,
-        words.number::<i32>()?,
-    );
-    let groups = groups_of(words.alloc, words.word())?;
+pub fn frames(line: &mut Line<'_>) {
+    let (version, first, last) = (line.version(), line.number(), line.number());
+    let groups = groups_of(line);
     if !are_groups(version, &groups) || groups.len() > 43 {
-        return None;
+        return line.bad(());
     }
     let mut area = [255; 192];
     fill_steim(version, first, last, &groups, &mut area);
-    format!(in words.alloc; "{}", Hexadecimal(&area)).ok()
+    line.put(Hexadecimal(&area));
 }
 
 /// `word VERSION DIFFERENCES`: the code and the word that hold them.
-pub fn written(words: &mut Words<'_>) -> Option<String> {
-    let (version, differences) = (words.version()?, words.samples()?);
+pub fn written(line: &mut Line<'_>) {
+    let (version, differences) = (line.version(), line.samples());
     match write_word(version, &differences) {
-        Some((code, word)) => format!(in words.alloc; "{code} {word:08x}").ok(),
-        None => format!(in words.alloc; "None").ok(),
+        Some((code, word)) => line.put(format_args!("{code} {word:08x}")),
+        None => line.put("None"),
     }
 }
 
 /// `read VERSION CODE WORD`: the differences that a word holds.
-pub fn held(words: &mut Words<'_>) -> Option<String> {
-    let (version, code, word) = (words.version()?, words.number::<u8>()?, words.bytes()?);
-    let [first, second, third, fourth] = word.as_slice() else {
-        return None;
+pub fn held(line: &mut Line<'_>) {
+    let (version, code, word) = (line.version(), line.number(), line.bytes());
+    let Ok(word) = <[u8; 4]>::try_from(word.as_slice()) else {
+        return line.bad(());
     };
     if code > 3 {
-        return None;
+        return line.bad(());
     }
-    let word = u32::from_be_bytes([*first, *second, *third, *fourth]);
-    match read_word(version, code, word) {
-        Ok(group) => format!(in words.alloc; "{:?}", group.as_slice()).ok(),
-        Err(fault) => format!(in words.alloc; "{fault}").ok(),
+    match read_word(version, code, u32::from_be_bytes(word)) {
+        Ok(group) => line.put(format_args!("{:?}", group.as_slice())),
+        Err(fault) => line.put(fault),
     }
 }
 
 /// `width VERSION COUNT`: how many bits each of so many differences has.
-pub fn width(words: &mut Words<'_>) -> Option<String> {
-    let width = group_width(words.version()?, words.number::<usize>()?);
-    format!(in words.alloc; "{width:?}").ok()
+pub fn width(line: &mut Line<'_>) {
+    let width = group_width(line.version(), line.number());
+    line.put(format_args!("{width:?}"));
 }
 
 /// `group VERSION last|inner DIFFERENCES`: whether they can be a group of a record, its last one or another.
-pub fn is_one(words: &mut Words<'_>) -> Option<String> {
-    let (version, is_last) = (words.version()?, words.word() == "last");
-    let is = is_group(version, is_last, &words.numbers()?);
-    format!(in words.alloc; "{is}").ok()
+pub fn is_one(line: &mut Line<'_>) {
+    let (version, is_last) = (line.version(), line.word() == "last");
+    let differences = line.numbers();
+    line.put(is_group(version, is_last, &differences));
 }

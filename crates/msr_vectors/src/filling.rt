@@ -3,31 +3,31 @@
 ghost use Rattle.std.specs.Prelude.{◌≡◌, ◌<◌, length};
 ghost use Rattle.msr_packer.specs.HeldSamples.{before_place};
 
+use crate::line::Line;
 use crate::lists::Hexadecimal;
-use crate::words::Words;
 use msr_filling::{fill_steim1, fill_steim2, fill_steim2_told, steim2_words};
 use msr_words::{Fitting, Kind, Length};
 
 /// `area1 BEFORE SAMPLES`: the area of Steim-1 of a record of 256 bytes.
-pub fn steim1(words: &mut Words<'_>) -> Option<String> {
-    let (before, run, length) = (words.before()?, words.samples()?, Length::new(256)?);
-    let mut area = [255; 192];
+pub fn steim1(line: &mut Line<'_>) {
+    let (before, run, length) = (line.optional(), line.samples(), line.usual);
     if length.bytes() != 256 || run.is_empty() || !Kind::Steim1.fits(before, &run, length) {
-        return None;
+        return line.bad(());
     }
-    fill_steim1(words.alloc, before, &run, &mut area).ok()?;
-    format!(in words.alloc; "{}", Hexadecimal(&area)).ok()
+    let mut area = [255; 192];
+    line.is_bad |= fill_steim1(line.alloc, before, &run, &mut area).is_err();
+    line.put(Hexadecimal(&area));
 }
 
 /// `area2 BEFORE SAMPLES`: how many words of the area of Steim-2 of a record of 256 bytes have differences, and the area.
-pub fn steim2(words: &mut Words<'_>) -> Option<String> {
-    let (before, run) = (words.before()?, words.samples()?);
+pub fn steim2(line: &mut Line<'_>) {
+    let (before, run) = (line.optional(), line.samples());
     if run.is_empty() {
-        return None;
+        return line.bad(());
     }
     let mut area = [255; 192];
     let used = fill_steim2(before, &run, &mut area);
-    format!(in words.alloc; "{used} {}", Hexadecimal(&area)).ok()
+    line.put(format_args!("{used} {}", Hexadecimal(&area)));
 }
 
 /// The sample before that one, if there is one.
@@ -65,11 +65,13 @@ fn are_alike(samples: &[i32], start: usize) -> Option<bool>
 }
 
 /// `told START SAMPLES`: whether the samples from that one on are written alike by told words and without.
-pub fn by_told_words(words: &mut Words<'_>) -> Option<String> {
-    let (start, samples) = (words.number::<usize>()?, words.samples()?);
+pub fn by_told_words(line: &mut Line<'_>) {
+    let (start, samples) = (line.number(), line.samples());
     if start >= samples.len() {
-        return None;
+        return line.bad(());
     }
-    let alike = are_alike(&samples, start)?;
-    format!(in words.alloc; "{alike}").ok()
+    match are_alike(&samples, start) {
+        Some(alike) => line.put(alike),
+        None => line.is_bad = true,
+    }
 }

@@ -2,47 +2,52 @@
 
 ghost use Rattle.std.specs.Prelude.{◌≤◌, length};
 
-use crate::words::{Words, differ, kind_of};
-use msr_steim::Version;
+use crate::line::Line;
 use msr_words::{
     Codec, Fitting, Int16, Int24, Int32, Kind, Length, Steim1, Steim2, Window, difference, groups,
     longest_run, run_fits,
 };
 
 /// How many of these differences the tracker takes with that sample. After the first that it refuses it takes none.
-fn taken_of<C: Codec + Drop>(mut tracker: C, sample: i32, differences: &[i64]) -> Option<usize> {
+fn taken_of<C: Codec + Drop>(
+    line: &mut Line<'_>,
+    mut tracker: C,
+    sample: i32,
+    differences: &[i64],
+) -> usize {
     let mut taken = 0usize;
     for difference in differences {
         if !tracker.push(sample, *difference) {
-            let is_over = !tracker.push(sample, *difference) && !tracker.push(0, 0);
-            return if is_over { Some(taken) } else { None };
+            line.agree(!tracker.push(sample, *difference) && !tracker.push(0, 0));
+            return taken;
         }
         taken = taken.saturating_add(1);
     }
-    Some(taken)
+    taken
 }
 
 /// What the tracker of that kind takes.
-fn taken_by(kind: Kind, length: Length, sample: i32, differences: &[i64]) -> Option<usize> {
+fn taken_by(line: &mut Line<'_>, kind: Kind, length: Length, sample: i32, of: &[i64]) -> usize {
     match kind {
-        Kind::Int16 => taken_of(Int16::start(length), sample, differences),
-        Kind::Int24 => taken_of(Int24::start(length), sample, differences),
-        Kind::Int32 => taken_of(Int32::start(length), sample, differences),
-        Kind::Steim1 => taken_of(Steim1::start(length), sample, differences),
-        Kind::Steim2 => taken_of(Steim2::start(length), sample, differences),
+        Kind::Int16 => taken_of(line, Int16::start(length), sample, of),
+        Kind::Int24 => taken_of(line, Int24::start(length), sample, of),
+        Kind::Int32 => taken_of(line, Int32::start(length), sample, of),
+        Kind::Steim1 => taken_of(line, Steim1::start(length), sample, of),
+        Kind::Steim2 => taken_of(line, Steim2::start(length), sample, of),
     }
 }
 
 /// `taken LENGTH SAMPLE DIFFERENCES KINDS`: how many pushes of that sample each tracker takes, with these differences.
-pub fn taken(words: &mut Words<'_>) -> Option<String> {
-    let length = Length::new(words.number()?)?;
-    let (sample, differences) = (words.number::<i32>()?, words.numbers()?);
-    let mut all = Vec::new(words.alloc);
-    for name in words.rest.split_whitespace() {
-        all.push(taken_by(kind_of(name)?, length, sample, &differences)?)
-            .ok()?;
+pub fn taken(line: &mut Line<'_>) {
+    let (length, sample, differences) = (line.length(), line.number(), line.numbers());
+    let mut all = Vec::new(line.alloc);
+    let kinds = line.rest;
+    for _ in kinds.split_whitespace() {
+        let kind = line.kind();
+        let taken = taken_by(line, kind, length, sample, &differences);
+        line.push(&mut all, taken);
     }
-    format!(in words.alloc; "{all:?}").ok()
+    line.put(format_args!("{all:?}"));
 }
 
 /// The number of the encoding, and how many samples are looked back.
@@ -51,9 +56,8 @@ fn codec<C: Codec + Drop>(length: Length) -> (u8, usize) {
 }
 
 /// `kind LENGTH KIND`: the number of its encoding, how many samples it looks back, and the most that a record holds.
-pub fn kind(words: &mut Words<'_>) -> Option<String> {
-    let length = Length::new(words.number()?)?;
-    let kind = words.kind()?;
+pub fn kind(line: &mut Line<'_>) {
+    let (length, kind) = (line.length(), line.kind());
     let codec = match kind {
         Kind::Int16 => codec::<Int16>(length),
         Kind::Int24 => codec::<Int24>(length),
@@ -61,65 +65,58 @@ pub fn kind(words: &mut Words<'_>) -> Option<String> {
         Kind::Steim1 => codec::<Steim1>(length),
         Kind::Steim2 => codec::<Steim2>(length),
     };
-    if codec != (kind.code(), kind.look_back()) {
-        return differ(words.alloc);
-    }
+    line.agree(codec == (kind.code(), kind.look_back()));
     let said = (codec.0, codec.1, kind.most(length));
-    format!(in words.alloc; "{said:?}").ok()
+    line.put(format_args!("{said:?}"));
 }
 
 /// `encoding NUMBER`: the kind of that encoding.
-pub fn encoding(words: &mut Words<'_>) -> Option<String> {
-    let kind = Kind::of_code(words.number()?);
-    format!(in words.alloc; "{kind:?}").ok()
+pub fn encoding(line: &mut Line<'_>) {
+    let kind = Kind::of_code(line.number());
+    line.put(format_args!("{kind:?}"));
 }
 
 /// `length BYTES`: the exponent of such a record, its frames and its words for differences.
-pub fn length(words: &mut Words<'_>) -> Option<String> {
-    let bytes = words.number::<u32>()?;
+pub fn length(line: &mut Line<'_>) {
+    let bytes = line.number();
     let Some(length) = Length::new(bytes) else {
-        return format!(in words.alloc; "None").ok();
+        return line.put("None");
     };
-    if length.bytes() != bytes {
-        return differ(words.alloc);
-    }
+    line.agree(length.bytes() == bytes);
     let parts = (length.exponent(), length.frames(), length.data_words());
-    format!(in words.alloc; "{parts:?}").ok()
+    line.put(format_args!("{parts:?}"));
 }
 
 /// `longest FORM`: how many samples a record holds at most.
-pub fn longest(words: &mut Words<'_>) -> Option<String> {
-    let most = longest_run(words.form()?);
-    format!(in words.alloc; "{most}").ok()
+pub fn longest(line: &mut Line<'_>) {
+    let form = line.form();
+    line.put(longest_run(form));
 }
 
 /// `fits KIND LENGTH BEFORE SAMPLES`: whether the run fits, after that sample.
-pub fn fits(words: &mut Words<'_>) -> Option<String> {
-    let (kind, length) = (words.kind()?, Length::new(words.number()?)?);
-    let (before, run) = (words.before()?, words.samples()?);
-    let fits = kind.fits(before, &run, length);
-    format!(in words.alloc; "{fits}").ok()
+pub fn fits(line: &mut Line<'_>) {
+    let (kind, length) = (line.kind(), line.length());
+    let (before, run) = (line.optional(), line.samples());
+    line.put(kind.fits(before, &run, length));
 }
 
 /// `run FORM KIND START END SAMPLES`: whether these samples of a segment fit.
-pub fn run(words: &mut Words<'_>) -> Option<String> {
-    let (form, kind) = (words.form()?, words.kind()?);
-    let (start, end, samples) = (words.number()?, words.number()?, words.samples()?);
+pub fn run(line: &mut Line<'_>) {
+    let (form, kind) = (line.form(), line.kind());
+    let (start, end, samples) = (line.number(), line.number(), line.samples());
     if start > end || end > samples.len() {
-        return None;
+        return line.bad(());
     }
-    let fits = run_fits(kind, &samples, start, end, form);
-    format!(in words.alloc; "{fits}").ok()
+    line.put(run_fits(kind, &samples, start, end, form));
 }
 
 /// `difference NUMBER SAMPLES`: the difference of a sample from the one before it.
-pub fn difference_at(words: &mut Words<'_>) -> Option<String> {
-    let (at, samples) = (words.number::<usize>()?, words.samples()?);
+pub fn difference_at(line: &mut Line<'_>) {
+    let (at, samples) = (line.number(), line.samples());
     if at >= samples.len() {
-        return None;
+        return line.bad(());
     }
-    let found = difference(&samples, at);
-    format!(in words.alloc; "{found}").ok()
+    line.put(difference(&samples, at));
 }
 
 /// The size of the longest group, by a window of its own.
@@ -132,27 +129,29 @@ fn longest_at(samples: &[i32], at: usize) -> usize
 
 /// `word_size NUMBER SAMPLES`: how many differences stand together in a Steim-2 word from that sample on, by a window of
 /// its own.
-pub fn word_size(words: &mut Words<'_>) -> Option<String> {
-    let (at, samples) = (words.number::<usize>()?, words.samples()?);
+pub fn word_size(line: &mut Line<'_>) {
+    let (at, samples) = (line.number(), line.samples());
     if at > samples.len() {
-        return None;
+        return line.bad(());
     }
-    let size = longest_at(&samples, at);
-    format!(in words.alloc; "{size}").ok()
+    line.put(longest_at(&samples, at));
 }
 
 /// `groups VERSION LENGTH DIFFERENCES`: the groups of the division that is written.
-pub fn divided(words: &mut Words<'_>) -> Option<String> {
-    let (version, length) = (words.version()?, Length::new(words.number()?)?);
-    let found = groups(words.alloc, version, &words.numbers()?, length).ok()?;
-    format!(in words.alloc; "{found:?}").ok()
+pub fn divided(line: &mut Line<'_>) {
+    let (version, length, differences) = (line.version(), line.length(), line.numbers());
+    match groups(line.alloc, version, &differences, length) {
+        Ok(found) => line.put(format_args!("{found:?}")),
+        Err(_) => line.is_bad = true,
+    }
 }
 
 /// `count VERSION LENGTH DIFFERENCES`: how many groups that are.
-pub fn counted(words: &mut Words<'_>) -> Option<String> {
-    let (version, length) = (words.version()?, Length::new(words.number()?)?);
-    match groups(words.alloc, version, &words.numbers()?, length).ok()? {
-        Some(found) => format!(in words.alloc; "{}", found.len()).ok(),
-        None => format!(in words.alloc; "None").ok(),
+pub fn counted(line: &mut Line<'_>) {
+    let (version, length, differences) = (line.version(), line.length(), line.numbers());
+    match groups(line.alloc, version, &differences, length) {
+        Ok(Some(found)) => line.put(found.len()),
+        Ok(None) => line.put("None"),
+        Err(_) => line.is_bad = true,
     }
 }

@@ -5,9 +5,9 @@ ghost use Rattle.std.specs.Prelude.{◌≡◌, ◌+◌, ◌<◌, ◌^◌, MatchR
 ghost use Rattle.msr_packer.specs.Blocks.{pushed};
 
 use crate::inputs::{TOLERANCE, rows_of};
+use crate::line::{Line, NONE};
 use crate::lists::Hexadecimal;
 use crate::records::{append, part_of};
-use crate::words::{NONE, Words};
 use msr_base::SampleVec;
 use msr_folders::Totals;
 use msr_packer::{Piece, StreamPacker};
@@ -15,14 +15,25 @@ use msr_record::Row;
 use msr_segments::{JoinFault, Joiner, Segment};
 use msr_time::is_instant;
 use std::alloc::AllocError;
-use std::io;
+use std::{fmt, io};
+
+/// Prints whether memory was refused, and what is left then.
+fn put_left<D: fmt::Display + Drop>(
+    rt: &HostRuntime,
+    line: &Line<'_>,
+    refused: bool,
+    left: D,
+) -> io::Result<()> {
+    if line.is_bad {
+        return println!(rt; "{NONE}");
+    }
+    println!(rt; "refused {refused}\nleft{left}")
+}
 
 /// `push NUMBERS`: a list to which they are pushed.
-fn push(rt: &HostRuntime, words: &mut Words<'_>) -> io::Result<()> {
-    let Some(given) = words.samples() else {
-        return println!(rt; "{NONE}");
-    };
-    let mut samples = SampleVec::new(words.alloc);
+fn push(rt: &HostRuntime, line: &mut Line<'_>) -> io::Result<()> {
+    let given = line.samples();
+    let mut samples = SampleVec::new(line.alloc);
     let mut refused = false;
     for sample in &given {
         if samples.push(*sample).is_err() {
@@ -32,16 +43,13 @@ fn push(rt: &HostRuntime, words: &mut Words<'_>) -> io::Result<()> {
             }
         }
     }
-    println!(rt; "refused {refused}")?;
-    println!(rt; "left {:?}", samples.as_slice())
+    put_left(rt, line, refused, format_args!(" {:?}", samples.as_slice()))
 }
 
 /// `extend NUMBERS`: a list that is extended by five at a time.
-fn extend(rt: &HostRuntime, words: &mut Words<'_>) -> io::Result<()> {
-    let Some(given) = words.samples() else {
-        return println!(rt; "{NONE}");
-    };
-    let mut samples = SampleVec::new(words.alloc);
+fn extend(rt: &HostRuntime, line: &mut Line<'_>) -> io::Result<()> {
+    let given = line.samples();
+    let mut samples = SampleVec::new(line.alloc);
     let mut refused = false;
     for more in given.chunks(5) {
         if samples.extend_from_slice(more).is_err() {
@@ -51,8 +59,7 @@ fn extend(rt: &HostRuntime, words: &mut Words<'_>) -> io::Result<()> {
             }
         }
     }
-    println!(rt; "refused {refused}")?;
-    println!(rt; "left {:?}", samples.as_slice())
+    put_left(rt, line, refused, format_args!(" {:?}", samples.as_slice()))
 }
 
 /// Pushes a sample, and once more if memory is refused, which `refused` tells from then on.
@@ -74,55 +81,52 @@ fn push_twice(
     }
 }
 
-/// Prints a piece: its run and its separator.
-fn put_piece(rt: &HostRuntime, piece: Piece) -> io::Result<()> {
-    let run = piece.run;
-    print!(rt;
-        " {}..{}:{:?} {}",
-        run.start, run.end, run.kind, piece.separator
-    )
+/// Prints pieces: the run and the separator of each.
+fn put_pieces(rt: &HostRuntime, pieces: &[Piece]) -> io::Result<()> {
+    for piece in pieces {
+        let run = piece.run;
+        print!(rt;
+            " {}..{}:{:?} {}",
+            run.start, run.end, run.kind, piece.separator
+        )?;
+    }
+    Ok(())
 }
 
-/// `stream LENGTH all|four NUMBERS`: the pieces of a packer to which they are pushed.
-fn stream(rt: &HostRuntime, words: &mut Words<'_>) -> io::Result<()> {
-    let (Some(form), Some(samples)) = (words.form(), words.samples()) else {
+/// `stream FORM NUMBERS`: the pieces of a packer to which they are pushed.
+fn stream(rt: &HostRuntime, line: &mut Line<'_>) -> io::Result<()> {
+    let (form, samples) = (line.form(), line.samples());
+    if line.is_bad {
         return println!(rt; "{NONE}");
-    };
-    let mut packer = StreamPacker::of(words.alloc, form);
+    }
+    let mut packer = StreamPacker::of(line.alloc, form);
     let mut refused = false;
     print!(rt; "left")?;
     for at in 0..samples.len() {
         let Ok(piece) = push_twice(&mut packer, samples[at], &mut refused) else {
             return println!(rt; "\nrefused {refused}");
         };
-        if let Some(piece) = piece {
-            put_piece(rt, piece)?;
-        }
+        put_pieces(rt, piece.as_slice())?;
     }
-    for piece in packer.end().pieces.as_slice() {
-        put_piece(rt, *piece)?;
-    }
+    put_pieces(rt, packer.end().pieces.as_slice())?;
     println!(rt; "\nrefused {refused}")
 }
 
 /// `append AFTER SEQUENCE BEFORE KIND LENGTH SAMPLES | ..`: the records of rows.
-fn records(rt: &HostRuntime, words: &mut Words<'_>) -> io::Result<()> {
-    let alloc = words.alloc;
-    let mut out = Vec::new(alloc);
+fn records(rt: &HostRuntime, line: &mut Line<'_>) -> io::Result<()> {
+    let (mut out, parts) = (Vec::new(line.alloc), line.rest);
     let mut refused = false;
-    for rest in words.rest.split(" | ") {
-        let Some(row) = part_of(&mut Words { alloc, rest }) else {
-            return println!(rt; "{NONE}");
-        };
-        if append(alloc, &row, &mut out).is_none() {
+    for part in parts.split(" | ") {
+        line.rest = part;
+        let part = part_of(line);
+        if append(line, &part, &mut out).is_none() {
             refused = true;
-            if append(alloc, &row, &mut out).is_none() {
+            if append(line, &part, &mut out).is_none() {
                 break;
             }
         }
     }
-    println!(rt; "refused {refused}")?;
-    println!(rt; "left {}", Hexadecimal(&out))
+    put_left(rt, line, refused, format_args!(" {}", Hexadecimal(&out)))
 }
 
 /// Prints a segment that has ended.
@@ -155,11 +159,12 @@ fn join_twice(
 
 /// `joins FACTOR,MULTIPLIER,START,COUNT ..`: the starts and the numbers of samples of the segments of rows, each of which
 /// is handed back if memory is refused.
-fn joins(rt: &HostRuntime, words: &mut Words<'_>) -> io::Result<()> {
-    let Some(rows) = rows_of(words) else {
+fn joins(rt: &HostRuntime, line: &mut Line<'_>) -> io::Result<()> {
+    let rows = rows_of(line);
+    if line.is_bad {
         return println!(rt; "{NONE}");
-    };
-    let mut joiner = Joiner::new(words.alloc, TOLERANCE);
+    }
+    let mut joiner = Joiner::new(line.alloc, TOLERANCE);
     let mut refused = false;
     print!(rt; "left")?;
     for row in rows {
@@ -188,55 +193,46 @@ fn add_twice(
     }
 }
 
-/// Prints the first of the totals, at most so many.
-fn put_totals(rt: &HostRuntime, totals: &Totals, most: usize) -> io::Result<()> {
-    print!(rt; "left")?;
-    for place in 0..most {
-        if let Some((name, total)) = totals.get(place) {
-            print!(rt; " {name} {} {} {}", total.files, total.read, total.written)?;
-        }
-    }
-    println!(rt; "")
-}
+/// Totals that are printed: the first of them, at most so many.
+#[derive(Clone, Copy)]
+struct Shown<'a>(&'a Totals, usize);
 
-/// The name and the numbers of bytes of a file, `NAME,READ,WRITTEN`.
-fn file_of(word: &str) -> Option<(&str, (u64, u64))> {
-    let (name, counts) = word.split_once(',')?;
-    let (read, written) = counts.split_once(',')?;
-    Some((name, (read.parse().ok()?, written.parse().ok()?)))
+impl fmt::Display for Shown<'_> {
+    fn fmt<W: fmt::Write>(&self, f: &mut fmt::Formatter<W>) -> fmt::Result {
+        for place in 0..self.1 {
+            if let Some((name, total)) = self.0.get(place) {
+                let (files, read, written) = (total.files, total.read, total.written);
+                write!(f, " {name} {files} {read} {written}")?;
+            }
+        }
+        Ok(())
+    }
 }
 
 /// `totals NAME,READ,WRITTEN ..`: the totals of the names, each of one file that is added.
-fn totals(rt: &HostRuntime, words: &mut Words<'_>) -> io::Result<()> {
-    let mut totals = Totals::new(words.alloc);
+fn totals(rt: &HostRuntime, line: &mut Line<'_>) -> io::Result<()> {
+    let (mut totals, files) = (Totals::new(line.alloc), line.rest);
     let mut refused = false;
-    for word in words.rest.split_whitespace() {
-        let Some((name, counts)) = file_of(word) else {
-            return println!(rt; "{NONE}");
-        };
+    for file in files.split_whitespace() {
+        line.rest = file;
+        let name = line.until(",");
+        let counts = (line.number_until(","), line.number());
         if add_twice(&mut totals, name, counts, &mut refused).is_err() {
             break;
         }
     }
-    println!(rt; "refused {refused}")?;
-    put_totals(rt, &totals, words.rest.len())
+    put_left(rt, line, refused, Shown(&totals, files.len()))
 }
 
-/// Whether the line is such a row, which is then answered.
-pub fn tell(rt: &HostRuntime, line: &str) -> io::Result<bool> {
-    let mut words = Words {
-        alloc: rt.alloc(),
-        rest: line,
-    };
-    let name = words.word();
-    let words = &mut words;
+/// Answers such a row, and tells whether it is one.
+pub fn tell(rt: &HostRuntime, name: &str, line: &mut Line<'_>) -> io::Result<bool> {
     match name {
-        "push" => push(rt, words)?,
-        "extend" => extend(rt, words)?,
-        "stream" => stream(rt, words)?,
-        "append" => records(rt, words)?,
-        "joins" => joins(rt, words)?,
-        "totals" => totals(rt, words)?,
+        "push" => push(rt, line)?,
+        "extend" => extend(rt, line)?,
+        "stream" => stream(rt, line)?,
+        "append" => records(rt, line)?,
+        "joins" => joins(rt, line)?,
+        "totals" => totals(rt, line)?,
         _ => return Ok(false),
     }
     Ok(true)

@@ -2,9 +2,9 @@
 
 ghost use Rattle.msr_devices.specs.Device.{CanCountCall, CountsFew};
 
+use crate::line::Line;
 use crate::records::record_of;
-use crate::words::{Words, differ};
-use msr_base::{Counts, SampleVec};
+use msr_base::SampleVec;
 use msr_compare::compare;
 use msr_devices::{Behavior, Source, TestSource};
 use msr_fixtures::key_at;
@@ -20,123 +20,123 @@ pub const TOLERANCE: u32 = 1000;
 /// That of rows that read an input.
 const INPUT_TOLERANCE: u32 = 10_000;
 
-/// A row of samples of 0, `FACTOR,MULTIPLIER,START,COUNT`.
-fn row_of(alloc: Global, word: &str) -> Option<Row> {
-    let mut numbers = word.split(',');
-    let (factor, multiplier) = (numbers.next()?.parse().ok()?, numbers.next()?.parse().ok()?);
-    let (start, count) = (
-        numbers.next()?.parse().ok()?,
-        numbers.next()?.parse::<u16>().ok()?,
-    );
-    let values = vec![in alloc; 0; usize::from(count)].ok()?;
-    Some(Row {
-        key: key_at(Rate::new(factor, multiplier)?),
+/// Adds a row of samples of 0, `FACTOR,MULTIPLIER,START,COUNT`.
+fn add_row(line: &mut Line<'_>, rows: &mut Vec<Row>) {
+    let rate = Rate::new(line.number_until(","), line.number_until(","));
+    let Some(rate) = rate else {
+        return line.bad(());
+    };
+    let (start, count) = (line.number_until(","), line.number());
+    let row = Row {
+        key: key_at(rate),
         start,
         kind: Kind::Steim2,
-        samples: SampleVec::from_vec(values),
-    })
+        samples: SampleVec::from_vec(line.repeated(0, count)),
+    };
+    line.push(rows, row);
 }
 
 /// Such rows.
-pub fn rows_of(words: &mut Words<'_>) -> Option<Vec<Row>> {
-    let mut rows = Vec::new(words.alloc);
-    for word in words.rest.split_whitespace() {
-        rows.push(row_of(words.alloc, word)?).ok()?;
+pub fn rows_of(line: &mut Line<'_>) -> Vec<Row> {
+    let (mut rows, words) = (Vec::new(line.alloc), line.rest);
+    for word in words.split_whitespace() {
+        line.rest = word;
+        add_row(line, &mut rows);
     }
-    Some(rows)
+    rows
 }
 
-/// What a follower says of the next row, the segment that the row ends, and whether the joiner does what was said.
-fn join(
-    follow: &mut Follow,
-    joiner: &mut Joiner,
-    row: Row,
-    is_first: bool,
-) -> Option<(Result<Step, OutOfRange>, Option<Segment>, bool)> {
-    let (start, count) = (row.start, row.samples.len());
-    if count < 1 || count > 65_535 || !is_instant(start) {
-        return None;
+/// What rows did, and the starts and the numbers of samples of the segments that have ended.
+#[derive(Drop)]
+struct Steps {
+    steps: Vec<Result<Step, OutOfRange>>,
+    segments: Vec<(i64, usize)>,
+}
+
+impl Steps {
+    fn add_segment(&mut self, line: &mut Line<'_>, ended: Option<Segment>) {
+        if let Some(segment) = ended {
+            line.push(&mut self.segments, (segment.start, segment.samples.len()));
+        }
     }
-    let step = follow.step(&row.key, start, count as u16);
-    match joiner.push(row) {
-        Ok(ended) => {
-            let begins = step == Ok(Step::Begins) && !is_first;
-            let is_same = step.is_ok() && ended.is_some() == begins;
-            Some((step, ended, is_same))
+
+    /// Adds what a follower says of the next row, and the segment that the row ends. The joiner has to do what was said.
+    fn add(&mut self, line: &mut Line<'_>, follow: &mut Follow, joiner: &mut Joiner, row: Row) {
+        let (start, count) = (row.start, row.samples.len());
+        if count < 1 || count > 65_535 || !is_instant(start) {
+            return line.bad(());
         }
-        Err(fault) if fault.kind == JoinKind::TimeRange => {
-            let is_back = fault.row.start == start && fault.row.samples.len() == count;
-            Some((step, None, step.is_err() && is_back))
+        let step = follow.step(&row.key, start, count as u16);
+        match joiner.push(row) {
+            Ok(ended) => {
+                let begins = step == Ok(Step::Begins) && !self.steps.is_empty();
+                line.agree(step.is_ok() && ended.is_some() == begins);
+                self.add_segment(line, ended);
+            }
+            Err(fault) => {
+                line.is_bad |= fault.kind != JoinKind::TimeRange;
+                let is_back = fault.row.start == start && fault.row.samples.len() == count;
+                line.agree(step.is_err() && is_back);
+            }
         }
-        Err(_) => None,
+        line.push(&mut self.steps, step);
     }
 }
 
 /// `join FACTOR,MULTIPLIER,START,COUNT ..`: what each row does, and the starts and the numbers of samples of the segments.
-pub fn joined(words: &mut Words<'_>) -> Option<String> {
-    let alloc = words.alloc;
+pub fn joined(line: &mut Line<'_>) {
     let mut follow = Follow::new(TOLERANCE);
-    let mut joiner = Joiner::new(alloc, TOLERANCE);
-    let mut steps = Vec::new(alloc);
-    let mut segments = Vec::new(alloc);
-    for row in rows_of(words)? {
-        let (step, ended, is_same) = join(&mut follow, &mut joiner, row, steps.is_empty())?;
-        if !is_same {
-            return differ(alloc);
-        }
-        steps.push(step).ok()?;
-        if let Some(segment) = ended {
-            segments.push((segment.start, segment.samples.len())).ok()?;
-        }
+    let mut joiner = Joiner::new(line.alloc, TOLERANCE);
+    let mut joined = Steps {
+        steps: Vec::new(line.alloc),
+        segments: Vec::new(line.alloc),
+    };
+    for row in rows_of(line) {
+        joined.add(line, &mut follow, &mut joiner, row);
     }
-    if let Some(last) = joiner.finish() {
-        segments.push((last.start, last.samples.len())).ok()?;
-    }
-    format!(in alloc; "{steps:?} {segments:?}").ok()
+    joined.add_segment(line, joiner.finish());
+    line.put(format_args!("{:?} {:?}", joined.steps, joined.segments));
 }
 
 /// How many bytes a device moves in a call, how many interruptions come before each, and the call that fails, or `-`.
-pub fn behavior(words: &mut Words<'_>) -> Option<Behavior> {
-    let (most, interruptions) = (words.number::<usize>()?, words.number::<u32>()?);
-    let fails_at = match words.word() {
-        "-" => None,
-        word => Some(word.parse::<u64>().ok()?),
-    };
-    Some(Behavior {
-        most,
-        interruptions,
-        fails_at,
-    })
+pub fn behavior(line: &mut Line<'_>) -> Behavior {
+    Behavior {
+        most: line.number(),
+        interruptions: line.number(),
+        fails_at: line.optional(),
+    }
 }
 
 /// The same, or for `FROM..TO` in place of the call a device for each of these calls.
-pub fn behaviors(words: &mut Words<'_>) -> Option<Vec<Behavior>> {
-    let (most, interruptions) = (words.number::<usize>()?, words.number::<u32>()?);
+pub fn behaviors(line: &mut Line<'_>) -> Vec<Behavior> {
     let mut plain = Behavior {
-        most,
-        interruptions,
+        most: line.number(),
+        interruptions: line.number(),
         fails_at: None,
     };
-    let mut all = Vec::new(words.alloc);
-    let Some((from, to)) = words.word().split_once("..") else {
-        all.push(plain).ok()?;
-        return Some(all);
-    };
-    for call in from.parse::<u64>().ok()?..to.parse::<u64>().ok()? {
-        plain.fails_at = Some(call);
-        all.push(plain).ok()?;
+    let mut all = Vec::new(line.alloc);
+    match line.word().split_once("..") {
+        Some((from, to)) => {
+            for call in line.number_of::<u64>(from)..line.number_of::<u64>(to) {
+                plain.fails_at = Some(call);
+                line.push(&mut all, plain);
+            }
+        }
+        None => line.push(&mut all, plain),
     }
-    Some(all)
+    all
 }
 
-/// The bytes of records with a `|` between them.
-pub fn bytes_of(alloc: Global, text: &str) -> Option<Vec<u8>> {
-    let mut bytes = Vec::new(alloc);
-    for rest in text.split(" | ") {
-        let record = record_of(&mut Words { alloc, rest })?;
-        bytes.extend_from_slice(&record).ok()?;
+/// The bytes of records with a `|` between them, before a `&` or up to the end.
+pub fn bytes_of(line: &mut Line<'_>) -> Vec<u8> {
+    let (mut bytes, records, rest) = (Vec::new(line.alloc), line.until(" & "), line.rest);
+    for record in records.split(" | ") {
+        line.rest = record;
+        let record = record_of(line);
+        line.extend(&mut bytes, &record);
     }
-    Some(bytes)
+    line.rest = rest;
+    bytes
 }
 
 /// What the row of a record does, where it starts, and how many samples it has; `None` if the record has none.
@@ -178,134 +178,126 @@ impl Told {
         at == others.rows.len() && self.end == others.end
     }
 
-    /// All records, and what came after them.
-    fn text(&self, alloc: Global) -> Option<String> {
-        let mut text = String::new(alloc);
+    /// Shows all records, and what came after them.
+    fn put(&self, line: &mut Line<'_>) {
         for (length, place) in &self.rows {
-            text = match place {
+            match place {
                 Some((step, start, count)) => {
-                    format!(in alloc; "{text}{length} {step:?} {start} {count}, ").ok()?
+                    line.put(format_args!("{length} {step:?} {start} {count}, "));
                 }
-                None => format!(in alloc; "{text}{length} None, ").ok()?,
-            };
+                None => line.put(format_args!("{length} None, ")),
+            }
         }
-        match self.end? {
-            Some(fault) => format!(in alloc; "{text}{fault}").ok(),
-            None => format!(in alloc; "{text}end").ok(),
+        match self.end {
+            Some(Some(fault)) => line.put(fault),
+            Some(None) => line.put("end"),
+            None => line.is_bad = true,
         }
     }
-}
 
-/// Adds the next record, or what comes after them.
-fn add_record<R: Source>(reader: &mut RowReader, source: &mut R, told: &mut Told) -> Option<()>
-    requires { CanCountCall (R.device source.old) }
-    ensures { CountsFew (R.device source.old) (R.device source.new) }
-{
-    if told.end.is_some() {
-        return Some(());
-    }
-    match reader.next_record(source) {
-        Ok(Some(next)) => told.rows.push((next.length, place_of(&next))).ok()?,
-        Ok(None) => told.end = Some(None),
-        Err(ReadFault::Memory) => return None,
-        Err(fault) => told.end = Some(Some(fault)),
-    }
-    Some(())
-}
-
-/// Adds the next row without its samples, or what comes after them.
-fn add_outline<R: Source>(reader: &mut RowReader, source: &mut R, told: &mut Told) -> Option<()>
-    requires { CanCountCall (R.device source.old) }
-    ensures { CountsFew (R.device source.old) (R.device source.new) }
-{
-    if told.end.is_some() {
-        return Some(());
-    }
-    match reader.next_outline(source) {
-        Ok(Some(next)) => {
-            let place = (next.step, next.row.start, usize::from(next.row.count));
-            told.rows.push((0, Some(place))).ok()?;
+    /// Adds the next record, or what comes after them.
+    fn add_record<R: Source>(&mut self, line: &mut Line<'_>, reader: &mut RowReader, source: &mut R)
+        requires { CanCountCall (R.device source.old) }
+        ensures { CountsFew (R.device source.old) (R.device source.new) }
+    {
+        if self.end.is_some() {
+            return;
         }
-        Ok(None) => told.end = Some(None),
-        Err(ReadFault::Memory) => return None,
-        Err(fault) => told.end = Some(Some(fault)),
+        match reader.next_record(source) {
+            Ok(Some(next)) => line.push(&mut self.rows, (next.length, place_of(&next))),
+            Ok(None) => self.end = Some(None),
+            Err(ReadFault::Memory) => line.is_bad = true,
+            Err(fault) => self.end = Some(Some(fault)),
+        }
     }
-    Some(())
+
+    /// Adds the next row without its samples, or what comes after them.
+    fn add_outline<R: Source>(
+        &mut self,
+        line: &mut Line<'_>,
+        reader: &mut RowReader,
+        source: &mut R,
+    )
+        requires { CanCountCall (R.device source.old) }
+        ensures { CountsFew (R.device source.old) (R.device source.new) }
+    {
+        if self.end.is_some() {
+            return;
+        }
+        match reader.next_outline(source) {
+            Ok(Some(next)) => {
+                let place = (next.step, next.row.start, usize::from(next.row.count));
+                line.push(&mut self.rows, (0, Some(place)));
+            }
+            Ok(None) => self.end = Some(None),
+            Err(ReadFault::Memory) => line.is_bad = true,
+            Err(fault) => self.end = Some(Some(fault)),
+        }
+    }
 }
 
 /// The rows of at most three records without their samples.
-fn outlined(alloc: Global, strict: bool, bytes: &[u8], behavior: Behavior) -> Option<Told> {
+fn outlined(line: &mut Line<'_>, strict: bool, bytes: &[u8], behavior: Behavior) -> Told {
     let mut source = TestSource::new(bytes, behavior);
     let tolerance = INPUT_TOLERANCE;
-    let mut reader = RowReader::new(alloc, Settings { tolerance, strict });
-    let mut told = Told::new(alloc);
-    add_outline(&mut reader, &mut source, &mut told)?;
-    add_outline(&mut reader, &mut source, &mut told)?;
-    add_outline(&mut reader, &mut source, &mut told)?;
-    add_outline(&mut reader, &mut source, &mut told)?;
-    Some(told)
+    let mut reader = RowReader::new(line.alloc, Settings { tolerance, strict });
+    let mut told = Told::new(line.alloc);
+    told.add_outline(line, &mut reader, &mut source);
+    told.add_outline(line, &mut reader, &mut source);
+    told.add_outline(line, &mut reader, &mut source);
+    told.add_outline(line, &mut reader, &mut source);
+    told
 }
 
-/// At most three records, what is told after them, and the counts before that.
-fn recorded(
-    alloc: Global,
+/// Shows at most three records, what is told after them and, unless the source failed, once more, and the counts before
+/// that.
+fn put_records(
+    line: &mut Line<'_>,
     strict: bool,
     bytes: &[u8],
     behavior: Behavior,
-) -> Option<(Told, Told, Counts)> {
+    outlines: &Told,
+) {
     let mut source = TestSource::new(bytes, behavior);
     let tolerance = INPUT_TOLERANCE;
-    let mut reader = RowReader::new(alloc, Settings { tolerance, strict });
-    let mut told = Told::new(alloc);
-    add_record(&mut reader, &mut source, &mut told)?;
-    add_record(&mut reader, &mut source, &mut told)?;
-    add_record(&mut reader, &mut source, &mut told)?;
-    add_record(&mut reader, &mut source, &mut told)?;
+    let mut reader = RowReader::new(line.alloc, Settings { tolerance, strict });
+    let mut told = Told::new(line.alloc);
+    told.add_record(line, &mut reader, &mut source);
+    told.add_record(line, &mut reader, &mut source);
+    told.add_record(line, &mut reader, &mut source);
+    told.add_record(line, &mut reader, &mut source);
+    line.agree(told.has_rows(outlines));
+    told.put(line);
     let counts = reader.counts();
-    let mut again = Told::new(alloc);
-    add_record(&mut reader, &mut source, &mut again)?;
-    Some((told, again, counts))
-}
-
-/// Whether the end or the fault is told again, unless the source failed.
-fn is_told_again(told: &Told, again: &Told) -> bool {
-    let has_failed = told.end == Some(Some(ReadFault::Read));
-    has_failed || again.rows.is_empty() && again.end == told.end
+    line.put(format_args!(", {} {} {}", counts.read, counts.empty, counts.mismatched));
+    let (count, end) = (told.rows.len(), told.end);
+    told.end = None;
+    told.add_record(line, &mut reader, &mut source);
+    let is_again = told.rows.len() == count && told.end == end;
+    line.agree(is_again || end == Some(Some(ReadFault::Read)));
 }
 
 /// `input strict|lenient MOST INTERRUPTIONS FAILS RECORD | ..`, of at most three records: how many bytes each has and what
 /// its row does, where it starts and how many samples it has; what comes after them, and, unless the source failed, is told
 /// again; and how many records were read, were empty, and had another reverse constant.
-pub fn read(words: &mut Words<'_>) -> Option<String> {
-    let alloc = words.alloc;
-    let strict = words.word() == "strict";
-    let behavior = behavior(words)?;
-    let bytes = bytes_of(alloc, words.rest)?;
-    let outlines = outlined(alloc, strict, &bytes, behavior)?;
-    let (told, again, counts) = recorded(alloc, strict, &bytes, behavior)?;
-    if !told.has_rows(&outlines) || !is_told_again(&told, &again) {
-        return differ(alloc);
-    }
-    let text = told.text(alloc)?;
-    let (read, empty, mismatched) = (counts.read, counts.empty, counts.mismatched);
-    format!(in alloc; "{text}, {read} {empty} {mismatched}").ok()
+pub fn read(line: &mut Line<'_>) {
+    let strict = line.word() == "strict";
+    let (behavior, bytes) = (behavior(line), bytes_of(line));
+    let outlines = outlined(line, strict, &bytes, behavior);
+    put_records(line, strict, &bytes, behavior, &outlines);
 }
 
 /// `compare MOST INTERRUPTIONS FAILS MOST INTERRUPTIONS FAILS RECORD | .. & RECORD | ..`: what is answered for two inputs
 /// whose bytes come so.
-pub fn compared(words: &mut Words<'_>) -> Option<String> {
-    let (one, other) = (behavior(words)?, behavior(words)?);
-    let (first, second) = words.rest.split_once(" & ")?;
-    let (first, second) = (
-        bytes_of(words.alloc, first)?,
-        bytes_of(words.alloc, second)?,
-    );
+pub fn compared(line: &mut Line<'_>) {
+    let (one, other) = (behavior(line), behavior(line));
+    let (first, second) = (bytes_of(line), bytes_of(line));
     let mut one = TestSource::new(&first, one);
     let mut other = TestSource::new(&second, other);
     let settings = Settings {
         tolerance: TOLERANCE,
         strict: false,
     };
-    let answer = compare(words.alloc, &mut one, &mut other, settings);
-    format!(in words.alloc; "{answer:?}").ok()
+    let answer = compare(line.alloc, &mut one, &mut other, settings);
+    line.put(format_args!("{answer:?}"));
 }

@@ -1,14 +1,14 @@
 //! Lists of numbers and of bytes, in few letters.
 
+use crate::line::Line;
 use msr_fixtures::next_of;
-use std::alloc::Global;
 use std::fmt;
 
 /// Noise, half of it below 0: how many numbers, from which seed, their height, another height, and how many numbers each
 /// of these lasts.
-fn add_noise(numbers: &mut Vec<i64>, of: &[i64]) -> Option<()> {
+fn add_noise(line: &mut Line<'_>, numbers: &mut Vec<i64>, of: &[i64]) {
     let [count, seed, calm, loud, stretch] = of else {
-        return None;
+        return line.bad(());
     };
     let stretch = stretch.cast_unsigned().max(1);
     let mut number = seed.cast_unsigned();
@@ -18,98 +18,117 @@ fn add_noise(numbers: &mut Vec<i64>, of: &[i64]) -> Option<()> {
         let height = if is_loud { *loud } else { *calm };
         let height = height.cast_unsigned();
         let above = ((number >> 33) % height.max(1)).cast_signed();
-        numbers
-            .push(above.wrapping_sub((height / 2).cast_signed()))
-            .ok()?;
+        line.push(numbers, above.wrapping_sub((height / 2).cast_signed()));
     }
-    Some(())
 }
 
 /// These numbers in turn, as many as are counted.
-fn add_in_turn(numbers: &mut Vec<i64>, of: &[i64], count: usize) -> Option<()> {
+fn add_in_turn(line: &mut Line<'_>, numbers: &mut Vec<i64>, of: &[i64], count: usize) {
     for place in 0..count {
-        numbers.push(*of.get(place % of.len().max(1))?).ok()?;
+        match of.get(place % of.len().max(1)) {
+            Some(number) => line.push(numbers, *number),
+            None => line.is_bad = true,
+        }
     }
-    Some(())
 }
 
 /// Adds numbers with commas between them, once or in turn, `COUNT:NUMBERS`, or noise, `noise:NUMBERS`.
-fn add_part(alloc: Global, numbers: &mut Vec<i64>, part: &str) -> Option<()> {
+fn add_part(line: &mut Line<'_>, numbers: &mut Vec<i64>, part: &str) {
     let (head, text) = part.split_once(':').unwrap_or(("", part));
-    let mut of = Vec::new(alloc);
+    let mut of = Vec::new(line.alloc);
     for word in text.split(',') {
-        of.push(word.parse::<i64>().ok()?).ok()?;
+        let number = line.number_of(word);
+        line.push(&mut of, number);
     }
     match head {
-        "" => add_in_turn(numbers, &of, of.len()),
-        "noise" => add_noise(numbers, &of),
-        _ => add_in_turn(numbers, &of, head.parse::<usize>().ok()?),
+        "" => line.extend(numbers, &of),
+        "noise" => add_noise(line, numbers, &of),
+        _ => {
+            let count = line.number_of(head);
+            add_in_turn(line, numbers, &of, count);
+        }
     }
 }
 
-/// The numbers of parts with a `+` between them; `-` stands for none.
-pub fn numbers(alloc: Global, text: &str) -> Option<Vec<i64>> {
-    let mut numbers = Vec::new(alloc);
-    if text == "-" {
-        return Some(numbers);
+/// Adds bytes of two hexadecimal digits each, so many times.
+fn add_pairs(line: &mut Line<'_>, bytes: &mut Vec<u8>, digits: &str, times: u32) {
+    let mut part = Vec::new(line.alloc);
+    for pair in digits.as_bytes().chunks(2) {
+        match pair {
+            [high, low] => {
+                let (high, low) = (digit(line, *high), digit(line, *low));
+                line.push(&mut part, high.wrapping_mul(16).wrapping_add(low));
+            }
+            _ => line.is_bad = true,
+        }
     }
-    for part in text.split('+') {
-        add_part(alloc, &mut numbers, part)?;
+    for _ in 0..times {
+        line.extend(bytes, &part);
     }
-    Some(numbers)
-}
-
-/// The numbers, if they are of 32 bits.
-pub fn samples(alloc: Global, text: &str) -> Option<Vec<i32>> {
-    let mut samples = Vec::new(alloc);
-    for number in &numbers(alloc, text)? {
-        samples.push(i32::try_from(*number).ok()?).ok()?;
-    }
-    Some(samples)
-}
-
-/// A text, in which `\n` stands for a line's end; `-` stands for none.
-pub fn lined(alloc: Global, text: &str) -> Option<String> {
-    let text = if text == "-" { "" } else { text };
-    text.replace(alloc, "\\n", "\n").ok()
 }
 
 /// The value of a hexadecimal digit.
-fn digit(letter: u8) -> Option<u8> {
+fn digit(line: &mut Line<'_>, letter: u8) -> u8 {
     match letter {
-        b'0'..=b'9' => Some(letter - b'0'),
-        b'a'..=b'f' => Some(letter - b'a' + 10),
-        _ => None,
+        b'0'..=b'9' => letter - b'0',
+        b'a'..=b'f' => letter - b'a' + 10,
+        _ => line.bad(0),
     }
 }
 
-/// Bytes of two hexadecimal digits each.
-fn pairs(alloc: Global, text: &str) -> Option<Vec<u8>> {
-    let mut bytes = Vec::new(alloc);
-    for pair in text.as_bytes().chunks(2) {
-        let [high, low] = pair else {
-            return None;
-        };
-        let byte = digit(*high)?.wrapping_mul(16).wrapping_add(digit(*low)?);
-        bytes.push(byte).ok()?;
-    }
-    Some(bytes)
-}
-
-/// The bytes of parts with a `+` between them, each once or `DIGITS*TIMES`; `-` stands for none.
-pub fn bytes(alloc: Global, text: &str) -> Option<Vec<u8>> {
-    let mut bytes = Vec::new(alloc);
-    if text == "-" {
-        return Some(bytes);
-    }
-    for part in text.split('+') {
-        let (digits, times) = part.split_once('*').unwrap_or((part, "1"));
-        let part = pairs(alloc, digits)?;
-        for _ in 0..times.parse::<u32>().ok()? {
-            bytes.extend_from_slice(&part).ok()?;
+impl Line<'_> {
+    /// The numbers of parts with a `+` between them, each in the range of its type; `-` stands for none.
+    pub fn numbers<T>(&mut self) -> Vec<T>
+    where
+        T: TryFrom<i64> + Default + Drop,
+        T::Error: Drop,
+    {
+        let (mut wide, mut numbers) = (Vec::new(self.alloc), Vec::new(self.alloc));
+        let text = self.word();
+        if text != "-" {
+            for part in text.split('+') {
+                add_part(self, &mut wide, part);
+            }
         }
+        for number in &wide {
+            match T::try_from(*number) {
+                Ok(number) => self.push(&mut numbers, number),
+                Err(_) => self.is_bad = true,
+            }
+        }
+        numbers
     }
-    Some(bytes)
+
+    /// Samples.
+    pub fn samples(&mut self) -> Vec<i32> {
+        self.numbers()
+    }
+
+    /// The bytes of parts with a `+` between them, each once or `DIGITS*TIMES`; `-` stands for none.
+    pub fn bytes(&mut self) -> Vec<u8> {
+        let (mut bytes, text) = (Vec::new(self.alloc), self.word());
+        if text != "-" {
+            for part in text.split('+') {
+                let (digits, times) = part.split_once('*').unwrap_or((part, "1"));
+                let times = self.number_of(times);
+                add_pairs(self, &mut bytes, digits, times);
+            }
+        }
+        bytes
+    }
+
+    /// The bytes of a text up to a `&` or to the end, in which `\n` stands for a line's end; `-` stands for none.
+    pub fn text(&mut self) -> Vec<u8> {
+        let (mut bytes, text) = (Vec::new(self.alloc), self.until(" & "));
+        if text != "-" {
+            for part in text.split("\\n") {
+                self.extend(&mut bytes, part.as_bytes());
+                self.push(&mut bytes, b'\n');
+            }
+            let _ = bytes.pop();
+        }
+        bytes
+    }
 }
 
 /// Bytes that are printed in hexadecimal.

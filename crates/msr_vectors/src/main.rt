@@ -7,6 +7,7 @@ mod filling;
 mod fitting;
 mod growing;
 mod inputs;
+mod line;
 mod lists;
 mod packing;
 mod records;
@@ -14,21 +15,16 @@ mod reports;
 mod rows;
 mod times;
 mod tools;
-mod words;
 
 use std::io;
 
 fn main(rt: HostRuntime) -> io::Result<()> {
-    for line in rt.lines(rt.alloc()) {
-        let line = line?;
-        let line = line.as_str();
-        println!(&rt; "{line}")?;
-        if line.is_empty() || line.starts_with('#') || growing::tell(&rt, line)? {
-            continue;
-        }
-        match rows::answer(rt.alloc(), line) {
-            Some(answer) => println!(&rt; "{answer}")?,
-            None => println!(&rt; "{}", words::NONE)?,
+    for text in rt.lines(rt.alloc()) {
+        let text = text?;
+        let text = text.as_str();
+        println!(&rt; "{text}")?;
+        if !text.is_empty() && !text.starts_with('#') {
+            rows::tell(&rt, text)?;
         }
     }
     Ok(())

@@ -1,11 +1,11 @@
 //! Segments and their packings, and what shows that no packing has fewer records.
 
-ghost use Rattle.std.specs.Prelude.{◌≡◌};
+ghost use Rattle.std.specs.Prelude.{◌≡◌, ◌≤◌, ◌+◌, ◌<◌, ◌^◌};
 ghost use Rattle.msr_packer.specs.Blocks.{pushed};
 
-use crate::words::{Words, differ, kind_of};
+use crate::line::Line;
 use msr_check::{separates, separates_in, shows_least, shows_least_in};
-use msr_packer::{BlockPacker, Last, Packing, Piece, StreamPacker, pack, pack_in};
+use msr_packer::{BlockPacker, Packing, Piece, StreamPacker, pack, pack_in};
 use msr_words::{Form, Kinds, Run, longest_run};
 use std::alloc::{AllocError, Global};
 
@@ -30,167 +30,167 @@ impl Streamed {
         }
     }
 
-    /// Adds a piece, if there is one, with its samples.
-    fn add_if_any(&mut self, piece: Option<Piece>, samples: &[i32]) -> Result<(), AllocError> {
-        if let Some(piece) = piece {
-            self.packing.runs.push(piece.run)?;
-            self.packing.separators.push(piece.separator)?;
+    /// Adds pieces and their samples.
+    fn add(&mut self, line: &mut Line<'_>, pieces: &[Piece], samples: &[i32]) {
+        for piece in pieces {
+            line.push(&mut self.packing.runs, piece.run);
+            line.push(&mut self.packing.separators, piece.separator);
         }
-        self.samples.extend_from_slice(samples)
-    }
-
-    /// Adds the last pieces.
-    fn with_last(self, last: Last) -> Result<Streamed, AllocError> {
-        let mut given = self;
-        for piece in last.pieces.as_slice() {
-            given.packing.runs.push(piece.run)?;
-            given.packing.separators.push(piece.separator)?;
-        }
-        given.samples.extend_from_slice(last.samples.as_slice())?;
-        Ok(given)
+        line.extend(&mut self.samples, samples);
     }
 
     /// Adds a piece with its samples, and the sample before them.
-    fn add(
+    fn add_after(
         &mut self,
+        line: &mut Line<'_>,
         piece: Piece,
         before: Option<i32>,
         samples: &[i32],
-    ) -> Result<(), AllocError> {
-        let last = self.samples.as_slice().last().copied();
-        self.joined = self.joined && before == last;
-        self.add_if_any(Some(piece), samples)
+    ) {
+        self.joined &= before == self.samples.as_slice().last().copied();
+        self.add(line, &[piece], samples);
+    }
+}
+
+/// Pushes a sample; without memory it is left out.
+fn push(line: &mut Line<'_>, packer: &mut StreamPacker, given: &mut Streamed, sample: i32)
+    requires { pushed packer.old + 1 < 2 ^ 64 }
+    ensures { pushed packer.new ≤ pushed packer.old + 1 }
+{
+    match packer.push(sample) {
+        Ok(Some(piece)) => given.add(line, &[piece], packer.run_samples()),
+        Ok(None) => given.add(line, &[], packer.run_samples()),
+        Err(_) => line.is_bad = true,
     }
 }
 
 /// The samples pushed one after another. Of them no more than two longest runs are kept back.
-fn stream_of(alloc: Global, samples: &[i32], form: Form) -> Result<Streamed, AllocError> {
-    let mut packer = StreamPacker::of(alloc, form);
-    let mut given = Streamed::empty(alloc);
+fn stream_of(line: &mut Line<'_>, samples: &[i32], form: Form) -> Streamed {
+    let mut packer = StreamPacker::of(line.alloc, form);
+    let mut given = Streamed::empty(line.alloc);
     for at in 0..samples.len() {
-        let piece = packer.push(samples[at])?;
-        given.add_if_any(piece, packer.run_samples())?;
+        push(line, &mut packer, &mut given, samples[at]);
         let kept = at.saturating_sub(given.samples.len());
-        given.joined = given.joined && kept < longest_run(form).saturating_mul(2);
+        given.joined &= kept < longest_run(form).saturating_mul(2);
     }
-    given.with_last(packer.end())
+    let last = packer.end();
+    given.add(line, last.pieces.as_slice(), last.samples.as_slice());
+    given
 }
 
 /// Adds the pieces that are decided.
-fn add_decided(packer: &mut BlockPacker, given: &mut Streamed) -> Result<(), AllocError>
+fn add_decided(line: &mut Line<'_>, packer: &mut BlockPacker, given: &mut Streamed)
     ensures { pushed packer.new ≡ pushed packer.old }
 {
     while let Some(piece) = packer.next_piece() {
-        given.add(piece, packer.sample_before(), packer.run_samples())?;
+        given.add_after(line, piece, packer.sample_before(), packer.run_samples());
     }
-    Ok(())
 }
 
 /// Adds the pieces at the end.
-fn add_last(packer: &mut BlockPacker, given: &mut Streamed) -> Result<(), AllocError> {
+fn add_last(line: &mut Line<'_>, packer: &mut BlockPacker, given: &mut Streamed) {
     while let Some(piece) = packer.last_piece() {
-        given.add(piece, packer.sample_before(), packer.run_samples())?;
+        given.add_after(line, piece, packer.sample_before(), packer.run_samples());
     }
-    Ok(())
 }
 
 /// What a block packer gives, if `size` samples are pushed at a time.
-fn in_blocks(
-    alloc: Global,
-    samples: &[i32],
-    form: Form,
-    size: usize,
-) -> Result<Streamed, AllocError> {
-    let mut packer = BlockPacker::new(alloc, form);
-    let mut given = Streamed::empty(alloc);
+fn in_blocks(line: &mut Line<'_>, samples: &[i32], form: Form, size: usize) -> Streamed {
+    let mut packer = BlockPacker::new(line.alloc, form);
+    let mut given = Streamed::empty(line.alloc);
     let mut from = 0;
     while from < samples.len() {
         let to = from + size.max(1).min(samples.len() - from);
-        packer.push_all(&samples[from..to])?;
-        add_decided(&mut packer, &mut given)?;
+        line.is_bad |= packer.push_all(&samples[from..to]).is_err();
+        add_decided(line, &mut packer, &mut given);
         from = to;
     }
-    add_last(&mut packer, &mut given)?;
-    Ok(given)
+    add_last(line, &mut packer, &mut given);
+    given
 }
 
-/// Whether samples that are pushed one after another, and in blocks, give the packing: of one sample, a few, about a
-/// record, or all at once.
-fn is_streamed(alloc: Global, whole: &Streamed, form: Form) -> Result<bool, AllocError> {
+/// Notes whether samples that are pushed one after another, and in blocks, give the packing: of one sample, a few, about
+/// a record, or all at once.
+fn agree_streamed(line: &mut Line<'_>, whole: &Streamed, form: Form) {
     let samples = whole.samples.as_slice();
-    if stream_of(alloc, samples, form)? != *whole {
-        return Ok(false);
-    }
+    let given = stream_of(line, samples, form);
+    line.agree(given == *whole);
     for size in [1, 7, 100, 1_000_000] {
-        if in_blocks(alloc, samples, form, size)? != *whole {
-            return Ok(false);
+        let given = in_blocks(line, samples, form, size);
+        line.agree(given == *whole);
+    }
+}
+
+/// The packing, by the call for all kinds, too.
+fn packing_of(line: &mut Line<'_>, samples: &[i32], form: Form) -> Packing {
+    let packing = pack_in(line.alloc, samples, form);
+    let packing = or_none(line, packing);
+    if form.kinds == Kinds::All {
+        let other = pack(line.alloc, samples, form.length);
+        let other = or_none(line, other);
+        line.agree(other == packing);
+    }
+    packing
+}
+
+fn or_none(line: &mut Line<'_>, packing: Result<Packing, AllocError>) -> Packing {
+    match packing {
+        Ok(packing) => packing,
+        Err(_) => {
+            line.is_bad = true;
+            Packing {
+                runs: Vec::new(line.alloc),
+                separators: Vec::new(line.alloc),
+            }
         }
     }
-    Ok(true)
 }
 
 /// `pack FORM SAMPLES`: the runs of the packing, and its separators.
-pub fn packed(words: &mut Words<'_>) -> Option<String> {
-    let (form, samples) = (words.form()?, words.samples()?);
-    let packing = pack_in(words.alloc, &samples, form).ok()?;
-    if form.kinds == Kinds::All && pack(words.alloc, &samples, form.length).ok()? != packing {
-        return differ(words.alloc);
-    }
+pub fn packed(line: &mut Line<'_>) {
+    let (form, samples) = (line.form(), line.samples());
     let whole = Streamed {
-        packing,
+        packing: packing_of(line, &samples, form),
         samples,
         joined: true,
     };
-    if !is_streamed(words.alloc, &whole, form).ok()? {
-        return differ(words.alloc);
+    agree_streamed(line, &whole, form);
+    for run in &whole.packing.runs {
+        line.put(format_args!("{}..{} {:?}, ", run.start, run.end, run.kind));
     }
-    let (runs, separators) = (&whole.packing.runs, &whole.packing.separators);
-    let mut text = String::new(words.alloc);
-    for run in runs {
-        text = format!(in words.alloc; "{text}{}..{} {:?}, ", run.start, run.end, run.kind).ok()?;
-    }
-    format!(in words.alloc; "{text}{separators:?}").ok()
-}
-
-/// The numbers of a list, none of them below 0.
-fn places(words: &mut Words<'_>) -> Option<Vec<u64>> {
-    let mut places = Vec::new(words.alloc);
-    for number in &words.numbers()? {
-        places.push(u64::try_from(*number).ok()?).ok()?;
-    }
-    Some(places)
+    line.put(format_args!("{:?}", whole.packing.separators));
 }
 
 /// `separates FORM SEPARATORS SAMPLES`: whether no record holds one of these samples with the next one.
-pub fn separated(words: &mut Words<'_>) -> Option<String> {
-    let (form, separators, samples) = (words.form()?, places(words)?, words.samples()?);
+pub fn separated(line: &mut Line<'_>) {
+    let (form, separators, samples) = (line.form(), line.numbers(), line.samples());
     let is = separates_in(&samples, form, &separators);
-    if form.kinds == Kinds::All && separates(&samples, form.length, &separators) != is {
-        return differ(words.alloc);
+    if form.kinds == Kinds::All {
+        line.agree(separates(&samples, form.length, &separators) == is);
     }
-    format!(in words.alloc; "{is}").ok()
+    line.put(is);
 }
 
 /// Runs with a `+` between them, `START,END,KIND`.
-fn runs_of(alloc: Global, text: &str) -> Option<Vec<Run>> {
-    let mut runs = Vec::new(alloc);
+fn runs_of(line: &mut Line<'_>) -> Vec<Run> {
+    let (mut runs, text, rest) = (Vec::new(line.alloc), line.word(), line.rest);
     for part in text.split('+') {
-        let (start, rest) = part.split_once(',')?;
-        let (end, name) = rest.split_once(',')?;
-        let (start, end) = (start.parse().ok()?, end.parse().ok()?);
-        let kind = kind_of(name)?;
-        runs.push(Run { start, end, kind }).ok()?;
+        line.rest = part;
+        let (start, end) = (line.number_until(","), line.number_until(","));
+        let kind = line.kind();
+        line.push(&mut runs, Run { start, end, kind });
     }
-    Some(runs)
+    line.rest = rest;
+    runs
 }
 
 /// `least FORM RUNS SEPARATORS SAMPLES`: whether the separators show that no packing of the samples has fewer runs.
-pub fn is_least(words: &mut Words<'_>) -> Option<String> {
-    let (form, runs) = (words.form()?, runs_of(words.alloc, words.word())?);
-    let (separators, samples) = (places(words)?, words.samples()?);
+pub fn is_least(line: &mut Line<'_>) {
+    let (form, runs) = (line.form(), runs_of(line));
+    let (separators, samples) = (line.numbers(), line.samples());
     let is = shows_least_in(&samples, form, &runs, &separators);
-    if form.kinds == Kinds::All && shows_least(&samples, form.length, &runs, &separators) != is {
-        return differ(words.alloc);
+    if form.kinds == Kinds::All {
+        line.agree(shows_least(&samples, form.length, &runs, &separators) == is);
     }
-    format!(in words.alloc; "{is}").ok()
+    line.put(is);
 }

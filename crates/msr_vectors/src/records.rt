@@ -1,141 +1,144 @@
 //! Headers and records: which are read, and from which bytes.
 
-use crate::lists::{Hexadecimal, bytes};
-use crate::words::{Words, differ};
+use crate::line::Line;
+use crate::lists::Hexadecimal;
 use msr_base::Order;
 use msr_fixtures::{
     START, edit_by_name, int32_record, key_at, little_record, record, steim_record,
 };
 use msr_header::{read_header, write_header};
-use msr_record::{FaultKind, Record, decode_record, encode_record, reverse_in, view_record};
+use msr_record::{
+    FaultKind, Record, RecordView, Row, decode_record, encode_record, reverse_in, view_record,
+};
 use msr_time::{Rate, is_instant};
 use msr_words::{Fitting, Kind, Length};
-use std::alloc::Global;
 
-/// The record of that name, and the order of its header's numbers.
-fn base(name: &str) -> Option<(Order, [u8; 256])> {
-    match name {
-        "plain" => Some((Order::Big, record(&[]))),
-        "steim" => Some((Order::Big, steim_record(&[]))),
-        "int32" => Some((Order::Big, int32_record(&[]))),
-        "little" => Some((Order::Little, little_record(&[]))),
-        _ => None,
+/// The bytes from the place on that is the next word are all that is left.
+fn cut(line: &mut Line<'_>, record: &mut Vec<u8>) {
+    let mut rest = Vec::new(line.alloc);
+    match record.as_slice().get(line.number()..) {
+        Some(bytes) => line.extend(&mut rest, bytes),
+        None => line.is_bad = true,
+    }
+    *record = rest;
+}
+
+/// Puts the bytes of the next word at that place.
+fn patch(line: &mut Line<'_>, record: &mut Vec<u8>, at: usize) {
+    let part = line.bytes();
+    let end = at.saturating_add(part.len());
+    match record.as_mut_slice().get_mut(at..end) {
+        Some(room) => room.copy_from_slice(&part),
+        None => line.is_bad = true,
     }
 }
 
 /// Makes a change: how many bytes are there, from which on, the bytes from a place on, or those of a field.
-fn change(
-    alloc: Global,
-    order: Order,
-    record: &mut Vec<u8>,
-    name: &str,
-    value: &str,
-) -> Option<()> {
+fn change(line: &mut Line<'_>, order: Order, record: &mut Vec<u8>) {
+    match line.until("=") {
+        "to" => line.is_bad |= record.resize(line.number(), 0).is_err(),
+        "from" => cut(line, record),
+        name => match name.parse() {
+            Ok(at) => patch(line, record, at),
+            Err(_) => line.is_bad |= edit_by_name(order, record, name, line.rest).is_none(),
+        },
+    }
+}
+
+/// Adds the record of that name, and tells the order of its header's numbers.
+fn add_base(line: &mut Line<'_>, out: &mut Vec<u8>, name: &str) -> Order {
     match name {
-        "to" => record.resize(value.parse::<usize>().ok()?, 0).ok(),
-        "from" => {
-            let rest = record
-                .as_slice()
-                .get(value.parse::<usize>().ok()?..)?
-                .to_vec(alloc)
-                .ok()?;
-            *record = rest;
-            Some(())
-        }
-        _ => {
-            let Ok(at) = name.parse::<usize>() else {
-                return edit_by_name(order, record, name, value);
-            };
-            let part = bytes(alloc, value)?;
-            let end = at.checked_add(part.len())?;
-            record
-                .as_mut_slice()
-                .get_mut(at..end)?
-                .copy_from_slice(&part);
-            Some(())
-        }
+        "plain" => line.extend(out, &record(&[])),
+        "steim" => line.extend(out, &steim_record(&[])),
+        "int32" => line.extend(out, &int32_record(&[])),
+        "little" => line.extend(out, &little_record(&[])),
+        "-" => {}
+        _ => line.is_bad = true,
+    }
+    if name == "little" {
+        Order::Little
+    } else {
+        Order::Big
     }
 }
 
 /// A record and what is changed of it; `-` stands for no bytes.
-pub fn record_of(words: &mut Words<'_>) -> Option<Vec<u8>> {
-    let name = words.word();
-    if name == "-" {
-        return Some(Vec::new(words.alloc));
+pub fn record_of(line: &mut Line<'_>) -> Vec<u8> {
+    let (mut record, name, changes) = (Vec::new(line.alloc), line.word(), line.rest);
+    let order = add_base(line, &mut record, name);
+    for word in changes.split_whitespace() {
+        line.rest = word;
+        change(line, order, &mut record);
     }
-    let (order, bytes) = base(name)?;
-    let mut record = bytes.to_vec(words.alloc).ok()?;
-    for word in words.rest.split_whitespace() {
-        let (name, value) = word.split_once('=')?;
-        change(words.alloc, order, &mut record, name, value)?;
-    }
-    Some(record)
+    record
 }
 
 /// `header RECORD`: the header that is read of it, and the bytes of the header as it is written; or why it is refused.
-pub fn header(words: &mut Words<'_>) -> Option<String> {
-    let bytes = record_of(words)?;
+pub fn header(line: &mut Line<'_>) {
+    let bytes = record_of(line);
     match read_header(&bytes) {
         Ok(header) => {
             let written = write_header(&header);
-            format!(in words.alloc; "{header:?} {}", Hexadecimal(&written)).ok()
+            line.put(format_args!("{header:?} {}", Hexadecimal(&written)));
         }
-        Err(fault) => format!(in words.alloc; "{fault}").ok(),
+        Err(fault) => line.put(fault),
     }
 }
 
-/// Whether the record is shown as it was decoded, with an area of that many bytes.
-fn is_shown(bytes: &[u8], record: &Record, area: usize) -> bool {
-    let Ok(view) = view_record(bytes) else {
-        return false;
-    };
-    let is_row = match &record.row {
+/// Notes whether the view shows the row, or none.
+fn agree_row(line: &mut Line<'_>, view: &RecordView<'_>, row: &Option<Row>) {
+    match row {
         Some(row) => {
-            view.place() == Some((row.key, row.start))
-                && view.samples().eq(row.samples.as_slice().iter().copied())
+            line.agree(view.place() == Some((row.key, row.start)));
+            line.agree(view.samples().eq(row.samples.as_slice().iter().copied()));
         }
-        None => view.place().is_none() && view.samples().next().is_none(),
-    };
-    is_row
-        && view.length() == record.length
-        && view.reverse_agrees() == record.reverse_agrees
-        && reverse_in(bytes) == Some(record.reverse_agrees)
-        && read_header(bytes) == Ok(*view.header())
-        && view.area().len() == area
+        None => {
+            line.agree(view.place().is_none());
+            line.agree(view.samples().next().is_none());
+        }
+    }
 }
 
-/// Whether all calls refuse the record so. Whether the reverse constant agrees is asked of a record that is refused for
-/// its time, and of no other.
-fn is_refused(alloc: Global, bytes: &[u8], fault: FaultKind, text: &str) -> Option<bool> {
-    let is_header = match (read_header(bytes), fault) {
-        (Err(header), FaultKind::Header(other)) => {
-            header == other && format!(in alloc; "{header}").ok()?.as_str() == text
-        }
-        (Ok(_), FaultKind::Header(_)) | (Err(_), _) => false,
-        (Ok(_), _) => true,
+/// Notes whether the record is shown as it was decoded, with an area of that many bytes.
+fn agree_shown(line: &mut Line<'_>, bytes: &[u8], record: &Record, area: usize) {
+    let Ok(view) = view_record(bytes) else {
+        return line.agree(false);
     };
-    Some(
-        is_header
-            && view_record(bytes).err() == Some(fault)
-            && reverse_in(bytes).is_some() == (fault == FaultKind::TimeRange),
-    )
+    agree_row(line, &view, &record.row);
+    line.agree(view.length() == record.length);
+    line.agree(view.reverse_agrees() == record.reverse_agrees);
+    line.agree(reverse_in(bytes) == Some(record.reverse_agrees));
+    line.agree(read_header(bytes) == Ok(*view.header()));
+    line.agree(view.area().len() == area);
+}
+
+/// Notes whether all calls refuse the record so. Whether the reverse constant agrees is asked of a record that is refused
+/// for its time, and of no other.
+fn agree_refused(line: &mut Line<'_>, bytes: &[u8], fault: FaultKind) {
+    line.agree(view_record(bytes).err() == Some(fault));
+    line.agree(reverse_in(bytes).is_some() == (fault == FaultKind::TimeRange));
+    match (read_header(bytes), fault) {
+        (Err(header), FaultKind::Header(other)) => {
+            line.agree(header == other);
+            line.agree_with(header);
+        }
+        (Ok(_), FaultKind::Header(_)) | (Err(_), _) => line.agree(false),
+        (Ok(_), _) => {}
+    }
 }
 
 /// `record AREA RECORD`: what it is decoded to, if its area has so many bytes; or why it is refused.
-pub fn decoded(words: &mut Words<'_>) -> Option<String> {
-    let area = words.number::<usize>()?;
-    let bytes = record_of(words)?;
-    match decode_record(words.alloc, &bytes) {
-        Ok(record) if is_shown(&bytes, &record, area) => format!(in words.alloc; "{record:?}").ok(),
-        Ok(_) => differ(words.alloc),
-        Err(FaultKind::Memory) => None,
+pub fn decoded(line: &mut Line<'_>) {
+    let (area, bytes) = (line.number(), record_of(line));
+    match decode_record(line.alloc, &bytes) {
+        Ok(record) => {
+            agree_shown(line, &bytes, &record, area);
+            line.put(format_args!("{record:?}"));
+        }
+        Err(FaultKind::Memory) => line.is_bad = true,
         Err(fault) => {
-            let text = format!(in words.alloc; "{fault}").ok()?;
-            if is_refused(words.alloc, &bytes, fault, text.as_str())? {
-                Some(text)
-            } else {
-                differ(words.alloc)
-            }
+            line.put(fault);
+            agree_refused(line, &bytes, fault);
         }
     }
 }
@@ -152,19 +155,19 @@ pub struct Part {
 }
 
 /// `AFTER SEQUENCE BEFORE KIND LENGTH SAMPLES`: a row so many microseconds after the others.
-pub fn part_of(words: &mut Words<'_>) -> Option<Part> {
-    Some(Part {
-        start: START.checked_add(words.number::<i64>()?)?,
-        sequence: words.number()?,
-        before: words.before()?,
-        kind: words.kind()?,
-        length: Length::new(words.number()?)?,
-        samples: words.samples()?,
-    })
+pub fn part_of(line: &mut Line<'_>) -> Part {
+    Part {
+        start: START.saturating_add(line.number()),
+        sequence: line.number(),
+        before: line.optional(),
+        kind: line.kind(),
+        length: line.length(),
+        samples: line.samples(),
+    }
 }
 
 /// Appends the record of a row, if it takes its samples; or leaves all as it was.
-pub fn append(alloc: Global, part: &Part, out: &mut Vec<u8>) -> Option<()> {
+pub fn append(line: &Line<'_>, part: &Part, out: &mut Vec<u8>) -> Option<()> {
     let samples = part.samples.as_slice();
     if part.sequence < 1 || part.sequence > 999_999 || !is_instant(part.start) {
         return None;
@@ -174,7 +177,7 @@ pub fn append(alloc: Global, part: &Part, out: &mut Vec<u8>) -> Option<()> {
     }
     let key = key_at(Rate::new(20, 1)?);
     encode_record(
-        alloc,
+        line.alloc,
         &key,
         part.start,
         part.sequence,
@@ -187,35 +190,40 @@ pub fn append(alloc: Global, part: &Part, out: &mut Vec<u8>) -> Option<()> {
     .ok()
 }
 
-/// Whether the bytes are decoded to that row.
-fn is_row(alloc: Global, bytes: &[u8], part: &Part) -> Option<bool> {
-    let key = key_at(Rate::new(20, 1)?);
-    match decode_record(alloc, bytes) {
-        Ok(
-            Record {
-                reverse_agrees: true,
-                row: Some(row),
-                ..
-            },
-        ) => Some(
-            row.key == key
-                && row.start == part.start
-                && row.kind == part.kind
-                && row.samples.as_slice() == part.samples.as_slice(),
-        ),
-        Err(FaultKind::Memory) => None,
-        _ => Some(false),
+/// Whether it is that row.
+fn is_row(row: &Row, part: &Part) -> bool {
+    let Some(rate) = Rate::new(20, 1) else {
+        return false;
+    };
+    row.key == key_at(rate)
+        && row.start == part.start
+        && row.kind == part.kind
+        && row.samples.as_slice() == part.samples.as_slice()
+}
+
+/// Notes whether the bytes are decoded to that row.
+fn agree_decoded(line: &mut Line<'_>, bytes: &[u8], part: &Part) {
+    match decode_record(line.alloc, bytes) {
+        Ok(record) => {
+            let is_part = match &record.row {
+                Some(row) => is_row(row, part),
+                None => false,
+            };
+            line.agree(is_part && record.reverse_agrees);
+        }
+        Err(FaultKind::Memory) => line.is_bad = true,
+        Err(_) => line.agree(false),
     }
 }
 
 /// `encode AFTER SEQUENCE BEFORE KIND LENGTH SAMPLES`: how many bytes the record of such a row has, and the first 256.
-pub fn encoded(words: &mut Words<'_>) -> Option<String> {
-    let part = part_of(words)?;
-    let mut out = Vec::new(words.alloc);
-    append(words.alloc, &part, &mut out)?;
-    if !is_row(words.alloc, &out, &part)? {
-        return differ(words.alloc);
+pub fn encoded(line: &mut Line<'_>) {
+    let part = part_of(line);
+    let mut out = Vec::new(line.alloc);
+    line.is_bad |= append(line, &part, &mut out).is_none();
+    agree_decoded(line, &out, &part);
+    match out.as_slice().get(..256) {
+        Some(first) => line.put(format_args!("{} {}", out.len(), Hexadecimal(first))),
+        None => line.is_bad = true,
     }
-    let first = out.as_slice().get(..256)?;
-    format!(in words.alloc; "{} {}", out.len(), Hexadecimal(first)).ok()
 }

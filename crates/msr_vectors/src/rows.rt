@@ -1,73 +1,85 @@
 //! Which row is answered by which call.
 
-use crate::words::Words;
-use crate::{areas, filling, fitting, inputs, packing, records, reports, times, tools};
-use std::alloc::Global;
+use crate::line::{Line, NONE};
+use crate::{areas, filling, fitting, growing, inputs, packing, records, reports, times, tools};
+use msr_words::Length;
+use std::io;
 
-/// A row of times, of words or of areas.
-fn of_format(name: &str, words: &mut Words<'_>) -> Option<String> {
+/// Answers a row of times, of words or of areas.
+fn answer_format(name: &str, line: &mut Line<'_>) {
     match name {
-        "time" => times::time(words),
-        "instant" => times::instant(words),
-        "period" => times::period(words),
-        "nominal" => times::nominal(words),
-        "near" => times::near(words),
-        "samples" => areas::grown(words),
-        "plain" => areas::plain(words),
-        "steim" => areas::steim(words),
-        "frames" => areas::frames(words),
-        "word" => areas::written(words),
-        "read" => areas::held(words),
-        "width" => areas::width(words),
-        "group" => areas::is_one(words),
-        _ => of_fitting(name, words),
+        "time" => times::time(line),
+        "instant" => times::instant(line),
+        "period" => times::period(line),
+        "nominal" => times::nominal(line),
+        "near" => times::near(line),
+        "samples" => areas::grown(line),
+        "plain" => areas::plain(line),
+        "steim" => areas::steim(line),
+        "frames" => areas::frames(line),
+        "word" => areas::written(line),
+        "read" => areas::held(line),
+        "width" => areas::width(line),
+        "group" => areas::is_one(line),
+        _ => answer_fitting(name, line),
     }
 }
 
-/// A row of what fits a record.
-fn of_fitting(name: &str, words: &mut Words<'_>) -> Option<String> {
+/// Answers a row of what fits a record.
+fn answer_fitting(name: &str, line: &mut Line<'_>) {
     match name {
-        "taken" => fitting::taken(words),
-        "kind" => fitting::kind(words),
-        "encoding" => fitting::encoding(words),
-        "length" => fitting::length(words),
-        "longest" => fitting::longest(words),
-        "fits" => fitting::fits(words),
-        "run" => fitting::run(words),
-        "difference" => fitting::difference_at(words),
-        "word_size" => fitting::word_size(words),
-        "groups" => fitting::divided(words),
-        "count" => fitting::counted(words),
-        _ => None,
+        "taken" => fitting::taken(line),
+        "kind" => fitting::kind(line),
+        "encoding" => fitting::encoding(line),
+        "length" => fitting::length(line),
+        "longest" => fitting::longest(line),
+        "fits" => fitting::fits(line),
+        "run" => fitting::run(line),
+        "difference" => fitting::difference_at(line),
+        "word_size" => fitting::word_size(line),
+        "groups" => fitting::divided(line),
+        "count" => fitting::counted(line),
+        _ => line.is_bad = true,
     }
 }
 
-/// What is answered to a row, unless it is none.
-pub fn answer(alloc: Global, line: &str) -> Option<String> {
-    let mut words = Words { alloc, rest: line };
-    let name = words.word();
-    let words = &mut words;
+/// Answers a row.
+fn answer(name: &str, line: &mut Line<'_>) {
     match name {
-        "header" => records::header(words),
-        "record" => records::decoded(words),
-        "encode" => records::encoded(words),
-        "area1" => filling::steim1(words),
-        "area2" => filling::steim2(words),
-        "told" => filling::by_told_words(words),
-        "pack" => packing::packed(words),
-        "separates" => packing::separated(words),
-        "least" => packing::is_least(words),
-        "path" => times::path(words),
-        "join" => inputs::joined(words),
-        "input" => inputs::read(words),
-        "compare" => inputs::compared(words),
-        "tool" => tools::called(words),
-        "options" => tools::options(words),
-        "fault" => tools::fault(words),
-        "memory" => tools::memory(words),
-        "report" => reports::read(words),
-        "retold" => reports::written(words),
-        "laws" => reports::laws(words),
-        _ => of_format(name, words),
+        "header" => records::header(line),
+        "record" => records::decoded(line),
+        "encode" => records::encoded(line),
+        "area1" => filling::steim1(line),
+        "area2" => filling::steim2(line),
+        "told" => filling::by_told_words(line),
+        "pack" => packing::packed(line),
+        "separates" => packing::separated(line),
+        "least" => packing::is_least(line),
+        "path" => times::path(line),
+        "join" => inputs::joined(line),
+        "input" => inputs::read(line),
+        "compare" => inputs::compared(line),
+        "tool" => tools::called(line),
+        "options" => tools::options(line),
+        "fault" => tools::fault(line),
+        "memory" => tools::memory(line),
+        "report" => reports::read(line),
+        "retold" => reports::written(line),
+        "laws" => reports::laws(line),
+        _ => answer_format(name, line),
     }
+}
+
+/// Prints what is answered to a row.
+pub fn tell(rt: &HostRuntime, text: &str) -> io::Result<()> {
+    let Some(length) = Length::new(256) else {
+        return println!(rt; "{NONE}");
+    };
+    let mut line = Line::new(rt.alloc(), text, length);
+    let name = line.word();
+    if growing::tell(rt, name, &mut line)? {
+        return Ok(());
+    }
+    answer(name, &mut line);
+    println!(rt; "{}", line.told())
 }

@@ -1,70 +1,81 @@
 //! Times, instants and rates; paths that have days in them.
 
-use crate::words::Words;
+use crate::line::Line;
 use msr_sds::SdsName;
 use msr_time::{BTime, Rate, is_instant, split};
 
 /// `time YEAR DAY HOUR MINUTE SECOND FRACTION`: the instant of a time.
-pub fn time(words: &mut Words<'_>) -> Option<String> {
+pub fn time(line: &mut Line<'_>) {
     let time = BTime {
-        year: words.number()?,
-        day: words.number()?,
-        hour: words.number()?,
-        minute: words.number()?,
-        second: words.number()?,
-        fract: words.number()?,
+        year: line.number(),
+        day: line.number(),
+        hour: line.number(),
+        minute: line.number(),
+        second: line.number(),
+        fract: line.number(),
     };
-    format!(in words.alloc; "{:?}", time.micros()).ok()
+    line.put(format_args!("{:?}", time.micros()));
 }
 
 /// `instant INSTANT`: whether it is in range, and its time with the microseconds below it.
-pub fn instant(words: &mut Words<'_>) -> Option<String> {
-    let instant = words.number::<i64>()?;
-    format!(in words.alloc; "{} {:?}", is_instant(instant), split(instant)).ok()
+pub fn instant(line: &mut Line<'_>) {
+    let instant = line.number();
+    line.put(format_args!("{} {:?}", is_instant(instant), split(instant)));
 }
 
 /// A rate, if there is one of that factor and multiplier, which it has.
-fn rate(words: &mut Words<'_>) -> Option<Option<Rate>> {
-    let (factor, multiplier) = (words.number::<i16>()?, words.number::<i16>()?);
+fn rate(line: &mut Line<'_>) -> Option<Rate> {
+    let (factor, multiplier) = (line.number(), line.number());
     let rate = Rate::new(factor, multiplier);
-    match &rate {
-        Some(made) if made.factor() != factor || made.multiplier() != multiplier => None,
-        _ => Some(rate),
+    if let Some(rate) = &rate {
+        line.agree(rate.factor() == factor && rate.multiplier() == multiplier);
     }
+    rate
 }
 
 /// `period FACTOR MULTIPLIER`: the numerator and the denominator of the period in microseconds.
-pub fn period(words: &mut Words<'_>) -> Option<String> {
-    match rate(words)? {
-        Some(rate) => format!(in words.alloc; "{:?}", rate.period()).ok(),
-        None => format!(in words.alloc; "None").ok(),
+pub fn period(line: &mut Line<'_>) {
+    match rate(line) {
+        Some(rate) => line.put(format_args!("{:?}", rate.period())),
+        None => line.put("None"),
     }
 }
 
 /// `nominal FACTOR MULTIPLIER START NUMBER`: the instant of the sample of that number after a start.
-pub fn nominal(words: &mut Words<'_>) -> Option<String> {
-    let rate = rate(words)??;
-    let instant = rate.nominal(words.number()?, words.number()?);
-    format!(in words.alloc; "{instant:?}").ok()
+pub fn nominal(line: &mut Line<'_>) {
+    let (rate, start, number) = (rate(line), line.number(), line.number());
+    match rate {
+        Some(rate) => line.put(format_args!("{:?}", rate.nominal(start, number))),
+        None => line.is_bad = true,
+    }
 }
 
 /// `near FACTOR MULTIPLIER NUMBER INSTANT TOLERANCE`: whether the instant is near to the sample of that number after
 /// instant 0.
-pub fn near(words: &mut Words<'_>) -> Option<String> {
-    let rate = rate(words)??;
-    let is_near = rate.near(0, words.number()?, words.number()?, words.number()?);
-    format!(in words.alloc; "{is_near}").ok()
+pub fn near(line: &mut Line<'_>) {
+    let (rate, number) = (rate(line), line.number());
+    let (instant, tolerance) = (line.number(), line.number());
+    match rate {
+        Some(rate) => line.put(rate.near(0, number, instant, tolerance)),
+        None => line.is_bad = true,
+    }
 }
 
 /// `path PATH`: the network, station, location and channel of a day file of an archive, and its path as it is written; or
 /// why it is none.
-pub fn path(words: &mut Words<'_>) -> Option<String> {
-    let name = match SdsName::parse(words.word()) {
-        Ok(name) => name,
-        Err(fault) => return format!(in words.alloc; "{fault}").ok(),
-    };
-    let path = name.path_text(words.alloc).ok()?;
+pub fn path(line: &mut Line<'_>) {
+    match SdsName::parse(line.word()) {
+        Ok(name) => put_name(line, &name),
+        Err(fault) => line.put(fault),
+    }
+}
+
+fn put_name(line: &mut Line<'_>, name: &SdsName<'_>) {
     let (network, station) = (name.network(), name.station());
     let (location, channel) = (name.location(), name.channel());
-    format!(in words.alloc; "{network}.{station}.{location}.{channel} {path}").ok()
+    line.put(format_args!("{network}.{station}.{location}.{channel} "));
+    match name.path_text(line.alloc) {
+        Ok(path) => line.put(path.as_str()),
+        Err(_) => line.is_bad = true,
+    }
 }

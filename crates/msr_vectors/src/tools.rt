@@ -1,19 +1,18 @@
 //! The calls of msr_tool, over devices that move few bytes at a time, are interrupted, or fail at a call.
 
 ghost use Rattle.std.specs.Prelude.{◌≡◌, [], Some};
-ghost use Rattle.msr_devices.specs.Device.{unused};
+ghost use Rattle.msr_devices.specs.Device.{unused, CanCountCall};
 
 use crate::inputs::{TOLERANCE, behaviors, bytes_of};
-use crate::lists::lined;
-use crate::words::{Words, differ};
-use msr_devices::{Behavior, DeviceFault, Sink, TestSink, TestSource};
+use crate::line::Line;
+use msr_devices::{Behavior, DeviceFault, Sink, Source, TestSink, TestSource};
 use msr_header::HeaderFault;
 use msr_input::ReadFault;
 use msr_plain::PlainFault;
 use msr_report_reader::ReportFault;
 use msr_steim::SteimFault;
 use msr_tool::{
-    Fault, FaultKind, Length, ListForm, Options, ToolFault, check_and_tell, check_packed, feed,
+    Fault, FaultKind, ListForm, Options, ToolFault, check_and_tell, check_packed, feed,
     feed_and_report, list_segments, repack, repack_and_report,
 };
 use std::alloc::Global;
@@ -63,182 +62,163 @@ struct Asked<'a> {
     told: &'a [u8],
 }
 
+/// Why the call stops, if it does.
+fn fault_of<R: Source, Q: Source, W: Sink, T: Sink>(
+    line: &mut Line<'_>,
+    asked: &Asked<'_>,
+    records: &mut R,
+    report: &mut Q,
+    written: &mut W,
+    told: &mut T,
+) -> Option<ToolFault>
+    requires records { CanCountCall (R.device records.old) }
+    requires report { CanCountCall (Q.device report.old) }
+    requires written { CanCountCall (W.device written.old) }
+    requires told { CanCountCall (T.device told.old) }
+{
+    let (alloc, options) = (line.alloc, asked.options);
+    match asked.call {
+        "repack" => repack(alloc, records, written, options).err(),
+        "feed" => feed(alloc, records, written, options).err(),
+        "repack_and_report" => repack_and_report(alloc, records, written, told, options).err(),
+        "feed_and_report" => feed_and_report(alloc, records, written, told, options).err(),
+        "list" => list_segments(alloc, records, told, options, ListForm::Words).err(),
+        "check" => check_packed(alloc, records, report).err(),
+        "check_and_tell" => check_and_tell(alloc, records, report, told).err(),
+        _ => {
+            line.is_bad = true;
+            None
+        }
+    }
+}
+
 /// Why a call stops, if it does, and how many bytes of records and of text it wrote.
 type Ended = (Option<ToolFault>, usize, usize);
 
-/// How many bytes a sink holds, if they are a first part of what it is to hold.
-fn part_of(sink: &TestSink, whole: &[u8]) -> Option<usize> {
-    let held = sink.bytes();
-    whole.starts_with(held).then_some(held.len())
-}
-
-/// A call that reads records and writes records.
-fn packed(alloc: Global, asked: &Asked<'_>, devices: Devices<'_>) -> Option<Ended> {
-    let mut records = TestSource::new(asked.records, devices.behavior("records"));
-    let mut written = devices.sink(alloc, "written");
-    let fault = match asked.call {
-        "repack" => repack(alloc, &mut records, &mut written, asked.options).err(),
-        _ => feed(alloc, &mut records, &mut written, asked.options).err(),
-    };
-    Some((fault, part_of(&written, asked.written)?, 0))
-}
-
-/// A call that writes the text of a report, too.
-fn reported(alloc: Global, asked: &Asked<'_>, devices: Devices<'_>) -> Option<Ended> {
-    let mut records = TestSource::new(asked.records, devices.behavior("records"));
-    let mut written = devices.sink(alloc, "written");
-    let mut told = devices.sink(alloc, "told");
-    let options = asked.options;
-    let fault = match asked.call {
-        "repack_and_report" => {
-            repack_and_report(alloc, &mut records, &mut written, &mut told, options).err()
-        }
-        _ => feed_and_report(alloc, &mut records, &mut written, &mut told, options).err(),
-    };
-    let written = part_of(&written, asked.written)?;
-    Some((fault, written, part_of(&told, asked.told)?))
-}
-
-/// The call that lists segments.
-fn listed(alloc: Global, asked: &Asked<'_>, devices: Devices<'_>) -> Option<Ended> {
-    let mut records = TestSource::new(asked.records, devices.behavior("records"));
-    let mut told = devices.sink(alloc, "told");
-    let form = ListForm::Words;
-    let fault = list_segments(alloc, &mut records, &mut told, asked.options, form).err();
-    Some((fault, 0, part_of(&told, asked.told)?))
-}
-
-/// The call that checks records by their report.
-fn checked(alloc: Global, asked: &Asked<'_>, devices: Devices<'_>) -> Ended {
+/// What comes of the call. What it wrote has to be first parts of what it is to write.
+fn ended(line: &mut Line<'_>, asked: &Asked<'_>, devices: Devices<'_>) -> Ended {
     let mut records = TestSource::new(asked.records, devices.behavior("records"));
     let mut report = TestSource::new(asked.report, devices.behavior("report"));
-    (check_packed(alloc, &mut records, &mut report).err(), 0, 0)
-}
-
-/// The call that writes what it checks, too.
-fn verdict_told(alloc: Global, asked: &Asked<'_>, devices: Devices<'_>) -> Option<Ended> {
-    let mut records = TestSource::new(asked.records, devices.behavior("records"));
-    let mut report = TestSource::new(asked.report, devices.behavior("report"));
-    let mut told = devices.sink(alloc, "told");
-    let fault = check_and_tell(alloc, &mut records, &mut report, &mut told).err();
-    Some((fault, 0, part_of(&told, asked.told)?))
-}
-
-/// What comes of the call, if what it wrote are first parts of what it is to write.
-fn ended(alloc: Global, asked: &Asked<'_>, devices: Devices<'_>) -> Option<Ended> {
-    match asked.call {
-        "repack" | "feed" => packed(alloc, asked, devices),
-        "repack_and_report" | "feed_and_report" => reported(alloc, asked, devices),
-        "list" => listed(alloc, asked, devices),
-        "check" => Some(checked(alloc, asked, devices)),
-        "check_and_tell" => verdict_told(alloc, asked, devices),
-        _ => None,
-    }
+    let mut written = devices.sink(line.alloc, "written");
+    let mut told = devices.sink(line.alloc, "told");
+    let fault = fault_of(
+        line,
+        asked,
+        &mut records,
+        &mut report,
+        &mut written,
+        &mut told,
+    );
+    line.agree(asked.written.starts_with(written.bytes()));
+    line.agree(asked.told.starts_with(told.bytes()));
+    (fault, written.bytes().len(), told.bytes().len())
 }
 
 /// What comes of the call if a device is odd, `DEVICE MOST INTERRUPTIONS FAILS`.
-fn with_odd(alloc: Global, asked: &Asked<'_>, others: usize, odd: &str) -> Option<String> {
-    let mut words = Words { alloc, rest: odd };
-    let place = words.word();
-    let mut text = format!(in alloc; "{odd}:").ok()?;
-    for behavior in &behaviors(&mut words)? {
+fn put_odd(line: &mut Line<'_>, asked: &Asked<'_>, others: usize) {
+    let odd = line.rest;
+    line.put(format_args!("{odd}:"));
+    let (place, behaviors) = (line.word(), behaviors(line));
+    for odd in &behaviors {
         let mut devices = Devices {
             place,
-            odd: *behavior,
+            odd: *odd,
             accepts_nothing: false,
             others,
         };
-        let (fault, written, told) = ended(alloc, asked, devices)?;
+        let (fault, written, told) = ended(line, asked, devices);
         devices.accepts_nothing = true;
-        if ended(alloc, asked, devices)? != (fault, written, told) {
-            return differ(alloc);
+        let again = ended(line, asked, devices);
+        line.agree(again == (fault, written, told));
+        match fault {
+            Some(fault) => line.put(format_args!(" {fault} {written} {told},")),
+            None => line.put(format_args!(" done {written} {told},")),
         }
-        text = match fault {
-            Some(fault) => format!(in alloc; "{text} {fault} {written} {told},").ok()?,
-            None => format!(in alloc; "{text} done {written} {told},").ok()?,
-        };
     }
-    Some(text)
+}
+
+/// What comes of the call for each odd device.
+fn put_all<'a>(line: &mut Line<'a>, asked: &Asked<'_>, others: usize, odds: &'a str) {
+    for odd in odds.split(" + ") {
+        if !line.answer.is_empty() {
+            line.put('\n');
+        }
+        line.rest = odd;
+        put_odd(line, asked, others);
+    }
 }
 
 /// `tool CALL LENGTH OTHERS DEVICE MOST INTERRUPTIONS FAILS + .. & RECORDS & REPORT & WRITTEN & TOLD`: for each odd device why
 /// the call stops or that it is done, and how many bytes of the records and of the text are written then.
-pub fn called(words: &mut Words<'_>) -> Option<String> {
-    let alloc = words.alloc;
-    let (call, length, others) = (words.word(), words.number()?, words.number()?);
-    let (odds, rest) = words.rest.split_once(" & ")?;
-    let (records, rest) = rest.split_once(" & ")?;
-    let (report, rest) = rest.split_once(" & ")?;
-    let (written, told) = rest.split_once(" & ")?;
-    let (records, written) = (bytes_of(alloc, records)?, bytes_of(alloc, written)?);
-    let (report, told) = (lined(alloc, report)?, lined(alloc, told)?);
+pub fn called(line: &mut Line<'_>) {
+    let call = line.word();
+    let Some(options) = Options::new(line.length(), TOLERANCE) else {
+        return line.bad(());
+    };
+    let (others, odds) = (line.number(), line.until(" & "));
+    let (records, report) = (bytes_of(line), line.text());
+    let (written, told) = (bytes_of(line), line.text());
     let asked = Asked {
         call,
-        options: Options::new(Length::new(length)?, TOLERANCE)?,
+        options,
         records: &records,
-        report: report.as_str().as_bytes(),
+        report: &report,
         written: &written,
-        told: told.as_str().as_bytes(),
+        told: &told,
     };
-    let mut text = String::new(alloc);
-    for odd in odds.split(" + ") {
-        let line = with_odd(alloc, &asked, others, odd)?;
-        if !text.is_empty() {
-            text.push('\n').ok()?;
-        }
-        text.push_str(line.as_str()).ok()?;
-    }
-    Some(text)
+    put_all(line, &asked, others, odds);
 }
 
 /// `options LENGTH TOLERANCE`: the length and the tolerance of the options, and whether they are strict at first and once
 /// they are to be; or none.
-pub fn options(words: &mut Words<'_>) -> Option<String> {
-    let (length, tolerance) = (Length::new(words.number()?)?, words.number()?);
-    let Some(options) = Options::new(length, tolerance) else {
-        return format!(in words.alloc; "None").ok();
+pub fn options(line: &mut Line<'_>) {
+    let Some(options) = Options::new(line.length(), line.number()) else {
+        return line.put("None");
     };
     let strict = options.strict(true);
-    if strict.strict(false) != options
-        || strict.length() != options.length()
-        || strict.tolerance() != options.tolerance()
-    {
-        return differ(words.alloc);
-    }
+    line.agree(strict.strict(false) == options);
+    line.agree(strict.length() == options.length() && strict.tolerance() == options.tolerance());
     let (bytes, tolerance) = (options.length().bytes(), options.tolerance());
     let (usual, strict) = (options.is_strict(), strict.is_strict());
-    format!(in words.alloc; "{bytes} {tolerance} {usual} {strict}").ok()
+    line.put(format_args!("{bytes} {tolerance} {usual} {strict}"));
 }
 
-/// The fault of an input at that place.
-fn of_input(alloc: Global, kind: FaultKind, offset: u64) -> Option<ToolFault> {
+/// The fault of an input at that place, which is told alike wherever it stands.
+fn of_input(line: &mut Line<'_>, kind: FaultKind, offset: u64) -> ToolFault {
     let fault = Fault { offset, kind };
-    let text = format!(in alloc; "{fault}").ok()?;
-    let read = format!(in alloc; "{}", ReadFault::Input(fault)).ok()?;
-    (text == read).then_some(ToolFault::Input(fault))
+    line.put(fault);
+    line.agree_with(ReadFault::Input(fault));
+    line.answer.clear();
+    ToolFault::Input(fault)
 }
 
 /// `fault blockette|code|line NUMBER`, `fault read|write`: the text of a fault, and the status with which a program ends.
-pub fn fault(words: &mut Words<'_>) -> Option<String> {
-    let (alloc, name) = (words.alloc, words.word());
-    let number = words.rest.parse::<u64>().unwrap_or(0);
+pub fn fault(line: &mut Line<'_>) {
+    let name = line.word();
+    let number = if line.rest.is_empty() {
+        0
+    } else {
+        line.number()
+    };
     let blockette = FaultKind::Header(HeaderFault::OtherBlockette(500));
     let fault = match name {
-        "blockette" => of_input(alloc, blockette, number)?,
-        "code" => of_input(alloc, FaultKind::BadCode(3), number)?,
+        "blockette" => of_input(line, blockette, number),
+        "code" => of_input(line, FaultKind::BadCode(3), number),
         "line" => ToolFault::Report(number),
         "read" => ToolFault::Read,
         "write" => ToolFault::Write,
-        _ => return None,
+        _ => {
+            return line.bad(());
+        }
     };
-    format!(in alloc; "{fault}, status {}", fault.status()).ok()
+    line.put(format_args!("{fault}, status {}", fault.status()));
 }
 
 /// `memory`: what the libraries tell if memory is refused.
-pub fn memory(words: &mut Words<'_>) -> Option<String> {
+pub fn memory(line: &mut Line<'_>) {
     let (plain, steim, record) = (PlainFault::Memory, SteimFault::Memory, FaultKind::Memory);
     let (read, report) = (ReadFault::from(DeviceFault::Memory), ReportFault::Memory);
     let tool = ToolFault::Memory;
-    let text = format!(in words.alloc; "{plain}, {steim}, {record}, {read}, {report}").ok()?;
-    format!(in words.alloc; "{text}, {tool}, status {}", tool.status()).ok()
+    line.put(format_args!("{plain}, {steim}, {record}, {read}, {report}"));
+    line.put(format_args!(", {tool}, status {}", tool.status()));
 }

@@ -1,7 +1,7 @@
--- As many samples were pushed as were looked at.
-use Rattle.std.proofs.Common.{◌≡◌}
+-- At most as many samples were pushed as were looked at.
+use Rattle.std.proofs.Common.{◌≤◌}
 use Rattle.msr_packer.specs.Blocks.{pushed}
 use Rattle.msr_vectors.proofs.packing.stream_of.Given as goal
 
 abbrev pub invariant-loop-at : goal.invariant-loop-at
-invariant-loop-at l = pushed l.packer ≡ l.at
+invariant-loop-at l = pushed l.packer ≤ l.at
