@@ -67,7 +67,7 @@ fn is_edited(row: Row<'_>) -> bool {
 fn edits_write_their_fields() -> Result<(), Fail> {
     for row in ROWS {
         if !is_edited(*row) {
-            return Err(Fail::new(format_args!("{:?}", row.0)));
+            return Err(Fail::new(format_args!("the edit at byte {}", row.1)));
         }
     }
     Ok(())

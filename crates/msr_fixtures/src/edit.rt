@@ -3,7 +3,7 @@
 use msr_base::Order;
 
 /// Other bytes in a record. A number is written in the order of the header that is edited.
-#[derive(Clone, Copy, Debug)]
+#[derive(Clone, Copy)]
 pub enum Edit<'a> {
     /// The digits of the sequence number.
     Sequence([u8; 6]),
