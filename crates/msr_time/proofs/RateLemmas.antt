@@ -35,6 +35,17 @@ pub gap_bound : (t t0 : ℤ) (den : ℕ) → FitsSigned w64 t → FitsSigned w64
 gap_bound t t0 den f g h = product_within (t -ℤ t0) (pos den) (2 ^ 64) (2 ^ 30)
     (omega (arith, signed_arith, one_part (t -ℤ t0))) (omega arith)
 
+-- the product, before the span is taken away
+pub product_from_bits : (t t0 : ℤ) (den : ℕ) → FitsSigned w64 t → FitsSigned w64 t0 → den < 2 ^ 30
+    → FitsSigned w128 (to_z w128 (of_z w128 (to_z w128 (of_z w128 (to_z w64 (of_z w64 t))) -ℤ to_z w128
+    (of_z w128 (to_z w64 (of_z w64 t0))))) *ℤ to_z w128 den)
+product_from_bits t t0 den f g h =
+    let diff : to_z w128 (of_z w128 (to_z w128 (of_z w128 (to_z w64 (of_z w64 t))) -ℤ to_z w128
+    (of_z w128 (to_z w64 (of_z w64 t0))))) ≡ t -ℤ t0 = omega (arith, ints) in
+    let number : to_z w128 den ≡ pos den = omega (arith, ints) in
+    let bound = gap_bound t t0 den f g h in
+    rw (diff, number) (omega (arith, signed_arith))
+
 -- the half that is added rounds ties up
 pub nominal_is : (rate : SampleRate) (t0 : ℤ) (n q : ℕ)
     → q * (2 * (period_of rate).1) ≤ 2 * (n * (period_of rate).0) + (period_of rate).1
