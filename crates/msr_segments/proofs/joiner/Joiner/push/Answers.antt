@@ -75,3 +75,18 @@ returns-in-Begins-clause-time_range c =
       λ o. let impossible = refused.1
           (subst (λ (f : Following). Overruns f (row_span c.args.row)) same o) in cc,
     )
+
+pub invariant_of-self : goal.invariant_of-self
+invariant_of-self c = λ span is. rw c.in_default-extend_from_slice.ensures.err (c.self.invariant span is)
+
+pub returns-in_default-extend_from_slice-clause-time_range
+    : goal.returns-in_default-extend_from_slice-clause-time_range
+returns-in_default-extend_from_slice-clause-time_range c =
+    let fits : FitsSigned w64 c.args.row.start = search rules in
+    let same = ap following_of (sym c.self.view_is)
+    ∙ following_same c.self.inside.follow c.self.inside.samples c.self.invariant in
+    let refused = rw (c.len.ensures, to_z-of_z fits) at c.in-Ok.ensures.out_of_range in (
+      λ e. absurd cc,
+      λ o. let impossible = refused.1
+          (subst (λ (f : Following). Overruns f (row_span c.args.row)) same o) in cc,
+    )
