@@ -30,3 +30,14 @@ returns c =
       ) at written;
     })
     c.format.ensures.ok
+
+pub iso_string-requires : goal.iso_string-requires
+iso_string-requires c =
+    let fits : FitsSigned w64 c.args.segment.now.start = search rules in
+    rw (to_z-of_z fits) c.requires.in_time.first_in
+
+pub iso_string-requires-2 : goal.iso_string-requires-2
+iso_string-requires-2 c =
+    let fits_last : FitsSigned w64 c.in-Some.last = search rules in
+    let found = c.in-Some.ensures.found in
+    rw (to_z-of_z fits_last, found.2.1) found.2.0
