@@ -74,10 +74,9 @@ fn stop(text: &[u8]) -> Option<(bool, &[u8])>
     ensures only { (last : Bool) (rest : List ℕ) → text.now ≡ stop_byte last ∷ rest
         → IsSomeAnd result (λ x. (x.0 ≡ last) × (x.1.now ≡ rest)) }
 {
-    let (byte, rest) = text.split_first()?;
-    match *byte {
-        b' ' => Some((false, rest)),
-        b'\n' => Some((true, rest)),
+    match text {
+        [b' ', rest @ ..] => Some((false, rest)),
+        [b'\n', rest @ ..] => Some((true, rest)),
         _ => None,
     }
 }

@@ -1,30 +1,36 @@
 use Rattle.std.proofs.Common.{◌≡◌, ◌≢◌, ◌∙◌, ap, sym, to_z-of_z, FitsSigned, ◌++◌, ◌∷◌, codes, decimal, refl, rules, arith, Fits, w8, slice_index, List, ℕ, pos}
 use Rattle.std.specs.Int.{w16, w32}
 use Rattle.msr_time.specs.SampleRate.{SampleRate}
+use Rattle.msr_rows.specs.declared.row.Key.{Key}
 use Rattle.std.specs.Fmt.{signed_decimal}
 use Rattle.msr_report_reader.specs.Fields.{name_then, rate_then, flags_then}
 use Rattle.msr_report_reader.proofs.keys.channel_key.Goals as goal
 
+-- what comes after the parts of a key
+abbrev after_correction : Key → List ℕ → List ℕ
+after_correction key rest = codes " timing " ++ (decimal key.timing ++ rest)
+
+abbrev after_flags : Key → List ℕ → List ℕ
+after_flags key rest = codes " correction " ++ (signed_decimal key.correction ++ after_correction key rest)
+
+abbrev after_rate : Key → List ℕ → List ℕ
+after_rate key rest = flags_then key.activity key.clock key.data_quality (after_flags key rest)
+
+abbrev after_quality : Key → List ℕ → List ℕ
+after_quality key rest = rate_then key.rate.factor key.rate.multiplier (after_rate key rest)
+
 pub returns-in_err-factor-clause-only : goal.returns-in_err-factor-clause-only
 returns-in_err-factor-clause-only c key rest is_key ends is =
-    let after_correction : List ℕ = codes " timing " ++ (decimal key.timing ++ rest) in
-    let after_flags : List ℕ = codes " correction " ++ (signed_decimal key.correction ++ after_correction) in
-    let after_rate : List ℕ = flags_then key.activity key.clock key.data_quality after_flags in
-    let after_quality : List ℕ = rate_then key.rate.factor key.rate.multiplier after_rate in
-    let name = c.in_ok-name.ensures.only key.network key.station key.location key.channel key.quality after_quality
-    is_key.network is_key.station is_key.location is_key.channel is_key.quality is in
-    absurd (c.in_err-factor.ensures.only key.rate.factor key.rate.multiplier after_rate is_key.factor
+    let name = c.in_ok-name.ensures.only key.network key.station key.location key.channel key.quality
+    (after_quality key rest) is_key.network is_key.station is_key.location is_key.channel is_key.quality is in
+    absurd (c.in_err-factor.ensures.only key.rate.factor key.rate.multiplier (after_rate key rest) is_key.factor
     is_key.multiplier refl name)
 
 pub returns-in_err-rate-clause-only : goal.returns-in_err-rate-clause-only
 returns-in_err-rate-clause-only c key rest is_key ends is =
-    let after_correction : List ℕ = codes " timing " ++ (decimal key.timing ++ rest) in
-    let after_flags : List ℕ = codes " correction " ++ (signed_decimal key.correction ++ after_correction) in
-    let after_rate : List ℕ = flags_then key.activity key.clock key.data_quality after_flags in
-    let after_quality : List ℕ = rate_then key.rate.factor key.rate.multiplier after_rate in
-    let name = c.in_ok-name.ensures.only key.network key.station key.location key.channel key.quality after_quality
-    is_key.network is_key.station is_key.location is_key.channel is_key.quality is in
-    let rate = c.in_ok-factor.ensures.only key.rate.factor key.rate.multiplier after_rate is_key.factor
+    let name = c.in_ok-name.ensures.only key.network key.station key.location key.channel key.quality
+    (after_quality key rest) is_key.network is_key.station is_key.location is_key.channel is_key.quality is in
+    let rate = c.in_ok-factor.ensures.only key.rate.factor key.rate.multiplier (after_rate key rest) is_key.factor
     is_key.multiplier refl name in
     let factor : c.in_ok-factor.factor ≢ pos 0 = λ zero. is_key.some_factor (sym rate.0 ∙ zero) in
     let multiplier : c.in_ok-factor.multiplier ≢ pos 0 = λ zero. is_key.some_multiplier (sym rate.1 ∙ zero) in
@@ -38,59 +44,43 @@ returns-in_err-rate-clause-only c key rest is_key ends is =
 
 pub returns-in_err-activity-clause-only : goal.returns-in_err-activity-clause-only
 returns-in_err-activity-clause-only c key rest is_key ends is =
-    let after_correction : List ℕ = codes " timing " ++ (decimal key.timing ++ rest) in
-    let after_flags : List ℕ = codes " correction " ++ (signed_decimal key.correction ++ after_correction) in
-    let after_rate : List ℕ = flags_then key.activity key.clock key.data_quality after_flags in
-    let after_quality : List ℕ = rate_then key.rate.factor key.rate.multiplier after_rate in
-    let name = c.in_ok-name.ensures.only key.network key.station key.location key.channel key.quality after_quality
-    is_key.network is_key.station is_key.location is_key.channel is_key.quality is in
-    let rate = c.in_ok-factor.ensures.only key.rate.factor key.rate.multiplier after_rate is_key.factor
+    let name = c.in_ok-name.ensures.only key.network key.station key.location key.channel key.quality
+    (after_quality key rest) is_key.network is_key.station is_key.location is_key.channel is_key.quality is in
+    let rate = c.in_ok-factor.ensures.only key.rate.factor key.rate.multiplier (after_rate key rest) is_key.factor
     is_key.multiplier refl name in
-    absurd (c.in_err-activity.ensures.only key.activity key.clock key.data_quality after_flags is_key.activity
-    is_key.clock is_key.data_quality rate.2)
+    absurd (c.in_err-activity.ensures.only key.activity key.clock key.data_quality (after_flags key rest)
+    is_key.activity is_key.clock is_key.data_quality rate.2)
 
 pub returns-in_err-correction-clause-only : goal.returns-in_err-correction-clause-only
 returns-in_err-correction-clause-only c key rest is_key ends is =
-    let after_correction : List ℕ = codes " timing " ++ (decimal key.timing ++ rest) in
-    let after_flags : List ℕ = codes " correction " ++ (signed_decimal key.correction ++ after_correction) in
-    let after_rate : List ℕ = flags_then key.activity key.clock key.data_quality after_flags in
-    let after_quality : List ℕ = rate_then key.rate.factor key.rate.multiplier after_rate in
-    let name = c.in_ok-name.ensures.only key.network key.station key.location key.channel key.quality after_quality
-    is_key.network is_key.station is_key.location is_key.channel is_key.quality is in
-    let rate = c.in_ok-factor.ensures.only key.rate.factor key.rate.multiplier after_rate is_key.factor
+    let name = c.in_ok-name.ensures.only key.network key.station key.location key.channel key.quality
+    (after_quality key rest) is_key.network is_key.station is_key.location is_key.channel is_key.quality is in
+    let rate = c.in_ok-factor.ensures.only key.rate.factor key.rate.multiplier (after_rate key rest) is_key.factor
     is_key.multiplier refl name in
-    let flags = c.in_ok-activity.ensures.only key.activity key.clock key.data_quality after_flags is_key.activity
-    is_key.clock is_key.data_quality rate.2 in
-    absurd (c.in_err-correction.ensures.only key.correction after_correction is_key.correction refl flags.3)
+    let flags = c.in_ok-activity.ensures.only key.activity key.clock key.data_quality (after_flags key rest)
+    is_key.activity is_key.clock is_key.data_quality rate.2 in
+    absurd (c.in_err-correction.ensures.only key.correction (after_correction key rest) is_key.correction refl flags.3)
 
 pub returns-in_err-timing-clause-only : goal.returns-in_err-timing-clause-only
 returns-in_err-timing-clause-only c key rest is_key ends is =
-    let after_correction : List ℕ = codes " timing " ++ (decimal key.timing ++ rest) in
-    let after_flags : List ℕ = codes " correction " ++ (signed_decimal key.correction ++ after_correction) in
-    let after_rate : List ℕ = flags_then key.activity key.clock key.data_quality after_flags in
-    let after_quality : List ℕ = rate_then key.rate.factor key.rate.multiplier after_rate in
-    let name = c.in_ok-name.ensures.only key.network key.station key.location key.channel key.quality after_quality
-    is_key.network is_key.station is_key.location is_key.channel is_key.quality is in
-    let rate = c.in_ok-factor.ensures.only key.rate.factor key.rate.multiplier after_rate is_key.factor
+    let name = c.in_ok-name.ensures.only key.network key.station key.location key.channel key.quality
+    (after_quality key rest) is_key.network is_key.station is_key.location is_key.channel is_key.quality is in
+    let rate = c.in_ok-factor.ensures.only key.rate.factor key.rate.multiplier (after_rate key rest) is_key.factor
     is_key.multiplier refl name in
-    let flags = c.in_ok-activity.ensures.only key.activity key.clock key.data_quality after_flags is_key.activity
-    is_key.clock is_key.data_quality rate.2 in
-    let correction = c.in_ok-correction.ensures.only key.correction after_correction is_key.correction refl flags.3 in
+    let flags = c.in_ok-activity.ensures.only key.activity key.clock key.data_quality (after_flags key rest)
+    is_key.activity is_key.clock is_key.data_quality rate.2 in
+    let correction = c.in_ok-correction.ensures.only key.correction (after_correction key rest) is_key.correction refl flags.3 in
     absurd (c.in_err-timing.ensures.only key.timing rest is_key.timing ends correction.1)
 
 pub returns-clause-only : goal.returns-clause-only
 returns-clause-only c key rest is_key ends is =
-    let after_correction : List ℕ = codes " timing " ++ (decimal key.timing ++ rest) in
-    let after_flags : List ℕ = codes " correction " ++ (signed_decimal key.correction ++ after_correction) in
-    let after_rate : List ℕ = flags_then key.activity key.clock key.data_quality after_flags in
-    let after_quality : List ℕ = rate_then key.rate.factor key.rate.multiplier after_rate in
-    let name = c.in_ok-name.ensures.only key.network key.station key.location key.channel key.quality after_quality
-    is_key.network is_key.station is_key.location is_key.channel is_key.quality is in
-    let rate = c.in_ok-factor.ensures.only key.rate.factor key.rate.multiplier after_rate is_key.factor
+    let name = c.in_ok-name.ensures.only key.network key.station key.location key.channel key.quality
+    (after_quality key rest) is_key.network is_key.station is_key.location is_key.channel is_key.quality is in
+    let rate = c.in_ok-factor.ensures.only key.rate.factor key.rate.multiplier (after_rate key rest) is_key.factor
     is_key.multiplier refl name in
-    let flags = c.in_ok-activity.ensures.only key.activity key.clock key.data_quality after_flags is_key.activity
-    is_key.clock is_key.data_quality rate.2 in
-    let correction = c.in_ok-correction.ensures.only key.correction after_correction is_key.correction refl flags.3 in
+    let flags = c.in_ok-activity.ensures.only key.activity key.clock key.data_quality (after_flags key rest)
+    is_key.activity is_key.clock is_key.data_quality rate.2 in
+    let correction = c.in_ok-correction.ensures.only key.correction (after_correction key rest) is_key.correction refl flags.3 in
     let timing = c.in_ok-timing.ensures.only key.timing rest is_key.timing ends correction.1 in
     timing.1
 
@@ -129,23 +119,19 @@ returns-clause-is_key c =
     record {
       network = record {
         many = search rules;
-        each =
-            λ k. let f : Fits w8 (slice_index c.in_ok-name.name.network k) = search rules in omega (arith, f);
+        each = λ k. let f : Fits w8 (slice_index c.in_ok-name.name.network k) = search rules in omega (arith, f);
       };
       station = record {
         many = search rules;
-        each =
-            λ k. let f : Fits w8 (slice_index c.in_ok-name.name.station k) = search rules in omega (arith, f);
+        each = λ k. let f : Fits w8 (slice_index c.in_ok-name.name.station k) = search rules in omega (arith, f);
       };
       location = record {
         many = search rules;
-        each =
-            λ k. let f : Fits w8 (slice_index c.in_ok-name.name.location k) = search rules in omega (arith, f);
+        each = λ k. let f : Fits w8 (slice_index c.in_ok-name.name.location k) = search rules in omega (arith, f);
       };
       channel = record {
         many = search rules;
-        each =
-            λ k. let f : Fits w8 (slice_index c.in_ok-name.name.channel k) = search rules in omega (arith, f);
+        each = λ k. let f : Fits w8 (slice_index c.in_ok-name.name.channel k) = search rules in omega (arith, f);
       };
       quality = c.in_ok-name.ensures.quality;
       factor = rw factor fits_factor;

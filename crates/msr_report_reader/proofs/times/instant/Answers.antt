@@ -6,6 +6,12 @@ use Rattle.msr_report_reader.specs.Fields.{split_then}
 use Rattle.msr_report_reader.proofs.Instants.{split_same, sum_is}
 use Rattle.msr_report_reader.proofs.times.instant.Goals as goal
 
+pub returns-in_err-time-clause-only : goal.returns-in_err-time-clause-only
+returns-in_err-time-clause-only c t word rest is_text is =
+    let text : c.args.text.now ≡ split_then is_text.time is_text.micros rest = is
+    ∙ ap (λ (l : List ℕ). l ++ rest) is_text.is ∙ split_same is_text.time is_text.micros rest in
+    absurd (c.in_err-time.ensures.only is_text.time is_text.micros rest is_text.split.is_time is_text.split.below text)
+
 pub returns-then-time-gt59-clause-only : goal.returns-then-time-gt59-clause-only
 returns-then-time-gt59-clause-only c t word rest is_text is =
     let text : c.args.text.now ≡ split_then is_text.time is_text.micros rest = is
