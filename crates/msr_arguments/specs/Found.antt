@@ -6,6 +6,8 @@ use Rattle.clap.specs.declared.error.kind.ErrorKind.{ErrorKind}
 use Rattle.clap.specs.declared.error.kind.ErrorKind.TheVariants.{DisplayHelp, DisplayVersion, OutOfMemory}
 use Rattle.clap.specs.declared.parser.matches.Found.{Found}
 use Rattle.msr_options.specs.Choice.{Choice, size_of}
+use Rattle.msr_arguments.specs.declared.words.LineFault.{LineFault}
+use Rattle.msr_arguments.specs.declared.words.LineFault.TheVariants.{SameFile, OneStandardInput, NotBelow, Overlap}
 use Rattle.msr_options.specs.declared.days.DayOptions.{DayOptions}
 use Rattle.msr_kinds.specs.RecordLength.{IsRecordLength}
 use Rattle.msr_kinds.specs.declared.kinds.Kinds.{Kinds}
@@ -167,3 +169,11 @@ EndsFor kind (Ending ending) =
     (kind ≢ OutOfMemory) × (((ending.status ≡ 0) × IsShown kind) ⊎ ((ending.status ≡ 2) × ¬ (IsShown kind)))
 EndsFor kind NotALength = ⊥
 EndsFor kind Memory = ⊤
+
+-- what is said of a line that asks for what is not done
+abbrev pub text_of : LineFault → Option (List ℕ)
+text_of SameFile = Some (codes "msrepack: the output is the input\n")
+text_of OneStandardInput = Some (codes "msrepack: only one input can be standard input\n")
+text_of NotBelow = Some (codes "msrepack: not a folder of an archive\n")
+text_of Overlap = Some (codes "msrepack: the folders overlap\n")
+text_of _ = None

@@ -16,11 +16,11 @@ pub(crate) enum Argument<'a> {
     FileIfAny(&'a str, &'a str),
     /// An option without a value, by its name, its help and its long help.
     Flag(&'a str, &'a str, &'a str),
-    Below,
-    Tolerance,
-    Length,
+    Below(&'a str, &'a str),
+    Tolerance(&'a str, &'a str),
+    Length(&'a str),
     /// The length of a day's records. Each may have a length of its own, so that it may be no number.
-    DayLength,
+    DayLength(&'a str, &'a str),
 }
 
 /// What the help of a command says, a line, what it does, and at its end examples; and what the command takes, in the
@@ -45,54 +45,54 @@ fn about_of<'a>(verb: Verb) -> About<'a> {
     }
 }
 
-/// An option with a value, which this parser reads.
+fn option<'a>(alloc: Global, name: &'a str, help: &'a str, long_help: &'a str) -> Arg<'a> {
+    Arg::new(alloc, name)
+        .long(name)
+        .help(help)
+        .long_help(long_help)
+}
+
+/// An option with a value, which this parser reads, and its help in a line.
 fn valued<'a>(
     alloc: Global,
     name: &'a str,
     value_name: &'a str,
     parser: ValueParser<'a>,
     default: &'a str,
+    help: &'a str,
 ) -> Arg<'a> {
     Arg::new(alloc, name)
         .long(name)
         .value_name(value_name)
         .value_parser(parser)
         .default_value(default)
+        .help(help)
 }
 
 fn arg_of<'a>(alloc: Global, argument: Argument<'a>) -> Arg<'a> {
     match argument {
         Argument::File(name, help) => Arg::new(alloc, name).required(true).help(help),
         Argument::FileIfAny(name, help) => Arg::new(alloc, name).help(help),
-        Argument::Flag(name, help, long_help) => Arg::new(alloc, name)
-            .long(name)
-            .action(ArgAction::SetTrue)
-            .help(help)
-            .long_help(long_help),
-        Argument::Below => Arg::new(alloc, "below")
-            .long("below")
+        Argument::Flag(name, help, long_help) => {
+            option(alloc, name, help, long_help).action(ArgAction::SetTrue)
+        }
+        Argument::Below(help, long_help) => option(alloc, "below", help, long_help)
             .value_name("FOLDER")
-            .action(ArgAction::Append)
-            .help(texts::BELOW)
-            .long_help(texts::LONG_BELOW),
-        Argument::Tolerance => {
+            .action(ArgAction::Append),
+        Argument::Tolerance(help, long_help) => {
             let parser = value_parser!(u32).range(1..=1_000_000);
-            valued(alloc, "tolerance", "T", parser, "1000")
-                .help(texts::TOLERANCE)
-                .long_help(texts::LONG_TOLERANCE)
+            valued(alloc, "tolerance", "T", parser, "1000", help).long_help(long_help)
         }
-        Argument::Length => {
-            valued(alloc, "length", "L", value_parser!(u32), "512").help(texts::LENGTH)
+        Argument::Length(help) => { valued(alloc, "length", "L", value_parser!(u32), "512", help) }
+        Argument::DayLength(help, long_help) => {
+            valued(alloc, "length", "L", value_parser!(String), "512", help).long_help(long_help)
         }
-        Argument::DayLength => valued(alloc, "length", "L", value_parser!(String), "512")
-            .help(texts::DAY_LENGTH)
-            .long_help(texts::LONG_DAY_LENGTH),
     }
 }
 
 /// A command line that has a length alone, which may begin with a hyphen.
 pub(crate) fn length_alone<'a>(alloc: Global) -> Result<Command<'a>, AllocError> {
-    let length = arg_of(alloc, Argument::Length).allow_hyphen_values(true);
+    let length = arg_of(alloc, texts::LENGTH).allow_hyphen_values(true);
     Command::new(alloc, "msrepack").arg(length)
 }
 

@@ -1,4 +1,4 @@
-//! The texts of help, by command, and those of faults that clap does not find.
+//! The texts of help, by command.
 use crate::commands::{About, Argument};
 
 /// The program.
@@ -61,9 +61,9 @@ Status 0 if all was written, 1 after a fault, 2 if the command line is wrong.",
   msrepack repack --length 4096 day.mseed packed.mseed > packed.txt
   cat day.mseed | msrepack repack - packed.mseed",
     arguments: &[
-        Argument::Length,
+        LENGTH,
         NO_INT24,
-        Argument::Tolerance,
+        TOLERANCE,
         STRICT,
         INPUT,
         Argument::FileIfAny(
@@ -91,7 +91,7 @@ Status 0 if the list is whole, 1 after a fault, 2 if the command line is wrong."
     after: "Examples:
   msrepack list --tolerance 5000 day.mseed
   msrepack list --json day.mseed | jq 'select(.began == \"gap\")'",
-    arguments: &[Argument::Tolerance, STRICT, JSON, INPUT],
+    arguments: &[TOLERANCE, STRICT, JSON, INPUT],
 };
 
 /// `check`
@@ -159,7 +159,7 @@ is wrong.",
   msrepack repack --length 4096 day.mseed packed.mseed > packed.txt
   msrepack compare day.mseed packed.mseed",
     arguments: &[
-        Argument::Tolerance,
+        TOLERANCE,
         Argument::File("ONE", "The file to compare, or - for standard input"),
         Argument::File(
             "OTHER",
@@ -208,11 +208,11 @@ Status 0 if all was walked and nothing refused, else 1; 2 if the command line is
   msrepack archive --resume --no-int24 --length 4096 --check --below 2020/XX \\
     sds packed reports > log.txt",
     arguments: &[
-        Argument::DayLength,
+        DAY_LENGTH,
         NO_INT24,
-        Argument::Tolerance,
+        TOLERANCE,
         STRICT,
-        Argument::Below,
+        BELOW,
         RESUME,
         CHECKED,
         ONLY_SMALLER,
@@ -265,7 +265,7 @@ day of waveform data; 2 if the command line is wrong.",
   msrepack verify sds packed reports > log.txt
   msrepack verify --below 2020/XX sds packed reports | grep -v ^verified",
     arguments: &[
-        Argument::Below,
+        BELOW,
         ROOT,
         Argument::File("OUT", "The folder of the records"),
         Argument::File("REPORTS", "The folder of the reports"),
@@ -292,9 +292,9 @@ Status 0 if all was written, 1 after a fault, 2 if the command line is wrong.",
   slinktool -S XX_TEST:00BHZ.D -o - station:18000 |
     msrepack feed --no-int24 --length 4096 report.txt > packed.mseed",
     arguments: &[
-        Argument::Length,
+        LENGTH,
         NO_INT24,
-        Argument::Tolerance,
+        TOLERANCE,
         STRICT,
         Argument::File("REPORT", "The file to write the report to, at the end"),
     ],
@@ -362,53 +362,30 @@ const STRICT: Argument = Argument::Flag(
 Without it such records are read, and counted as mismatched",
 );
 
-/// `--below`, in a line.
-pub(crate) const BELOW: &str = "Walk only this folder of the archive. May be repeated";
-
-/// `--below`.
-pub(crate) const LONG_BELOW: &str =
+const BELOW: Argument = Argument::Below(
+    "Walk only this folder of the archive. May be repeated",
     "Walk only this folder of the archive, given by its path from ROOT, as 2020/XX/TEST/BHZ.D.
 May be repeated, for folders of which none is another or stands below it: they are
-walked in the order in which they are given. All paths are still counted from ROOT";
+walked in the order in which they are given. All paths are still counted from ROOT",
+);
 
-/// `--length`.
-pub(crate) const LENGTH: &str =
-    "Bytes of each record written: 256, 512, 1024, 2048, 4096, 8192, 16384, 32768 or 65536";
+pub(crate) const LENGTH: Argument = Argument::Length(
+    "Bytes of each record written: 256, 512, 1024, 2048, 4096, 8192, 16384, 32768 or 65536",
+);
 
-/// `--length` of `archive`, in a line.
-pub(crate) const DAY_LENGTH: &str =
-    "Bytes of each record written: 256, 512, 1024, 2048, 4096, 8192, 16384, 32768 or 65536; or same";
-
-/// `--length` of `archive`.
-pub(crate) const LONG_DAY_LENGTH: &str =
+const DAY_LENGTH: Argument = Argument::DayLength(
+    "Bytes of each record written: 256, 512, 1024, 2048, 4096, 8192, 16384, 32768 or 65536; or same",
     "Bytes of each record written: 256, 512, 1024, 2048, 4096, 8192, 16384, 32768 or 65536;
 or `same`, for each file the length of its first record, if it is one of these, and
-else 512";
+else 512",
+);
 
-/// `--tolerance`, in a line.
-pub(crate) const TOLERANCE: &str =
-    "Microseconds by which a record may be early or late and still join a segment: 1 to 1000000";
-
-/// `--tolerance`.
-pub(crate) const LONG_TOLERANCE: &str =
+const TOLERANCE: Argument = Argument::Tolerance(
+    "Microseconds by which a record may be early or late and still join a segment: 1 to 1000000",
     "Microseconds by which a record may be early or late and still join a segment: 1 to
 1000000. The expected time is counted from the start of the segment, so that small
-errors do not add up";
-
-/// The output and the input have one name.
-pub(crate) const SAME_FILE: &str = "msrepack: the output is the input\n";
-
-/// Both inputs of a comparison are standard input.
-pub(crate) const ONE_STANDARD_INPUT: &str = "msrepack: only one input can be standard input\n";
-
-/// Two folders are one, or one stands below another.
-pub(crate) const OVERLAP: &str = "msrepack: the folders overlap\n";
-
-/// What stands after `--below` is no path of one to four names.
-pub(crate) const NOT_BELOW: &str = "msrepack: not a folder of an archive\n";
-
-/// No command was found; clap lets no such line through.
-pub(crate) const NO_COMMAND: &str = "error: no command\n";
+errors do not add up",
+);
 
 /// A word is not UTF-8.
 pub const NOT_UTF8: &str = "error: invalid UTF-8 was detected in one or more arguments\n";

@@ -2,13 +2,10 @@
 ghost use Rattle.std.specs.Prelude.{◌≡◌, ◌≢◌, ◌<◌, ◌↔◌, ℕ, length, codes, false, Some, IfOk, IfErr, IfSome, IsSome, IsOk, IsOkAnd, IsTrue, Ok, Err, Any, map, option_map};
 ghost use Rattle.msr_kinds.specs.RecordLength.{IsRecordLength};
 ghost use Rattle.clap.specs.Words.{first_value, found_of, kind_of, one_text, subcommand_name_of};
-ghost use Rattle.msr_arguments.specs.Found.{AsksArchive, AsksBelow, AsksCheck, AsksDays, AsksFolders, AsksOptions, AsksTask, AsksVerify, EndsFor, EndsWith, HoldsOptions, IsBadLine, IsFlagOf, IsFormOf, IsKindsOf, IsLengthOf, IsNumberOf, IsWrong, without_slash};
+ghost use Rattle.msr_arguments.specs.Found.{AsksArchive, AsksBelow, AsksCheck, AsksDays, AsksFolders, AsksOptions, AsksTask, AsksVerify, EndsFor, EndsWith, HoldsOptions, IsBadLine, IsFlagOf, IsFormOf, IsKindsOf, IsLengthOf, IsNumberOf, IsWrong, length_in, text_of, without_slash};
 ghost use Rattle.msr_options.specs.Tasks.{AreApart, AreBothStandard, HasStatus, HasTolerance, IsDefault, IsTolerance, KeepsInput, Overlap, StandApart, verb_of, word_of};
-ghost use Rattle.msr_options.specs.declared.task.NoTask.TheVariants.{NotALength};
-ghost use Rattle.msr_options.specs.declared.task.Task.TheVariants.{Compare, Feed, Repack};
 
 use crate::commands::{command, length_alone};
-use crate::texts;
 use clap::ArgMatches;
 use clap::error::ErrorKind;
 use msr_kinds::{Kinds, Length};
@@ -39,6 +36,41 @@ fn default_task<'a>() -> Task<'a>
     })
 }
 
+/// What is wrong with a command line that clap lets through.
+#[derive(Clone, Copy)]
+enum LineFault {
+    /// What clap lets no line through without, so that the answer to a line without it is not seen.
+    Missing,
+    NoNumber,
+    NotALength,
+    SameFile,
+    OneStandardInput,
+    NotBelow,
+    Overlap,
+    Memory,
+}
+
+/// The answer to a command that has that fault, and this text of a length.
+fn refused(alloc: Global, fault: LineFault, length: Option<&str>) -> NoTask
+    ensures text { IfSome (text_of fault) (λ text. IsWrong text result) }
+    ensures other { fault ≡ LineFault.NotALength → result ≡ NoTask.NotALength }
+    ensures status { IsBadLine result }
+{
+    match fault {
+        LineFault::Missing => wrong(alloc, "error: no command\n"),
+        LineFault::NoNumber => no_number(alloc, length.unwrap_or("")),
+        LineFault::NotALength => NoTask::NotALength,
+        LineFault::SameFile => wrong(alloc, "msrepack: the output is the input\n"),
+        LineFault::OneStandardInput => wrong(
+            alloc,
+            "msrepack: only one input can be standard input\n",
+        ),
+        LineFault::NotBelow => wrong(alloc, "msrepack: not a folder of an archive\n"),
+        LineFault::Overlap => wrong(alloc, "msrepack: the folders overlap\n"),
+        LineFault::Memory => NoTask::Memory,
+    }
+}
+
 /// The answer to a wrong command line.
 fn wrong(alloc: Global, text: &str) -> NoTask
     ensures { IsWrong text.now result }
@@ -49,27 +81,16 @@ fn wrong(alloc: Global, text: &str) -> NoTask
     }
 }
 
-/// Refuses a line that asks for what is not done, with this text.
-fn refuse_if(alloc: Global, is_wrong: bool, text: &str) -> Result<(), NoTask>
-    ensures ok { IsOk result ↔ (is_wrong ≡ false) }
-    ensures text { IfErr result (IsWrong text.now) }
-    ensures status { IfErr result IsBadLine }
+/// What clap says of a length that is no number. It takes `-0` for 0, which is no record length.
+fn no_number(alloc: Global, text: &str) -> NoTask
+    ensures { IsBadLine result }
 {
-    if is_wrong {
-        return Err(wrong(alloc, text));
-    }
-    Ok(())
-}
-
-/// What clap lets no line through without, so that the answer to a line without it is not seen.
-fn required<T>(alloc: Global, found: Option<T>) -> Result<T, NoTask>
-    ensures found { IfOk result (λ value. found ≡ Some value) }
-    ensures given { IsSome found → IsOk result }
-    ensures status { IfErr result IsBadLine }
-{
-    match found {
-        Some(value) => Ok(value),
-        None => Err(wrong(alloc, texts::NO_COMMAND)),
+    let Ok(command) = length_alone(alloc) else {
+        return NoTask::Memory;
+    };
+    match command.try_get_matches_from(["msrepack", "--length", text].as_slice()) {
+        Ok(_) => NoTask::NotALength,
+        Err(error) => ending_with(alloc, &error, 2),
     }
 }
 
@@ -100,23 +121,14 @@ fn number_in(found: &ArgMatches<'_>, name: &str) -> Option<u32>
     found.get_one::<u32>(name)
 }
 
-/// The number of bytes that a length's text is, 512 without a text; or what clap says of one that is no number. It takes
-/// `-0` for 0, which is no record length.
-fn number_of(alloc: Global, length: Option<&str>) -> Result<u32, NoTask>
-    ensures asked { IfOk result (IsLengthOf (option_map (λ text. text.now) length.entry)) }
-    ensures given { (bytes : ℕ) → IsLengthOf (option_map (λ text. text.now) length.entry) bytes → result ≡ Ok bytes }
-    ensures status { IfErr result IsBadLine }
+/// The number of bytes that a length's text is, 512 without a text.
+fn number_of(length: Option<&str>) -> Option<u32>
+    ensures asked { IfSome result (IsLengthOf (option_map (λ text. text.now) length.entry)) }
+    ensures given { (bytes : ℕ) → IsLengthOf (option_map (λ text. text.now) length.entry) bytes → result ≡ Some bytes }
 {
-    let Some(text) = length else {
-        return Ok(LENGTH);
-    };
-    if let Ok(bytes) = text.parse() {
-        return Ok(bytes);
-    }
-    let words = ["msrepack", "--length", text];
-    match length_alone(alloc)?.try_get_matches_from(words.as_slice()) {
-        Ok(_) => Err(NoTask::NotALength),
-        Err(error) => Err(ending_with(alloc, &error, 2)),
+    match length {
+        Some(text) => text.parse().ok(),
+        None => Some(LENGTH),
     }
 }
 
@@ -135,21 +147,25 @@ fn form_in(found: &ArgMatches<'_>) -> ListForm
 
 /// The options that clap found, with that length. The commands `list` and `compare` take none, and do not use the one
 /// that is given here.
-fn options_in(
-    alloc: Global,
-    found: &ArgMatches<'_>,
-    length: Option<&str>,
-) -> Result<Options, NoTask>
+fn options_in(found: &ArgMatches<'_>, length: Option<&str>) -> Result<Options, LineFault>
     ensures asked { IfOk result (AsksOptions (found_of found.now) (option_map (λ text. text.now) length.entry)) }
     ensures given { HoldsOptions (found_of found.now) (option_map (λ text. text.now) length.entry) → IsOk result }
     ensures other { (bytes : ℕ) → IsLengthOf (option_map (λ text. text.now) length.entry) bytes →
-        ¬ (IsRecordLength bytes) → result ≡ Err NotALength }
+        ¬ (IsRecordLength bytes) → result ≡ Err LineFault.NotALength }
     ensures tolerance { IfOk result (λ options. IsTolerance options.tolerance) }
-    ensures status { IfErr result IsBadLine }
 {
-    let length = Length::new(number_of(alloc, length)?).ok_or(NoTask::NotALength)?;
-    let tolerance = required(alloc, number_in(found, "tolerance"))?;
-    let options = required(alloc, Options::new(length, tolerance))?;
+    let Some(bytes) = number_of(length) else {
+        return Err(LineFault::NoNumber);
+    };
+    let Some(length) = Length::new(bytes) else {
+        return Err(LineFault::NotALength);
+    };
+    let Some(tolerance) = number_in(found, "tolerance") else {
+        return Err(LineFault::Missing);
+    };
+    let Some(options) = Options::new(length, tolerance) else {
+        return Err(LineFault::Missing);
+    };
     let kinds = if flag_in(found, "no-int24") {
         Kinds::WithoutInt24
     } else {
@@ -158,38 +174,30 @@ fn options_in(
     Ok(options.strict(flag_in(found, "strict")).kinds(kinds))
 }
 
-/// The value of this name.
-fn given<'a>(alloc: Global, found: &ArgMatches<'a>, name: &str) -> Result<&'a str, NoTask>
-    ensures asked { IfOk result (λ text. first_value (found_of found.now) name.now ≡ Some text.now) }
-    ensures given { IsSome (first_value (found_of found.now) name.now) → IsOk result }
-    ensures status { IfErr result IsBadLine }
-{
-    required(alloc, found.get_str(name))
-}
-
 /// Packed records to be checked: first the file with the records, then that with the report.
-fn checking_in<'a>(alloc: Global, found: &ArgMatches<'a>) -> Result<Checking<'a>, NoTask>
-    ensures asked { IfOk result (AsksCheck (found_of found.now)) }
+fn checking_in<'a>(found: &ArgMatches<'a>) -> Result<Task<'a>, LineFault>
+    ensures asked { IfOk result (λ task. (verb_of task ≡ Verb.Check) × AsksTask (found_of found.now) task) }
     ensures given { IsSome (first_value (found_of found.now) (codes "PACKED"))
         → IsSome (first_value (found_of found.now) (codes "REPORT")) → IsOk result }
-    ensures status { IfErr result IsBadLine }
 {
-    let packed = given(alloc, found, "PACKED")?;
-    let report = given(alloc, found, "REPORT")?;
-    Ok(Checking { packed, report })
+    let (Some(packed), Some(report)) = (found.get_str("PACKED"), found.get_str("REPORT")) else {
+        return Err(LineFault::Missing);
+    };
+    Ok(Task::Check(Checking { packed, report }))
 }
 
-fn folders_in<'a>(alloc: Global, found: &ArgMatches<'a>) -> Result<Folders<'a>, NoTask>
-    ensures asked { IfOk result (AsksFolders (found_of found.now)) }
+fn folders_in<'a>(found: &ArgMatches<'a>) -> Option<Folders<'a>>
+    ensures asked { IfSome result (AsksFolders (found_of found.now)) }
     ensures given { IsSome (first_value (found_of found.now) (codes "ROOT"))
         → IsSome (first_value (found_of found.now) (codes "OUT"))
-        → IsSome (first_value (found_of found.now) (codes "REPORTS")) → IsOk result }
-    ensures status { IfErr result IsBadLine }
+        → IsSome (first_value (found_of found.now) (codes "REPORTS")) → IsSome result }
 {
-    let root = given(alloc, found, "ROOT")?;
-    let out = given(alloc, found, "OUT")?;
-    let reports = given(alloc, found, "REPORTS")?;
-    Ok(Folders { root, out, reports })
+    let root = found.get_str("ROOT");
+    let out = found.get_str("OUT");
+    match (root, out, found.get_str("REPORTS")) {
+        (Some(root), Some(out), Some(reports)) => Some(Folders { root, out, reports }),
+        _ => None,
+    }
 }
 
 /// Whether one of the folders is that one, or either stands below the other, by their names.
@@ -218,41 +226,37 @@ fn folders_named<'a>(alloc: Global, given: &[&'a str]) -> Result<Vec<&'a str>, A
 }
 
 /// The folders of an archive that are to be walked: paths of names, of which no two overlap.
-fn below_in<'a>(alloc: Global, found: &ArgMatches<'a>) -> Result<Vec<&'a str>, NoTask>
+fn below_in<'a>(alloc: Global, found: &ArgMatches<'a>) -> Result<Vec<&'a str>, LineFault>
     ensures asked { IfOk result (λ below. AsksBelow (found_of found.now) (map (λ folder. folder.now) below.items)) }
     ensures apart { IfOk result (λ below. AreApart (map (λ folder. folder.now) below.items)) }
-    ensures status { IfErr result IsBadLine }
 {
     let Some(given) = found.get_strs("below") else {
         return Ok(Vec::new(alloc));
     };
-    let folders = folders_named(alloc, given)?;
+    let Ok(folders) = folders_named(alloc, given) else {
+        return Err(LineFault::Memory);
+    };
     let below = folders.as_slice();
     for place in 0..below.len() {
-        refuse_if(
-            alloc,
-            levels_below(below[place]).is_none(),
-            texts::NOT_BELOW,
-        )?;
-        refuse_if(
-            alloc,
-            overlaps_one(&below[..place], below[place]),
-            texts::OVERLAP,
-        )?;
+        if levels_below(below[place]).is_none() {
+            return Err(LineFault::NotBelow);
+        }
+        if overlaps_one(&below[..place], below[place]) {
+            return Err(LineFault::Overlap);
+        }
     }
     Ok(folders)
 }
 
 /// What is asked of the days of an archive. If each is to have the length of its first record, that of the options is
 /// the one without a text.
-fn days_in(alloc: Global, found: &ArgMatches<'_>) -> Result<DayOptions, NoTask>
+fn days_in(found: &ArgMatches<'_>) -> Result<DayOptions, LineFault>
     ensures asked { IfOk result (AsksDays (found_of found.now)) }
     ensures tolerance { IfOk result (λ days. IsTolerance days.options.tolerance) }
-    ensures status { IfErr result IsBadLine }
 {
     let length = found.get_str("length");
     let same_length = length == Some("same");
-    let options = options_in(alloc, found, if same_length { None } else { length })?;
+    let options = options_in(found, if same_length { None } else { length })?;
     Ok(DayOptions {
         options,
         same_length,
@@ -264,96 +268,105 @@ fn days_in(alloc: Global, found: &ArgMatches<'_>) -> Result<DayOptions, NoTask>
 }
 
 /// The archive that clap found.
-fn archiving_in<'a>(alloc: Global, found: &ArgMatches<'a>) -> Result<Archiving<'a>, NoTask>
-    ensures asked { IfOk result (AsksArchive (found_of found.now)) }
-    ensures tolerance { IfOk result (λ asked. IsTolerance asked.days.options.tolerance) }
-    ensures apart { IfOk result (λ asked. StandApart asked.folders) }
-    ensures status { IfErr result IsBadLine }
+fn archiving_in<'a>(alloc: Global, found: &ArgMatches<'a>) -> Result<Task<'a>, LineFault>
+    ensures asked { IfOk result (λ task. (verb_of task ≡ Verb.Archive) × AsksTask (found_of found.now) task) }
+    ensures kept { IfOk result (λ task. HasTolerance task × KeepsInput task) }
 {
-    let days = days_in(alloc, found)?;
-    let below = below_in(alloc, found)?;
-    let folders = folders_in(alloc, found)?;
-    refuse_if(alloc, !folders.stand_apart(), texts::OVERLAP)?;
-    Ok(Archiving {
+    let days = days_in(found)?;
+    let Verifying { folders, below } = verifying_in(alloc, found)?;
+    Ok(Task::Archive(Archiving {
         folders,
         below,
         days,
-    })
+    }))
 }
 
 /// The archive that clap found, whose repack is to be verified.
-fn verifying_in<'a>(alloc: Global, found: &ArgMatches<'a>) -> Result<Verifying<'a>, NoTask>
+fn verifying_in<'a>(alloc: Global, found: &ArgMatches<'a>) -> Result<Verifying<'a>, LineFault>
     ensures asked { IfOk result (AsksVerify (found_of found.now)) }
     ensures apart { IfOk result (λ asked. StandApart asked.folders) }
-    ensures status { IfErr result IsBadLine }
 {
     let below = below_in(alloc, found)?;
-    let folders = folders_in(alloc, found)?;
-    refuse_if(alloc, !folders.stand_apart(), texts::OVERLAP)?;
-    Ok(Verifying { folders, below })
+    match folders_in(found) {
+        Some(folders) if folders.stand_apart() => Ok(Verifying { folders, below }),
+        Some(_) => Err(LineFault::Overlap),
+        None => Err(LineFault::Missing),
+    }
 }
 
 /// The file to be repacked that clap found.
-fn repacking_in<'a>(alloc: Global, found: &ArgMatches<'a>) -> Result<Repacking<'a>, NoTask>
-    ensures asked { IfOk result (λ asked. AsksTask (found_of found.now) (Repack asked)) }
-    ensures tolerance { IfOk result (λ asked. IsTolerance asked.options.tolerance) }
-    ensures keeps_input { IfOk result (λ asked. IfSome asked.output (λ name. name.now ≢ asked.input.now)) }
-    ensures status { IfErr result IsBadLine }
+fn repacking_in<'a>(found: &ArgMatches<'a>) -> Result<Task<'a>, LineFault>
+    ensures asked { IfOk result (λ task. (verb_of task ≡ Verb.Repack) × AsksTask (found_of found.now) task) }
+    ensures kept { IfOk result (λ task. HasTolerance task × KeepsInput task) }
 {
-    let options = options_in(alloc, found, found.get_str("length"))?;
-    let input = given(alloc, found, "IN")?;
+    let options = options_in(found, found.get_str("length"))?;
+    let Some(input) = found.get_str("IN") else {
+        return Err(LineFault::Missing);
+    };
     let output = found.get_str("OUT");
-    refuse_if(alloc, output == Some(input), texts::SAME_FILE)?;
-    Ok(Repacking {
+    if output == Some(input) {
+        return Err(LineFault::SameFile);
+    }
+    Ok(Task::Repack(Repacking {
         options,
         input,
         output,
-    })
+    }))
 }
 
 /// The file whose segments are to be listed that clap found.
-fn listing_in<'a>(alloc: Global, found: &ArgMatches<'a>) -> Result<Listing<'a>, NoTask>
-    ensures asked { IfOk result (λ asked. AsksTask (found_of found.now) (Task.List asked)) }
-    ensures tolerance { IfOk result (λ asked. IsTolerance asked.options.tolerance) }
-    ensures status { IfErr result IsBadLine }
+fn listing_in<'a>(found: &ArgMatches<'a>) -> Result<Task<'a>, LineFault>
+    ensures asked { IfOk result (λ task. (verb_of task ≡ Verb.List) × AsksTask (found_of found.now) task) }
+    ensures tolerance { IfOk result HasTolerance }
 {
-    let options = options_in(alloc, found, found.get_str("length"))?;
+    let options = options_in(found, found.get_str("length"))?;
     let form = form_in(found);
-    let input = given(alloc, found, "IN")?;
-    Ok(Listing {
+    let Some(input) = found.get_str("IN") else {
+        return Err(LineFault::Missing);
+    };
+    Ok(Task::List(Listing {
         options,
         form,
         input,
-    })
+    }))
 }
 
 /// What is to be fed that clap found.
-fn feeding_in<'a>(alloc: Global, found: &ArgMatches<'a>) -> Result<Feeding<'a>, NoTask>
-    ensures asked { IfOk result (λ asked. AsksTask (found_of found.now) (Feed asked)) }
-    ensures tolerance { IfOk result (λ asked. IsTolerance asked.options.tolerance) }
-    ensures status { IfErr result IsBadLine }
+fn feeding_in<'a>(found: &ArgMatches<'a>) -> Result<Task<'a>, LineFault>
+    ensures asked { IfOk result (λ task. (verb_of task ≡ Verb.Feed) × AsksTask (found_of found.now) task) }
+    ensures tolerance { IfOk result HasTolerance }
 {
-    let options = options_in(alloc, found, found.get_str("length"))?;
-    let report = given(alloc, found, "REPORT")?;
-    Ok(Feeding { options, report })
+    let options = options_in(found, found.get_str("length"))?;
+    let Some(report) = found.get_str("REPORT") else {
+        return Err(LineFault::Missing);
+    };
+    Ok(Task::Feed(Feeding { options, report }))
+}
+
+/// Whether both names stand for standard input.
+fn are_both_standard(one: &str, other: &str) -> bool
+    ensures { IsTrue result ↔ AreBothStandard one.now other.now }
+{
+    one == "-" && other == "-"
 }
 
 /// The files to be compared that clap found.
-fn comparing_in<'a>(alloc: Global, found: &ArgMatches<'a>) -> Result<Comparing<'a>, NoTask>
-    ensures asked { IfOk result (λ asked. AsksTask (found_of found.now) (Compare asked)) }
-    ensures tolerance { IfOk result (λ asked. IsTolerance asked.options.tolerance) }
-    ensures keeps_input { IfOk result (λ asked. ¬ (AreBothStandard asked.one.now asked.other.now)) }
-    ensures status { IfErr result IsBadLine }
+fn comparing_in<'a>(found: &ArgMatches<'a>) -> Result<Task<'a>, LineFault>
+    ensures asked { IfOk result (λ task. (verb_of task ≡ Verb.Compare) × AsksTask (found_of found.now) task) }
+    ensures kept { IfOk result (λ task. HasTolerance task × KeepsInput task) }
 {
-    let options = options_in(alloc, found, found.get_str("length"))?;
-    let one = given(alloc, found, "ONE")?;
-    let other = given(alloc, found, "OTHER")?;
-    refuse_if(alloc, one == "-" && other == "-", texts::ONE_STANDARD_INPUT)?;
-    Ok(Comparing {
+    let options = options_in(found, found.get_str("length"))?;
+    let (Some(one), Some(other)) = (found.get_str("ONE"), found.get_str("OTHER")) else {
+        return Err(LineFault::Missing);
+    };
+    if are_both_standard(one, other) {
+        return Err(LineFault::OneStandardInput);
+    }
+    Ok(Task::Compare(Comparing {
         options,
         one,
         other,
-    })
+    }))
 }
 
 /// What clap found.
@@ -363,27 +376,32 @@ fn task_of<'a>(alloc: Global, matches: &ArgMatches<'a>) -> Result<Task<'a>, NoTa
     ensures keeps_input { IfOk result KeepsInput }
     ensures status { IfErr result IsBadLine }
 {
-    let (name, found) = required(alloc, matches.subcommand())?;
-    let verb = required(alloc, Verb::named(name))?;
-    task_in(alloc, verb, found)
+    let Some((name, found)) = matches.subcommand() else {
+        return Err(refused(alloc, LineFault::Missing, None));
+    };
+    let Some(verb) = Verb::named(name) else {
+        return Err(refused(alloc, LineFault::Missing, None));
+    };
+    match task_in(alloc, verb, found) {
+        Ok(task) => Ok(task),
+        Err(fault) => Err(refused(alloc, fault, found.get_str("length"))),
+    }
 }
 
 /// What clap found under this command.
-fn task_in<'a>(alloc: Global, verb: Verb, found: &ArgMatches<'a>) -> Result<Task<'a>, NoTask>
+fn task_in<'a>(alloc: Global, verb: Verb, found: &ArgMatches<'a>) -> Result<Task<'a>, LineFault>
     ensures command { IfOk result (λ task. verb_of task ≡ verb) }
     ensures asked { IfOk result (AsksTask (found_of found.now)) }
-    ensures tolerance { IfOk result HasTolerance }
-    ensures keeps_input { IfOk result KeepsInput }
-    ensures status { IfErr result IsBadLine }
+    ensures kept { IfOk result (λ task. HasTolerance task × KeepsInput task) }
 {
     match verb {
-        Verb::Repack => Ok(Task::Repack(repacking_in(alloc, found)?)),
-        Verb::List => Ok(Task::List(listing_in(alloc, found)?)),
-        Verb::Check => Ok(Task::Check(checking_in(alloc, found)?)),
-        Verb::Compare => Ok(Task::Compare(comparing_in(alloc, found)?)),
-        Verb::Archive => Ok(Task::Archive(archiving_in(alloc, found)?)),
+        Verb::Repack => repacking_in(found),
+        Verb::List => listing_in(found),
+        Verb::Check => checking_in(found),
+        Verb::Compare => comparing_in(found),
+        Verb::Archive => archiving_in(alloc, found),
         Verb::Verify => Ok(Task::Verify(verifying_in(alloc, found)?)),
-        Verb::Feed => Ok(Task::Feed(feeding_in(alloc, found)?)),
+        Verb::Feed => feeding_in(found),
     }
 }
 
@@ -397,7 +415,10 @@ pub fn read_words<'a>(alloc: Global, words: &'a [&'a str]) -> Result<Task<'a>, N
     if words.len() < 2 {
         return Ok(default_task());
     }
-    match command(alloc)?.try_get_matches_from(words) {
+    let Ok(command) = command(alloc) else {
+        return Err(NoTask::Memory);
+    };
+    match command.try_get_matches_from(words) {
         Ok(matches) => task_of(alloc, &matches),
         Err(error) => Err(ending_of(alloc, &error)),
     }

@@ -22,12 +22,12 @@ pub returns-clause-asked : goal.returns-clause-asked
 returns-clause-asked c =
     let given : map (λ folder. folder.now) c.in-Some.given.now ≡ texts_under (found_of c.args.found.now) (codes "below") =
     search rules in
-    c.in_ok-folders.ensures ∙ all_stripped c.in-Some.given.now ∙ ap (map without_slash) given
+    c.in-Ok.ensures ∙ all_stripped c.in-Some.given.now ∙ ap (map without_slash) given
 
 pub returns-clause-apart : goal.returns-clause-apart
 returns-clause-apart c =
     let below = c.as_slice-below.result.now in
-    let same : map (λ folder. folder.now) c.in_ok-folders.folders.items ≡ map (λ folder. folder.now) below =
+    let same : map (λ folder. folder.now) c.in-Ok.folders.items ≡ map (λ folder. folder.now) below =
     search rules in
     let all : c.loop-place.place ≡ length below =
     omega (arith, c.loop-place-test.false, c.loop-place.auto.place-end) in
