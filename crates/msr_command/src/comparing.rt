@@ -5,7 +5,7 @@ ghost use Rattle.msr_command.specs.Comparing.{TellsComparison, compare_settings,
 ghost use Rattle.msr_command.specs.Ends.{Compares, ComparesNamed};
 
 use crate::done::Done;
-use crate::files::{open_file, standard_input};
+use crate::files::{open_file, open_input};
 use crate::task_fault::TaskFault;
 use msr_compare::{CompareFault, Comparison, compare};
 use msr_devices::write_all;
@@ -87,23 +87,21 @@ pub(crate) fn compare_files<'a, R: Files, I: Source, O: Sink>(
 {
     let Comparing {
         options,
-        one: first,
-        other: second,
+        one,
+        other,
     } = asked;
-    let names = Names {
-        one: first,
-        other: second,
-    };
-    if first == "-" {
-        standard_input(rt)?;
-        let mut other = FromRead::new(open_file(rt, second)?.file);
+    let names = Names { one, other };
+    let Some(one) = open_input(rt, one)?.0 else {
+        let mut other = FromRead::new(open_file(rt, other)?.0);
         return compare_sources(alloc, options, names, input, &mut other, output);
+    };
+    let mut one = FromRead::new(one);
+    match open_input(rt, other) {
+        Ok((None, _)) => compare_sources(alloc, options, names, &mut one, input, output),
+        Ok((Some(file), _)) => {
+            let mut other = FromRead::new(file);
+            compare_sources(alloc, options, names, &mut one, &mut other, output)
+        }
+        Err(fault) => Err(fault),
     }
-    let mut one = FromRead::new(open_file(rt, first)?.file);
-    if second == "-" {
-        standard_input(rt)?;
-        return compare_sources(alloc, options, names, &mut one, input, output);
-    }
-    let mut other = FromRead::new(open_file(rt, second)?.file);
-    compare_sources(alloc, options, names, &mut one, &mut other, output)
 }

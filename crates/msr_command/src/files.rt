@@ -1,5 +1,5 @@
 //! Files that are opened and created; standard output made to last.
-ghost use Rattle.std.specs.Prelude.{◌≡◌, IfErr};
+ghost use Rattle.std.specs.Prelude.{◌≡◌, ◌↔◌, IfErr, IfOk, None, codes};
 ghost use Rattle.msr_command.specs.Ends.{IsUncreated, IsUnread};
 
 use crate::task_fault::TaskFault;
@@ -27,18 +27,12 @@ fn opened<'a, T>(name: &'a str, answer: io::Result<T>) -> Result<T, TaskFault<'a
     answer.map_err(|error| TaskFault::CannotOpen(name, error))
 }
 
-/// A file that was opened to be read.
-#[derive(Drop)]
-pub(crate) struct OpenedFile<F> {
-    pub file: F,
-    pub id: Option<FileId>,
-}
-
-/// Opens the file with this name, also if it is `-`, to be read, unless standard output is redirected to it.
+/// Opens the file with this name, also if it is `-`, to be read, unless standard output is redirected to it; and tells
+/// which file it is.
 pub(crate) fn open_file<'a, R: Files>(
     rt: &R,
     name: &'a str,
-) -> Result<OpenedFile<R::File>, TaskFault<'a>>
+) -> Result<(R::File, Option<FileId>), TaskFault<'a>>
     ensures { IfErr result IsUnread }
 {
     let file = opened(name, File::open(rt, name))?;
@@ -46,7 +40,7 @@ pub(crate) fn open_file<'a, R: Files>(
     if is_printed_to(rt, id) {
         return Err(TaskFault::SameFile);
     }
-    Ok(OpenedFile { file, id })
+    Ok((file, id))
 }
 
 /// Which file standard input is redirected from, if the system tells it, unless standard output is redirected to it.
@@ -61,6 +55,23 @@ pub(crate) fn standard_input<'a, R: Files>(rt: &R) -> Result<Option<FileId>, Tas
         return Err(TaskFault::SameFile);
     }
     Ok(id)
+}
+
+/// Opens the input with this name, which is standard input, and no file, if it is `-`; and tells which file it is.
+pub(crate) fn open_input<'a, R: Files>(
+    rt: &R,
+    name: &'a str,
+) -> Result<(Option<R::File>, Option<FileId>), TaskFault<'a>>
+    ensures stop { IfErr result IsUnread }
+    ensures file { IfOk result (λ opened. (opened.0 ≡ None) ↔ (name.now ≡ codes "-")) }
+{
+    if name == "-" {
+        return Ok((None, standard_input(rt)?));
+    }
+    match open_file(rt, name) {
+        Ok((file, id)) => Ok((Some(file), id)),
+        Err(fault) => Err(fault),
+    }
 }
 
 /// Creates the file with this name, or opens it and cuts it to nothing, unless it is the input by some name, or what
@@ -93,8 +104,7 @@ pub(crate) fn create_output<'a, R: Files>(
 pub(crate) fn create_report<'a, R: Files>(rt: &R, name: &'a str) -> Result<R::File, TaskFault<'a>>
     ensures { IfErr result IsUncreated }
 {
-    let input = standard_input(rt)?;
-    create_output(rt, name, input)
+    create_output(rt, name, standard_input(rt)?)
 }
 
 /// Waits until the system has stored what was printed, if standard output is redirected to a regular file that can
@@ -102,9 +112,8 @@ pub(crate) fn create_report<'a, R: Files>(rt: &R, name: &'a str) -> Result<R::Fi
 pub(crate) fn settle_standard_output<R: Files>(rt: &R) -> Result<(), ToolFault>
     ensures { IfErr result (λ fault. fault ≡ ToolFault.Write) }
 {
-    match fs::metadata(rt, "/dev/stdout") {
-        Ok(metadata) if metadata.is_file() => {}
-        _ => return Ok(()),
+    if id_of_standard_output(rt).is_none() {
+        return Ok(());
     }
     match OpenOptions::new().write(true).open(rt, "/dev/stdout") {
         Ok(file) => Ok(settle(&file)?),

@@ -29,14 +29,8 @@ impl fmt::Display for TaskFault<'_> {
 
     fn fmt<W: fmt::Write>(&self, f: &mut fmt::Formatter<W>) -> fmt::Result {
         match self {
-            TaskFault::CannotOpen(name, _) => {
-                let shown = Shown { path: *name };
-                write!(f, "cannot open {shown}")
-            }
-            TaskFault::Input(name, fault) => {
-                let shown = Shown { path: *name };
-                write!(f, "{shown}: {fault}")
-            }
+            TaskFault::CannotOpen(name, _) => write!(f, "cannot open {}", Shown { path: *name }),
+            TaskFault::Input(name, fault) => write!(f, "{}: {fault}", Shown { path: *name }),
             TaskFault::SameFile => f.write_str("the output is the input"),
             TaskFault::SameOutput => f.write_str("two outputs are one file"),
             TaskFault::Overlap => f.write_str("the folders overlap"),

@@ -6,9 +6,7 @@ ghost use Rattle.msr_command.specs.Ends.{Checks, Does, EndsClosed, Feeds, FeedsT
 
 use crate::comparing::compare_files;
 use crate::done::Done;
-use crate::files::{
-    create_output, create_report, open_file, settle_standard_output, standard_input,
-};
+use crate::files::{create_output, create_report, open_file, open_input, settle_standard_output};
 use crate::task_fault::TaskFault;
 use crate::turns::is_in_turns;
 use msr_folders::{FileId, folders_overlap, settle};
@@ -117,13 +115,16 @@ fn repack_file<'a, R: Files, I: Source, O: Sink>(
     ensures { RepacksNamed asked.entry.options asked.entry.input.now
         (I.device input.old) (O.device output.old) (O.device output.new) result }
 {
-    let (options, name, to) = (asked.options, asked.input, asked.output);
-    if name == "-" {
-        return repack_from(rt, alloc, options, to, standard_input(rt)?, input, output);
+    let (options, to) = (asked.options, asked.output);
+    match open_input(rt, asked.input) {
+        Ok((file, id)) => match file {
+            None => repack_from(rt, alloc, options, to, id, input, output),
+            Some(file) => {
+                repack_from(rt, alloc, options, to, id, &mut FromRead::new(file), output)
+            }
+        },
+        Err(fault) => Err(fault),
     }
-    let opened = open_file(rt, name)?;
-    let mut source = FromRead::new(opened.file);
-    repack_from(rt, alloc, options, to, opened.id, &mut source, output)
 }
 
 /// Repacks the source to the file of that name, or to nowhere. What is read, if it is a file, must not be the same.
@@ -240,13 +241,12 @@ fn list_file<'a, R: Files, I: Source, O: Sink>(
     ensures { ListsNamed asked.entry.form asked.entry.options asked.entry.input.now (I.device input.old)
         (O.device output.old) (O.device output.new) result }
 {
-    let (options, form, name) = (asked.options, asked.form, asked.input);
-    if name == "-" {
-        standard_input(rt)?;
-        return list_from(alloc, options, form, input, output);
+    let (options, form) = (asked.options, asked.form);
+    match open_input(rt, asked.input) {
+        Ok((None, _)) => list_from(alloc, options, form, input, output),
+        Ok((Some(file), _)) => list_from(alloc, options, form, &mut FromRead::new(file), output),
+        Err(fault) => Err(fault),
     }
-    let mut source = FromRead::new(open_file(rt, name)?.file);
-    list_from(alloc, options, form, &mut source, output)
 }
 
 /// Opens both inputs before either is read.
@@ -259,8 +259,8 @@ fn check_files<'a, R: Files, O: Sink>(
     requires { CanCountCall (O.device output.old) }
     ensures { Checks (O.device output.old) (O.device output.new) result }
 {
-    let mut packed = FromRead::new(open_file(rt, asked.packed)?.file);
-    let mut report = FromRead::new(open_file(rt, asked.report)?.file);
+    let mut packed = FromRead::new(open_file(rt, asked.packed)?.0);
+    let mut report = FromRead::new(open_file(rt, asked.report)?.0);
     let verdict = check_and_tell(alloc, &mut packed, &mut report, output)?;
     Ok(Done::Checked(verdict))
 }

@@ -1,15 +1,7 @@
-use Rattle.std.proofs.lemmas.Result.{err_from_is_err_and}
 use Rattle.msr_command.proofs.Endings.{repack_unread}
 use Rattle.msr_command.proofs.tasks.repack_file.Goals as goal
 
-pub returns-in_err-opened : goal.returns-in_err-opened
-returns-in_err-opened g c =
-    let p = err_from_is_err_and c.from_residual-in_err-opened.result c.from_residual-in_err-opened.ensures.1 in
-    rw (p.1, p.2) (repack_unread c.args.asked.options c.args.asked.input.now (g.I.Source.device c.args.input.now)
-    (g.O.Sink.device c.args.output.now) c.in_err-opened.field-0.0 c.in_err-opened.ensures)
-
-pub returns-in_err-standard_input : goal.returns-in_err-standard_input
-returns-in_err-standard_input g c =
-    let p = err_from_is_err_and c.from_residual.result c.from_residual.ensures.1 in
-    rw (p.1, p.2) (repack_unread c.args.asked.options c.args.asked.input.now (g.I.Source.device c.args.input.now)
-    (g.O.Sink.device c.args.output.now) c.in_err-standard_input.field-0.0 c.in_err-standard_input.ensures)
+pub returns-in-Err : goal.returns-in-Err
+returns-in-Err g c =
+    repack_unread c.args.asked.options c.args.asked.input.now (g.I.Source.device c.args.input.now)
+    (g.O.Sink.device c.args.output.now) c.in-Err.fault c.in-Err.ensures.stop
