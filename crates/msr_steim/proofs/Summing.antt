@@ -138,6 +138,15 @@ inner_group_written version code word at old new count width (Some next) layout 
   on = inr (omega (arith, written.place));
 }
 
+-- the same of Steim-2
+pub steim2_group_written : (version : Version) (code word key : ℕ) (at : Progress) (old new : List ℤ) (count width : ℕ)
+    (result : Option Progress) → version ≡ Two → word < 4294967296 → 4 * code + word / 1073741824 ≡ key
+    → layout_of Two (key / 4) (key % 4) ≡ Some (record { count = count; width = width }) → 0 < count → 0 < width
+    → IfSome result (IsGroupWritten word count width at old new)
+    → IfSome result (IsInnerWritten version code word at old new)
+steim2_group_written version code word key at old new count width result e small key_is layout =
+    inner_group_written version code word at old new count width result (divided_by version code word key e small key_is ∙ layout)
+
 -- a word with no fields holds nothing
 pub holds_none : (version : Version) (code word : ℕ)
     → layout_of version code (word / 2 ^ 30) ≡ Some (record { count = 0; width = 0 }) → Holds version code word []

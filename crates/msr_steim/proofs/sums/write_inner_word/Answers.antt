@@ -1,7 +1,7 @@
 -- By the arms: the code and the top two bits say how the word is laid out.
-use Rattle.std.proofs.Common.{◌≡◌, ◌+◌, ◌*◌, ◌/◌, refl, arith, lit<}
+use Rattle.std.proofs.Common.{◌≡◌, ◌+◌, ◌*◌, ◌/◌, refl, arith, lit<, rules}
 use Rattle.msr_kinds.specs.declared.storage.Version.TheVariants.{One}
-use Rattle.msr_steim.proofs.Summing.{divided, divided_by, inner_group_written, inner_none_written}
+use Rattle.msr_steim.proofs.Summing.{divided, divided_by, inner_group_written, inner_none_written, steim2_group_written}
 use Rattle.msr_steim.proofs.sums.write_inner_word.Goals as goal
 
 pub returns-in-1-clause-some : goal.returns-in-1-clause-some
@@ -54,80 +54,66 @@ returns-in-3-clause-some c =
 
 pub returns-in-4-clause-some : goal.returns-in-4-clause-some
 returns-in-4-clause-some c =
-    let key : 4 * c.args.code + c.args.word / 1073741824 ≡ 4 = omega (arith, c.from.ensures, c.in-4.is) in
-    inner_group_written c.args.version c.args.code c.args.word c.args.at c.args.out.now c.write_group-in-4.new.out
-    4 8 c.write_group-in-4.result
-    (divided_by c.args.version c.args.code c.args.word 4 c.in-Two.is c.ranges.word.fits key) (lit< tt)
-    (lit< tt) c.write_group-in-4.ensures.some
+    steim2_group_written c.args.version c.args.code c.args.word 4 c.args.at c.args.out.now c.write_group-in-4.new.out
+    4 8 c.write_group-in-4.result c.in-Two.is c.ranges.word.fits (omega (arith, c.from.ensures, c.in-4.is))
+    refl (lit< tt) (lit< tt) c.write_group-in-4.ensures.some
 
 pub returns-in-5-clause-some : goal.returns-in-5-clause-some
 returns-in-5-clause-some c =
-    let key : 4 * c.args.code + c.args.word / 1073741824 ≡ 5 = omega (arith, c.from.ensures, c.in-5.is) in
-    inner_group_written c.args.version c.args.code c.args.word c.args.at c.args.out.now c.write_group-in-5.new.out
-    4 8 c.write_group-in-5.result
-    (divided_by c.args.version c.args.code c.args.word 5 c.in-Two.is c.ranges.word.fits key) (lit< tt)
-    (lit< tt) c.write_group-in-5.ensures.some
+    steim2_group_written c.args.version c.args.code c.args.word 5 c.args.at c.args.out.now c.write_group-in-5.new.out
+    4 8 c.write_group-in-5.result c.in-Two.is c.ranges.word.fits (omega (arith, c.from.ensures, c.in-5.is))
+    refl (lit< tt) (lit< tt) c.write_group-in-5.ensures.some
 
 pub returns-in-6-clause-some : goal.returns-in-6-clause-some
 returns-in-6-clause-some c =
-    let key : 4 * c.args.code + c.args.word / 1073741824 ≡ 6 = omega (arith, c.from.ensures, c.in-6.is) in
-    inner_group_written c.args.version c.args.code c.args.word c.args.at c.args.out.now c.write_group-in-6.new.out
-    4 8 c.write_group-in-6.result
-    (divided_by c.args.version c.args.code c.args.word 6 c.in-Two.is c.ranges.word.fits key) (lit< tt)
-    (lit< tt) c.write_group-in-6.ensures.some
+    steim2_group_written c.args.version c.args.code c.args.word 6 c.args.at c.args.out.now c.write_group-in-6.new.out
+    4 8 c.write_group-in-6.result c.in-Two.is c.ranges.word.fits (omega (arith, c.from.ensures, c.in-6.is))
+    refl (lit< tt) (lit< tt) c.write_group-in-6.ensures.some
 
 pub returns-in-7-clause-some : goal.returns-in-7-clause-some
 returns-in-7-clause-some c =
-    let key : 4 * c.args.code + c.args.word / 1073741824 ≡ 7 = omega (arith, c.from.ensures, c.in-7.is) in
-    inner_group_written c.args.version c.args.code c.args.word c.args.at c.args.out.now c.write_group-in-7.new.out
-    4 8 c.write_group-in-7.result
-    (divided_by c.args.version c.args.code c.args.word 7 c.in-Two.is c.ranges.word.fits key) (lit< tt)
-    (lit< tt) c.write_group-in-7.ensures.some
+    steim2_group_written c.args.version c.args.code c.args.word 7 c.args.at c.args.out.now c.write_group-in-7.new.out
+    4 8 c.write_group-in-7.result c.in-Two.is c.ranges.word.fits (omega (arith, c.from.ensures, c.in-7.is))
+    refl (lit< tt) (lit< tt) c.write_group-in-7.ensures.some
 
 pub returns-in-9-clause-some : goal.returns-in-9-clause-some
 returns-in-9-clause-some c =
-    let key : 4 * c.args.code + c.args.word / 1073741824 ≡ 9 = omega (arith, c.from.ensures, c.in-9.is) in
-    inner_group_written c.args.version c.args.code c.args.word c.args.at c.args.out.now c.write_group-in-9.new.out
-    1 30 c.write_group-in-9.result
-    (divided_by c.args.version c.args.code c.args.word 9 c.in-Two.is c.ranges.word.fits key) (lit< tt)
-    (lit< tt) c.write_group-in-9.ensures.some
+    steim2_group_written c.args.version c.args.code c.args.word 9 c.args.at c.args.out.now c.write_group-in-9.new.out
+    1 30 c.write_group-in-9.result c.in-Two.is c.ranges.word.fits (omega (arith, c.from.ensures, c.in-9.is))
+    refl (lit< tt) (lit< tt) c.write_group-in-9.ensures.some
 
 pub returns-in-10-clause-some : goal.returns-in-10-clause-some
 returns-in-10-clause-some c =
-    let key : 4 * c.args.code + c.args.word / 1073741824 ≡ 10 = omega (arith, c.from.ensures, c.in-10.is) in
-    inner_group_written c.args.version c.args.code c.args.word c.args.at c.args.out.now c.write_group-in-10.new.out
-    2 15 c.write_group-in-10.result
-    (divided_by c.args.version c.args.code c.args.word 10 c.in-Two.is c.ranges.word.fits key) (lit< tt)
-    (lit< tt) c.write_group-in-10.ensures.some
+    steim2_group_written c.args.version c.args.code c.args.word 10 c.args.at c.args.out.now c.write_group-in-10.new.out
+    2 15 c.write_group-in-10.result c.in-Two.is c.ranges.word.fits (omega (arith, c.from.ensures, c.in-10.is))
+    refl (lit< tt) (lit< tt) c.write_group-in-10.ensures.some
 
 pub returns-in-11-clause-some : goal.returns-in-11-clause-some
 returns-in-11-clause-some c =
-    let key : 4 * c.args.code + c.args.word / 1073741824 ≡ 11 = omega (arith, c.from.ensures, c.in-11.is) in
-    inner_group_written c.args.version c.args.code c.args.word c.args.at c.args.out.now c.write_group-in-11.new.out
-    3 10 c.write_group-in-11.result
-    (divided_by c.args.version c.args.code c.args.word 11 c.in-Two.is c.ranges.word.fits key) (lit< tt)
-    (lit< tt) c.write_group-in-11.ensures.some
+    steim2_group_written c.args.version c.args.code c.args.word 11 c.args.at c.args.out.now c.write_group-in-11.new.out
+    3 10 c.write_group-in-11.result c.in-Two.is c.ranges.word.fits (omega (arith, c.from.ensures, c.in-11.is))
+    refl (lit< tt) (lit< tt) c.write_group-in-11.ensures.some
 
 pub returns-in-12-clause-some : goal.returns-in-12-clause-some
 returns-in-12-clause-some c =
-    let key : 4 * c.args.code + c.args.word / 1073741824 ≡ 12 = omega (arith, c.from.ensures, c.in-12.is) in
-    inner_group_written c.args.version c.args.code c.args.word c.args.at c.args.out.now c.write_group-in-12.new.out
-    5 6 c.write_group-in-12.result
-    (divided_by c.args.version c.args.code c.args.word 12 c.in-Two.is c.ranges.word.fits key) (lit< tt)
-    (lit< tt) c.write_group-in-12.ensures.some
+    steim2_group_written c.args.version c.args.code c.args.word 12 c.args.at c.args.out.now c.write_group-in-12.new.out
+    5 6 c.write_group-in-12.result c.in-Two.is c.ranges.word.fits (omega (arith, c.from.ensures, c.in-12.is))
+    refl (lit< tt) (lit< tt) c.write_group-in-12.ensures.some
 
 pub returns-in-13-clause-some : goal.returns-in-13-clause-some
 returns-in-13-clause-some c =
-    let key : 4 * c.args.code + c.args.word / 1073741824 ≡ 13 = omega (arith, c.from.ensures, c.in-13.is) in
-    inner_group_written c.args.version c.args.code c.args.word c.args.at c.args.out.now c.write_group-in-13.new.out
-    6 5 c.write_group-in-13.result
-    (divided_by c.args.version c.args.code c.args.word 13 c.in-Two.is c.ranges.word.fits key) (lit< tt)
-    (lit< tt) c.write_group-in-13.ensures.some
+    steim2_group_written c.args.version c.args.code c.args.word 13 c.args.at c.args.out.now c.write_group-in-13.new.out
+    6 5 c.write_group-in-13.result c.in-Two.is c.ranges.word.fits (omega (arith, c.from.ensures, c.in-13.is))
+    refl (lit< tt) (lit< tt) c.write_group-in-13.ensures.some
 
 pub returns-in-14-clause-some : goal.returns-in-14-clause-some
 returns-in-14-clause-some c =
-    let key : 4 * c.args.code + c.args.word / 1073741824 ≡ 14 = omega (arith, c.from.ensures, c.in-14.is) in
-    inner_group_written c.args.version c.args.code c.args.word c.args.at c.args.out.now c.write_group-in-14.new.out
-    7 4 c.write_group-in-14.result
-    (divided_by c.args.version c.args.code c.args.word 14 c.in-Two.is c.ranges.word.fits key) (lit< tt)
-    (lit< tt) c.write_group-in-14.ensures.some
+    steim2_group_written c.args.version c.args.code c.args.word 14 c.args.at c.args.out.now c.write_group-in-14.new.out
+    7 4 c.write_group-in-14.result c.in-Two.is c.ranges.word.fits (omega (arith, c.from.ensures, c.in-14.is))
+    refl (lit< tt) (lit< tt) c.write_group-in-14.ensures.some
+
+pub returns-in-8-clause-some : goal.returns-in-8-clause-some
+returns-in-8-clause-some c = search rules
+
+pub returns-in-15-clause-some : goal.returns-in-15-clause-some
+returns-in-15-clause-some c = search rules
