@@ -1,3 +1,4 @@
+use Rattle.std.proofs.Common.{rules}
 use Rattle.msr_input.proofs.Strict.{alone_agreed, alone_before, alone_lenient, alone_unsaid}
 use Rattle.msr_input.proofs.step.fault_of.Goals as goal
 
@@ -17,3 +18,6 @@ returns-in_default-reverse_in-clause-refused c = λ other.
 pub returns-in_default-reverse_in-2-clause-refused : goal.returns-in_default-reverse_in-2-clause-refused
 returns-in_default-reverse_in-2-clause-refused c = λ other.
     alone_unsaid c.args.strict c.args.bytes.now c.args.kind c.in_default-reverse_in.ensures.none (c.requires other)
+
+pub returns-in-Some-false-clause-refused : goal.returns-in-Some-false-clause-refused
+returns-in-Some-false-clause-refused c = search rules

@@ -49,3 +49,9 @@ returns-clause-all c = λ records samples runs separators p none.
     let a = packs_all records samples runs separators c.self.inside.held c.last_piece.new.self c.next_piece.new.self
     c.last_piece.result c.in_default.ensures.given c.last_piece.ensures.same.form c.last_piece.ensures.canonical q in
     all_given records samples runs separators c.last_piece.result none a.left
+
+pub last_piece-requires-clause-end : goal.last_piece-requires-clause-end
+last_piece-requires-clause-end c = search rules
+
+pub returns-clause-fewer : goal.returns-clause-fewer
+returns-clause-fewer c = search rules
