@@ -1,3 +1,4 @@
+use Rattle.std.proofs.Common.{rules}
 use Rattle.msr_command.proofs.Endings.{list_unread}
 use Rattle.msr_command.proofs.tasks.list_file.Goals as goal
 
@@ -5,3 +6,6 @@ pub returns-in-Err : goal.returns-in-Err
 returns-in-Err g c =
     list_unread c.args.asked.form c.args.asked.options c.args.asked.input.now (g.I.Source.device c.args.input.now)
     (g.O.Sink.device c.args.output.now) c.in-Err.fault c.in-Err.ensures.stop
+
+pub returns-in-Ok-None-default : goal.returns-in-Ok-None-default
+returns-in-Ok-None-default g c = search rules

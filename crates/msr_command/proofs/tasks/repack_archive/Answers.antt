@@ -13,5 +13,4 @@ returns-in_err-walked g c =
     rw (p.1, p.2) (archive_stops _ _ _ _ c.in_err-walked.ensures.answer)
 
 pub returns : goal.returns
-returns g c =
-    rw c.of_walk.ensures (archive_done _ _ _ c.is_empty.result _ c.in_ok-walked.ensures.answer)
+returns g c = rw c.of_walk.ensures (archive_done _ _ _ c.is_empty.result _ c.in_ok-walked.ensures.answer)

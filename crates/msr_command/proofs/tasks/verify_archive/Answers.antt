@@ -13,5 +13,4 @@ returns-in_err-found g c =
     rw (p.1, p.2) (verify_stops _ _ _ c.in_err-found.ensures.answer)
 
 pub returns : goal.returns
-returns g c =
-    rw c.of_walk.ensures (verify_done _ _ c.is_empty.result _ c.in_ok-found.ensures.answer)
+returns g c = rw c.of_walk.ensures (verify_done _ _ c.is_empty.result _ c.in_ok-found.ensures.answer)
