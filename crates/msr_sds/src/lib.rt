@@ -15,8 +15,7 @@ use std::alloc::{AllocError, Global};
 use std::marker::Model;
 use thiserror::Error;
 
-/// Why a text is not the path of a day of waveform data: the first of these that applies, in this
-/// order.
+/// Why a text is not the path of a day of waveform data: the first of these that applies, in this order.
 #[derive(Clone, Copy, Debug, PartialEq, Eq, Error)]
 pub enum SdsFault {
     /// The text has not the form of a path, or a part that stands in it twice differs.

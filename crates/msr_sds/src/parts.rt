@@ -40,6 +40,15 @@ fn strip<'a>(text: &'a str, part: &str) -> Option<&'a str>
     text.strip_prefix(part)?.strip_prefix('.')
 }
 
+/// The text after those two parts, each with a dot after it.
+fn strip_both<'a>(text: &'a str, first: &str, second: &str) -> Option<&'a str>
+    ensures found { IfSome result (λ after. text.now ≡ first.now ++ dot ∷ (second.now ++ dot ∷ after.now)) }
+    ensures only { (rest : List ℕ) → text.now ≡ first.now ++ dot ∷ (second.now ++ dot ∷ rest)
+        → IsSomeAnd result (λ after. after.now ≡ rest) }
+{
+    strip(strip(text, first)?, second)
+}
+
 fn are_digits(text: &str, count: usize) -> bool
     ensures { IsTrue result ↔ AreDigits count text.now }
 {
@@ -107,11 +116,9 @@ impl<'a> Parts<'a> {
             → file.now ≡ file_name (with_file (parts_of self.now) location day)
             → IsSomeAnd result (λ x. (x.0.now ≡ location) × (x.1.now ≡ day)) }
     {
-        let rest = strip(file, self.network)?;
-        let rest = strip(rest, self.station)?;
+        let rest = strip_both(file, self.network, self.station)?;
         let (location, rest) = cut(rest, '.')?;
-        let rest = strip(rest, self.channel)?;
-        let rest = strip(rest, self.data_type)?;
+        let rest = strip_both(rest, self.channel, self.data_type)?;
         let day = strip(rest, self.year)?;
         Some((location, day))
     }
