@@ -119,11 +119,14 @@ fn named(text: &[u8]) -> Option<(ChannelName, u8, &[u8])>
         → text.now ≡ codes "segment " ++ name_then network station location channel (32 ∷ (quality ∷ rest))
         → IsSomeAnd result (λ x. x.2.now ≡ rest) }
 {
-    let text = after(text, b"segment ")?;
-    let (name, text) = channel_name(text)?;
-    let text = after(text, b" ")?;
-    let (quality, text) = quality(text)?;
-    Some((name, quality, text))
+    if let Some(text) = after(text, b"segment ")
+        && let Some((name, text)) = channel_name(text)
+        && let Some(text) = after(text, b" ")
+        && let Some((quality, text)) = quality(text)
+    {
+        return Some((name, quality, text));
+    }
+    None
 }
 
 /// The quality indicator.
