@@ -30,8 +30,7 @@ lines_append (suc a) b xs ys first second =
         (
           first.1.1.0,
           lines_append a b first.1.0 ys first.1.1.1 second,
-          ap
-              (λ (l : List ℕ). l ++ ys) first.1.1.2 ∙ append_assoc first.0 (10 ∷ first.1.0) ys,
+          ap (λ (l : List ℕ). l ++ ys) first.1.1.2 ∙ append_assoc first.0 (10 ∷ first.1.0) ys,
         ),
       ),
     )
@@ -115,8 +114,7 @@ line_lines line word is_line is =
               (
                 separators_body_is_one line.separators is_line.separators,
                 refl,
-                separators_then
-                    line.separators [],
+                separators_then line.separators [],
               ),
             ),
           ),
@@ -137,13 +135,10 @@ texts_lines (line ∷ lines) text each are =
     (texts_lines lines are.1.0 (λ k d within. each (suc k) d (omega arith)) are.1.1.1)))
 
 going_lines : (text : List ℕ) (bytes tolerance : ℕ) (kinds : Kinds) (counts : Counts) (segments : List SegmentLine)
-    (rest : List ℕ)
-    (going : Going text bytes tolerance kinds counts segments rest)
+    (rest : List ℕ) (going : Going text bytes tolerance kinds counts segments rest)
     → AreLines (lines_before kinds + 2 * length segments) (first_then bytes tolerance kinds counts going.lines)
 going_lines text bytes tolerance kinds counts segments rest going =
-    let lines : AreLines (lines_before kinds + 2 * length (map content_line segments))
-    (first_then bytes tolerance kinds counts [] ++ going.lines) =
-    lines_append (lines_before kinds) (2 * length (map content_line segments))
+    let lines = lines_append (lines_before kinds) (2 * length (map content_line segments))
     (first_then bytes tolerance kinds counts []) going.lines
     (first_lines_are bytes tolerance kinds counts going.is_first)
     (texts_lines (map content_line segments) going.lines going.each going.are) in
@@ -157,8 +152,7 @@ content_from bytes tolerance kinds counts lines = record
     { bytes = bytes; kinds = kinds; tolerance = tolerance; counts = counts; segments = lines }
 
 pub before_segment : (text : List ℕ) (bytes tolerance : ℕ) (kinds : Kinds) (counts : Counts)
-    (segments : List SegmentLine)
-    (rest : List ℕ) → Going text bytes tolerance kinds counts segments rest
+    (segments : List SegmentLine) (rest : List ℕ) → Going text bytes tolerance kinds counts segments rest
     → BeginsReport text (lines_before kinds + 2 * length segments)
 before_segment text bytes tolerance kinds counts segments rest going =
     let end : List ℕ = end_line (length (map content_line segments)) (content_records (map content_line segments)) in
@@ -192,8 +186,7 @@ more_lines text bytes tolerance kinds counts segments rest body going one =
     (subst (λ (l : List ℕ). AreLines ((lines_before kinds + 2 * length segments) + 1) l)
     (first_append bytes tolerance kinds counts going.lines (body ++ (10 ∷ [])))
     (lines_append (lines_before kinds + 2 * length segments) 1 (first_then bytes tolerance kinds counts going.lines)
-    (body ++ (10 ∷ []))
-    (going_lines text bytes tolerance kinds counts segments rest going) (one_line body one)))
+    (body ++ (10 ∷ [])) (going_lines text bytes tolerance kinds counts segments rest going) (one_line body one)))
 
 more_shown : (text : List ℕ) (bytes tolerance : ℕ) (kinds : Kinds) (counts : Counts) (lines rest body more : List ℕ)
     → text ≡ first_then bytes tolerance kinds counts (lines ++ rest) → rest ≡ body ++ (10 ∷ more)
@@ -216,8 +209,7 @@ before_second text bytes tolerance kinds counts segments rest more line going is
     let lines : List ContentLine = map content_line segments ++ line ∷ [] in
     let end : List ℕ = end_line (length lines) (content_records lines) in
     let behind : List ℕ = separators_line line.separators ++ end in
-    let same : body ++ (10 ∷ behind) ≡ word ++ end =
-    opening_then line.key opening.word line.samples line.records behind
+    let same = opening_then line.key opening.word line.samples line.records behind
     ∙ sym (words_then line.key opening.word line.samples line.records line.separators end) in
     let whole : (going.lines ++ (body ++ (10 ∷ []))) ++ behind ≡ (going.lines ++ word) ++ end =
     one_more going.lines body behind ∙ ap (λ (l : List ℕ). going.lines ++ l) same
@@ -229,8 +221,7 @@ before_second text bytes tolerance kinds counts segments rest more line going is
       rest = behind;
       is_content = record {
         first = going.is_first;
-        segments = all_more (map content_line segments) line going.each
-            is_line;
+        segments = all_more (map content_line segments) line going.each is_line;
       };
       lines = more_lines text bytes tolerance kinds counts segments rest body going
           (opening_is_one line.key line.start opening.word line.samples line.records is_line.key opening.time);
@@ -248,8 +239,7 @@ before_second text bytes tolerance kinds counts segments rest more line going is
 
 -- when the last line was read
 pub before_behind : (text : List ℕ) (bytes tolerance : ℕ) (kinds : Kinds) (counts : Counts)
-    (segments : List SegmentLine)
-    (rest more : List ℕ) → Going text bytes tolerance kinds counts segments rest
+    (segments : List SegmentLine) (rest more : List ℕ) → Going text bytes tolerance kinds counts segments rest
     → records_of segments < 2 ^ 64 → rest ≡ end_line (length segments) (records_of segments) ++ more
     → BeginsReport text (suc (lines_before kinds + 2 * length segments))
 before_behind text bytes tolerance kinds counts segments rest more going fits is =

@@ -41,8 +41,7 @@ pub digits_front : (a rest : List ℕ) → all_ascii_digits a ≡ true → EndsN
 digits_front [] [] all ends = refl
 digits_front [] (b ∷ bs) all ends = rw ends refl
 digits_front (d ∷ a) rest all ends =
-    let both : (is_ascii_digit d ≡ true) × (all_ascii_digits a ≡ true) =
-    both_true (is_ascii_digit d) (all_ascii_digits a) all in
+    let both = both_true (is_ascii_digit d) (all_ascii_digits a) all in
     rw (both.0, digits_front a rest both.1 ends) (omega arith)
 
 pub parts : (text a rest front back : List ℕ) (count : ℕ) → count ≡ prefix_len is_ascii_digit text
@@ -60,8 +59,7 @@ signed_front_digits : (a rest : List ℕ) → 0 < length a → all_ascii_digits 
     → signed_len (a ++ rest) ≡ length a
 signed_front_digits [] rest some all ends = absurd (omega arith)
 signed_front_digits (d ∷ a) rest some all ends =
-    let both : (is_ascii_digit d ≡ true) × (all_ascii_digits a ≡ true) =
-    both_true (is_ascii_digit d) (all_ascii_digits a) all in
+    let both = both_true (is_ascii_digit d) (all_ascii_digits a) all in
     rw (not_minus d both.0) (digits_front (d ∷ a) rest all ends)
 
 pub short : (z : ℤ) → FitsSigned w32 z → mag z < 2 ^ 63
@@ -84,6 +82,5 @@ signed_parts text z rest front back count is_count is_front is_back is fits ends
     let many : count ≡ length (signed_decimal z) = is_count ∙ ap signed_len is
     ∙ signed_front z rest (short z fits) ends in (
       rw (is_front, is, many) (take-append_seam (signed_decimal z) rest),
-      rw (is_back, is, many)
-          (drop-append_seam (signed_decimal z) rest),
+      rw (is_back, is, many) (drop-append_seam (signed_decimal z) rest),
     )

@@ -111,8 +111,7 @@ key_short key more is =
     let multiplier = signed_short key.rate.multiplier in
     let correction = signed_short key.correction in
     let timing = decimal_short key.timing in
-    simp length-append
-    (omega (arith, network, station, location, channel, factor, multiplier, correction, timing))
+    simp length-append (omega (arith, network, station, location, channel, factor, multiplier, correction, timing))
 
 pub opening_short : (key : Key) (t : ℤ) (word : List ℕ) (samples records : ℕ) → IsKey key → IsTimeText t word
     → length (opening_body key word samples records) < line_limit

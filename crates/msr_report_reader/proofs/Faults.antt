@@ -113,13 +113,11 @@ second_at first segments line past rest read =
     record {
       at = at_second text (read.opening ++ rest) rest (length segments) (records_of segments)
           (lines_before first.kinds + 2 * length segments) line.records going.at
-          (only_opening (opened line) rest (read.opening ++ rest)
-          is_line opens)
+          (only_opening (opened line) rest (read.opening ++ rest) is_line opens)
           (λ x is. opening_not_end (opened line) rest (read.opening ++ rest) x (length segments)
           (records_of segments) opens is);
       before = before_second text (bytes_of first.length) first.tolerance first.kinds first.counts segments
-          (read.opening ++ rest)
-          rest (opened line) going is_line opens;
+          (read.opening ++ rest) rest (opened line) going is_line opens;
     }
 
 opening_shown : (first : FirstLines) (segments : List SegmentLine) (line : FirstLine) (past rest : List ℕ)
@@ -160,8 +158,7 @@ pub word_fault : (first : FirstLines) (segments : List SegmentLine) (line : Firs
     → ((last : Bool) (rest : List ℕ) → text ≡ codes "separators" ++ (stop_byte last ∷ rest) → ⊥)
     → IsFaultLine (past ++ (text ++ more)) (2 + lines_before first.kinds + 2 * length segments)
 word_fault first segments line begins past text more read may enough none =
-    second_fault first segments line past (text ++ more) read
-    (λ ns x each is.
+    second_fault first segments line past (text ++ more) read (λ ns x each is.
     let s = stops ns x in
     let shown = is ∙ line_then ns x in
     let within = inside (codes "separators") (stop_byte s.last) s.behind begins text more (search rules)
@@ -222,8 +219,7 @@ number_fault first segments line numbers begins past text more read may enough n
     let shown : read.before ++ rest ≡ past ++ (text ++ more) =
     sym (ap (λ (t : List ℕ). t ++ (text ++ more)) read.is ∙ numbers_more read.before numbers 32 (text ++ more)) in
     subst (λ (t : List ℕ). IsFaultLine t (2 + lines_before first.kinds + 2 * length segments)) shown
-    (second_fault first segments line read.before rest read.read
-    (λ ns x each is.
+    (second_fault first segments line read.before rest read.read (λ ns x each is.
     let next = next_number numbers ns (text ++ more) x read.each each
     (append_cancel_left (codes "separators") (flat_map spaced numbers ++ (32 ∷ (text ++ more)))
     (flat_map spaced ns ++ (10 ∷ x)) (is ∙ line_then ns x)) in
@@ -254,13 +250,11 @@ end_fault first segments past text more read some =
       separators = [];
     } x rest (text ++ more) (length segments) (records_of segments) opening refl in
     let at = at_behind whole rest (text ++ more) (length segments) (records_of segments)
-    (lines_before first.kinds + 2 * length segments)
-    going.at none refl in
+    (lines_before first.kinds + 2 * length segments) going.at none refl in
     let before = before_behind whole (bytes_of first.length) first.tolerance first.kinds first.counts segments rest
     (text ++ more) going read.fits refl in
     at_number (past ++ (text ++ more)) (suc (suc (lines_before first.kinds + 2 * length segments)))
     (2 + lines_before first.kinds + 2 * length segments) (omega arith)
     (subst (λ (t : List ℕ). IsFaultLine t (suc (suc (lines_before first.kinds + 2 * length segments)))) shown
     (fault_behind whole (text ++ more) (length segments) (records_of segments)
-    (suc (lines_before first.kinds + 2 * length segments)) at
-    (omega (arith, some, length-append text more)) before))
+    (suc (lines_before first.kinds + 2 * length segments)) at (omega (arith, some, length-append text more)) before))

@@ -50,8 +50,7 @@ fault_1 text more begins enough may none =
     fault_at_body tail_1 tail_2 body_1 (text ++ more) (text ++ more) 0 (at_first (text ++ more)) step_1
     (λ content x is_content is.
     let within = inside (codes "msrepack 1") 10 x begins text more (search rules) (omega arith) (may x is) enough is in
-    none within.left within.is)
-    (before_1 (text ++ more))
+    none within.left within.is) (before_1 (text ++ more))
 
 pub fault_2 : (text t1 more : List ℕ) (begins : Bool) → IsTitled text t1 → IsEnough begins t1 more
     → ((x : List ℕ) → t1 ++ more ≡ codes "length " ++ x → begins ≡ true)
@@ -64,8 +63,7 @@ fault_2 text t1 more begins title enough may none =
     (λ content x is_content is.
     let within = inside (body_2 content) 10 x begins t1 more (one_2 content is_content) (short_2 content)
     (may (decimal content.bytes ++ (10 ∷ x)) is) enough is in
-    none content.bytes within.left is_content.first.is_length within.is)
-    (before_2 whole s1 is_1)
+    none content.bytes within.left is_content.first.is_length within.is) (before_2 whole s1 is_1)
 
 pub fault_3 : (text t1 t2 more : List ℕ) (bytes : ℕ) (begins : Bool) → IsRecordLength bytes → IsTitled text t1
     → HasLength t1 bytes t2 → IsEnough begins t2 more
@@ -136,8 +134,7 @@ fault_4 text t1 t2 t3 more bytes tolerance begins is_length least most title len
     let is_3 = tolerance_more t2 tolerance t3 more is_tolerance in
     fault_at FourthBody (InFirst tail_4) AfterFourth whole s3 3
     (fourth_line whole s1 s2 s3 (title_only whole s1 is_1) (length_only s1 s2 bytes is_length is_2)
-    (tolerance_only s2 s3 tolerance most is_3)) step_4
-    (none_fourth begins t3 more enough may may_kinds none no_kinds)
+    (tolerance_only s2 s3 tolerance most is_3)) step_4 (none_fourth begins t3 more enough may may_kinds none no_kinds)
     (before_4 whole s1 s2 s3 bytes tolerance is_length least most is_1 is_2 is_3)
 
 fault_5 : (text t1 t2 t3 t4 more : List ℕ) (bytes tolerance : ℕ) (kinds : Kinds) (begins : Bool) → IsRecordLength bytes

@@ -19,8 +19,7 @@ digit_is_no_feed d h = grind (arith, nat_tests)
 pub digits_are_one : (ds : List ℕ) → all_ascii_digits ds ≡ true → IsOneLine ds
 digits_are_one [] all = tt
 digits_are_one (d ∷ ds) all =
-    let both : (is_ascii_digit d ≡ true) × (all_ascii_digits ds ≡ true) =
-    both_true (is_ascii_digit d) (all_ascii_digits ds) all in
+    let both = both_true (is_ascii_digit d) (all_ascii_digits ds) all in
     (digit_is_no_feed d both.0, digits_are_one ds both.1)
 
 pub decimal_is_one : (n : ℕ) → n < 2 ^ 64 → IsOneLine (decimal n)
@@ -56,8 +55,7 @@ field_is_one (b ∷ bytes) each = one_append (byte_text b) (field_text bytes) (b
 pub separators_are_one : (ns : List ℕ) → All (λ n. n < 2 ^ 64) ns → IsOneLine (flat_map (λ n. 32 ∷ decimal n) ns)
 separators_are_one [] each = tt
 separators_are_one (n ∷ ns) each =
-    one_append (32 ∷ decimal n) (flat_map (λ n. 32 ∷ decimal n) ns)
-    (refl, decimal_is_one n (each 0 0 (omega arith)))
+    one_append (32 ∷ decimal n) (flat_map (λ n. 32 ∷ decimal n) ns) (refl, decimal_is_one n (each 0 0 (omega arith)))
     (separators_are_one ns (λ k d within. each (suc k) d (omega arith)))
 
 -- what the first line takes of lines

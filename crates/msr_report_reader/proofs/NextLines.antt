@@ -157,8 +157,7 @@ pub at_segment : (text more rest : List ℕ) (k r i records : ℕ) → AtLine (N
     → AtLine (Tail (suc k) (r + records)) text rest (suc i)
 at_segment text more rest k r i records at only =
     next_line IsSeparatorsBody (Next k r (suc records)) (λ _. Tail (suc k) (r + records)) text more rest 0 i at
-    (step_second k r records)
-    (λ value body x valid is. (
+    (step_second k r records) (λ value body x valid is. (
       valid.value_is,
       only valid.separators x valid.each
           (is ∙ ap (λ (l : List ℕ). l ++ (10 ∷ x)) valid.is ∙ sym (separators_then valid.separators x)),
@@ -169,8 +168,7 @@ pub fault_second : (text more : List ℕ) (k r i records : ℕ) → AtLine (Next
     → IsFaultLine text (suc i)
 fault_second text more k r i records at none before =
     fault_at IsSeparatorsBody (Next k r (suc records)) (λ _. Tail (suc k) (r + records)) text more i at
-    (step_second k r records)
-    (λ value body x valid is. none valid.separators x valid.each
+    (step_second k r records) (λ value body x valid is. none valid.separators x valid.each
     (is ∙ ap (λ (l : List ℕ). l ++ (10 ∷ x)) valid.is ∙ sym (separators_then valid.separators x))) before
 
 no_line : (k r : ℕ) (rest : List ℕ) → ReadsNone rest → ((x : List ℕ) → r < 2 ^ 64 → rest ≡ end_line k r ++ x → ⊥)

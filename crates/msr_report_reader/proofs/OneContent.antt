@@ -329,8 +329,7 @@ texts_from (s ∷ segments) text are =
             word = first.start_text;
             time = first.time;
             is = first.is
-                ∙ first_line_then s.key first.start_text s.samples s.records
-                (separators_line s.separators.items);
+                ∙ first_line_then s.key first.start_text s.samples s.records (separators_line s.separators.items);
           },
           texts_from segments are.1.0 are.1.1.1,
           are.1.1.2,

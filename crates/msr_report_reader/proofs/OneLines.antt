@@ -62,8 +62,7 @@ split_is_one time micros is below =
       refl,
       one_append (clock_text time) (46 ∷ padded_decimal 6 (100 * time.fract + micros)) (clock_is_one time is) (
         refl,
-        padded_is_one 6 (100 * time.fract + micros) (omega arith) (omega (arith, is.fract))
-            (omega (arith, is.fract)),
+        padded_is_one 6 (100 * time.fract + micros) (omega arith) (omega (arith, is.fract)) (omega (arith, is.fract)),
       ),
     )
 
@@ -78,8 +77,7 @@ name_is_one : (network station location channel more : List ℕ) → AreBytes 2 
     → IsOneLine more → IsOneLine (name_then network station location channel more)
 name_is_one network station location channel more is_network is_station is_location is_channel one =
     one_append (field_text network) (46 ∷ (field_text station
-    ++ (46 ∷ (field_text location ++ (46 ∷ (field_text channel
-    ++ more)))))) (field_is_one network is_network.each) (
+    ++ (46 ∷ (field_text location ++ (46 ∷ (field_text channel ++ more)))))) (field_is_one network is_network.each) (
       refl,
       one_append (field_text station) (46 ∷ (field_text location ++ (46 ∷ (field_text channel ++ more))))
           (field_is_one station is_station.each) (
@@ -116,8 +114,7 @@ key_is_one key more is one =
     let after_rate : List ℕ = flags_then key.activity key.clock key.data_quality after_flags in
     let after_quality : List ℕ = rate_then key.rate.factor key.rate.multiplier after_rate in
     one_append (codes "segment ") (name_then key.network key.station key.location key.channel
-    (32 ∷ (key.quality ∷ after_quality))) (search rules)
-    (name_is_one key.network key.station key.location key.channel
+    (32 ∷ (key.quality ∷ after_quality))) (search rules) (name_is_one key.network key.station key.location key.channel
     (32 ∷ (key.quality ∷ after_quality)) is.network is.station is.location is.channel (
       refl,
       (
@@ -149,8 +146,7 @@ opening_is_one key t word samples records is time =
 pub end_is_one : (segments records : ℕ) → IsOneLine (end_body segments records)
 end_is_one segments records =
     one_append (codes "end ") (decimal segments ++ (codes " segments " ++ (decimal records ++ codes " records")))
-    (search rules)
-    (one_append (decimal segments) (codes " segments " ++ (decimal records ++ codes " records"))
+    (search rules) (one_append (decimal segments) (codes " segments " ++ (decimal records ++ codes " records"))
     (any_decimal_is_one segments)
     (one_append (codes " segments ") (decimal records ++ codes " records") (search rules)
     (one_append (decimal records) (codes " records") (any_decimal_is_one records) (search rules))))

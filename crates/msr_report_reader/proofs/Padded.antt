@@ -37,8 +37,7 @@ reads_more digits i value d so_far more short is digit =
     let sum : value * 10 + (d - 48) ≡ number_after 0 (take (i + 1) digits) =
     rw (front, value_more 0 (take i digits) d) (omega (arith, so_far.is)) in
     let few : length (take (i + 1) digits) ≤ 6 = omega (arith, length-take-le (i + 1) digits (omega arith)) in
-    let bound : number_after 0 (take (i + 1) digits) < 10 ^ 6 =
-    digits_value_short own (take (i + 1) digits) 6 every few in
+    let bound = digits_value_short own (take (i + 1) digits) 6 every few in
     record { all = every; is = sum; small = omega arith }
 
 pub all_are_digits : (digits : List ℕ) (i : ℕ) → all_ascii_digits digits ≡ true → i < length digits

@@ -69,8 +69,7 @@ first_at bytes tolerance AllKinds counts text rest is_first is =
     after_counts text t3 rest (fourth_line text t1 t2 t3 (title_only text t1 is)
     (length_only t1 t2 bytes is_first.is_length refl) (tolerance_only t2 t3 tolerance is_first.most refl))
     (λ content x is_content shown. counts_only bytes tolerance content.bytes content.tolerance counts content.counts
-    rest x is_first is_content.first shown)
-    (λ kinds x shown. words_not_counts kinds (10 ∷ x) _ (sym shown))
+    rest x is_first is_content.first shown) (λ kinds x shown. words_not_counts kinds (10 ∷ x) _ (sym shown))
 first_at bytes tolerance WithoutInt24 counts text rest is_first is =
     let t4 : List ℕ = counts_line counts ++ rest in
     let t3 : List ℕ = kinds_line WithoutInt24 ++ t4 in

@@ -42,8 +42,7 @@ pub down : (V : ℕ → List ℕ → Type 0) (L : ℕ → List ℕ → Type 0 �
     → AreLines (suc n) first → text ≡ first ++ behind → LineStep V L (first ++ rest) (rest ≡ []) → Begins (L v) text' n
 down V L text text' first behind rest v n only lines shown step =
     let p = peel n first rest step.body step.more lines step.one step.is in
-    let read = only step.value step.body (p.left ++ behind)
-    (step.valid (last_line p.left rest step.more p.more_is))
+    let read = only step.value step.body (p.left ++ behind) (step.valid (last_line p.left rest step.more p.more_is))
     (shown_behind text first behind step.body p.left shown p.first_is) in
     let P : ℕ → List ℕ → Type 0 = λ value more. L value more (rest ≡ []) in
     let there : P step.value step.more = step.within in
@@ -112,8 +111,7 @@ one_3 content is = one_append (codes "tolerance ") (decimal content.tolerance) (
 
 pub one_5 : (content : Content) → IsContent content → IsOneLine (body_5 content)
 one_5 content is =
-    one_append (codes "read ") (decimal content.counts.read
-    ++ (codes " empty " ++ (decimal content.counts.empty
+    one_append (codes "read ") (decimal content.counts.read ++ (codes " empty " ++ (decimal content.counts.empty
     ++ (codes " mismatched " ++ decimal content.counts.mismatched)))) (search rules)
     (one_append (decimal content.counts.read) (codes " empty "
     ++ (decimal content.counts.empty ++ (codes " mismatched "
@@ -355,8 +353,7 @@ before_3 text t1 t2 bytes is is_1 is_2 =
           refl,
         ),
       ),
-    )
-    (is_1 ∙ ap (λ (l : List ℕ). codes "msrepack 1" ++ (10 ∷ l))
+    ) (is_1 ∙ ap (λ (l : List ℕ). codes "msrepack 1" ++ (10 ∷ l))
     (is_2 ∙ ap (λ (l : List ℕ). codes "length " ++ l) (sym (append_assoc (decimal bytes) (10 ∷ []) t2))))
     (ap (λ (l : List ℕ). codes "msrepack 1" ++ (10 ∷ (codes "length " ++ l)))
     (append_assoc (decimal bytes) (10 ∷ []) (tail_3 content (end_line 0 0))))
@@ -401,8 +398,7 @@ before_more text t1 t2 t3 behind first rest bytes tolerance n kinds is least mos
           refl,
         ),
       ),
-    )
-    (is_1 ∙ ap (λ (l : List ℕ). codes "msrepack 1" ++ (10 ∷ l))
+    ) (is_1 ∙ ap (λ (l : List ℕ). codes "msrepack 1" ++ (10 ∷ l))
     (is_2 ∙ ap (λ (l : List ℕ). codes "length " ++ (decimal bytes ++ (10 ∷ l)))
     (is_3 ∙ ap (λ (l : List ℕ). codes "tolerance " ++ (decimal tolerance ++ (10 ∷ l))) is_4))
     ∙ ap (λ (l : List ℕ). codes "msrepack 1" ++ (10 ∷ (codes "length " ++ l)))
@@ -425,7 +421,6 @@ pub before_5 : (text t1 t2 t3 t4 : List ℕ) (bytes tolerance : ℕ) (kinds : Ki
     → text ≡ codes "msrepack 1" ++ (10 ∷ t1) → t1 ≡ codes "length " ++ (decimal bytes ++ (10 ∷ t2))
     → t2 ≡ codes "tolerance " ++ (decimal tolerance ++ (10 ∷ t3)) → t3 ≡ kinds_line kinds ++ t4 → BeginsReport text 4
 before_5 text t1 t2 t3 t4 bytes tolerance kinds fewer is least most is_1 is_2 is_3 is_4 =
-    let line : kinds_line kinds ≡ kinds_words kinds ++ (10 ∷ []) =
-    sym (append-nil (kinds_line kinds)) ∙ line_is_words kinds [] fewer in
+    let line = sym (append-nil (kinds_line kinds)) ∙ line_is_words kinds [] fewer in
     before_more text t1 t2 t3 t4 (kinds_line kinds) (counts_line no_counts ++ end_line 0 0) bytes tolerance 1 kinds is
     least most is_1 is_2 is_3 (kinds_words kinds, ([], (words_are_one kinds, refl, line))) is_4 refl

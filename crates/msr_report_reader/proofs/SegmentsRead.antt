@@ -37,8 +37,7 @@ texts_more (l ∷ lines) text line more are is =
         (
           are.1.1.0,
           texts_more lines behind line more are.1.1.1 is,
-          ap
-              (λ (t : List ℕ). t ++ more) are.1.1.2 ∙ append_assoc first behind more,
+          ap (λ (t : List ℕ). t ++ more) are.1.1.2 ∙ append_assoc first behind more,
         ),
       ),
     )
@@ -69,8 +68,7 @@ texts_of (s ∷ segments) text are = (
         start_text = are.1.1.0.word;
         time = are.1.1.0.time;
         is = are.1.1.0.is
-            ∙ sym (first_line_then s.key are.1.1.0.word s.samples s.records
-            (separators_line s.separators.items));
+            ∙ sym (first_line_then s.key are.1.1.0.word s.samples s.records (separators_line s.separators.items));
       },
       texts_of segments are.1.0 are.1.1.1,
       are.1.1.2,

@@ -39,8 +39,7 @@ pub refused : (old new : Draft) (whole : List ℕ) (begins : Bool) (text : List 
 refused old new whole begins text line (Ok (Consumed n)) same fault is = absurd is
 refused old new whole begins text line (Ok (Cut n)) same fault is = record {
   same = same;
-  fault = λ past follows. rw is.0
-      (subst (λ (t : List ℕ). IsFaultLine (past ++ t) line) (append-nil whole)
+  fault = λ past follows. rw is.0 (subst (λ (t : List ℕ). IsFaultLine (past ++ t) line) (append-nil whole)
       (fault past [] follows record { enough = inr refl }));
 }
 refused old new whole begins text line (Ok (Whole first)) same fault is = absurd is
@@ -135,8 +134,7 @@ opening_step old new first line text rest n expected new_expected segments numbe
     let split : text ≡ taken ++ rest = opens.is
     ∙ sym (opening_then line.key opens.word line.samples line.records rest)
     ∙ sym (append_assoc body (10 ∷ []) rest) in
-    let size : n ≡ length taken =
-    omega (arith, count, ap (λ (l : List ℕ). length l) split, length-append taken rest) in
+    let size : n ≡ length taken = omega (arith, count, ap (λ (l : List ℕ). length l) split, length-append taken rest) in
     record {
       taken = taken;
       rest = rest;
@@ -144,8 +142,7 @@ opening_step old new first line text rest n expected new_expected segments numbe
       count = size;
       some = omega (arith, size, length-append body (10 ∷ []));
       follows = λ past follows.
-          let to : ReadTo (Segment first) old.segments.items old.numbers.items past =
-          read_to old (Segment first) past expected follows in
+          let to = read_to old (Segment first) past expected follows in
           let read : ReadOpening first old.segments.items line (past ++ taken) = record {
             before = past;
             read = to.0;
@@ -180,8 +177,7 @@ end_step old new first text rest n expected new_expected segments numbers last c
       count = size;
       some = omega (arith, size, long);
       follows = λ past follows.
-          let to : ReadTo (Segment first) old.segments.items old.numbers.items past =
-          read_to old (Segment first) past expected follows in
+          let to = read_to old (Segment first) past expected follows in
           let read : ReadEnd first old.segments.items (past ++ taken) = record {
             before = past;
             read = to.0;
@@ -201,8 +197,7 @@ pub word_step : (old new : Draft) (first : FirstLines) (line : FirstLine) (last 
 word_step old new first line last text rest n expected goes is count =
     let taken : List ℕ = numbers_then [] last in
     let split : text ≡ taken ++ rest = is in
-    let size : n ≡ length taken =
-    omega (arith, count, ap (λ (l : List ℕ). length l) split, length-append taken rest) in
+    let size : n ≡ length taken = omega (arith, count, ap (λ (l : List ℕ). length l) split, length-append taken rest) in
     record {
       taken = taken;
       rest = rest;
@@ -210,8 +205,7 @@ word_step old new first line last text rest n expected goes is count =
       count = size;
       some = omega (arith, size);
       follows = λ past follows.
-          let to : ReadTo (Separators first line) old.segments.items old.numbers.items past =
-          read_to old (Separators first line) past expected follows in
+          let to = read_to old (Separators first line) past expected follows in
           let none : All (λ n. n < 2 ^ 64) [] = λ k d within. absurd (omega arith) in
           subst (λ (ns : List ℕ). Follows new (past ++ numbers_then ns last)) to.1
           (goes past to.0 (subst (λ (ns : List ℕ). All (λ n. n < 2 ^ 64) ns) (sym to.1) none));
@@ -226,8 +220,7 @@ pub number_step : (old mid new : Draft) (first : FirstLines) (line : FirstLine) 
 number_step old mid new first line number last text rest n expected segments pushed small goes is count =
     let taken : List ℕ = decimal number ++ (stop_byte last ∷ []) in
     let split : text ≡ taken ++ rest = is ∙ sym (append_assoc (decimal number) (stop_byte last ∷ []) rest) in
-    let size : n ≡ length taken =
-    omega (arith, count, ap (λ (l : List ℕ). length l) split, length-append taken rest) in
+    let size : n ≡ length taken = omega (arith, count, ap (λ (l : List ℕ). length l) split, length-append taken rest) in
     record {
       taken = taken;
       rest = rest;
@@ -235,8 +228,7 @@ number_step old mid new first line number last text rest n expected segments pus
       count = size;
       some = omega (arith, size, length-append (decimal number) (stop_byte last ∷ []));
       follows = λ past follows.
-          let to : ReadTo (Number first line) old.segments.items old.numbers.items past =
-          read_to old (Number first line) past expected follows in
+          let to = read_to old (Number first line) past expected follows in
           let read : ReadOpening first mid.segments.items line to.before =
           subst (λ (ss : List SegmentLine). ReadOpening first ss line to.before) (sym segments) to.read in
           let fits : All (λ n. n < 2 ^ 64) mid.numbers.items =

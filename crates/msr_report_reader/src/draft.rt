@@ -87,8 +87,7 @@ fn separators_word(text: &[u8]) -> Option<(bool, &[u8])>
     ensures only { (last : Bool) (rest : List ℕ) → text.now ≡ codes "separators" ++ (stop_byte last ∷ rest)
         → IsSomeAnd result (λ x. (x.0 ≡ last) × (x.1.now ≡ rest)) }
 {
-    let text = after(text, b"separators")?;
-    stop(text)
+    stop(after(text, b"separators")?)
 }
 
 /// A separator.

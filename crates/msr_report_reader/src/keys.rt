@@ -76,8 +76,7 @@ fn spaced_byte(text: &[u8]) -> Option<(u8, &[u8])>
     ensures only { (n : ℕ) (rest : List ℕ) → n < 256 → text.now ≡ 32 ∷ (hex_text n ++ rest)
         → IsSomeAnd result (λ x. (x.0 ≡ n) × (x.1.now ≡ rest)) }
 {
-    let text = after(text, b" ")?;
-    hex_byte(text)
+    hex_byte(after(text, b" ")?)
 }
 
 /// The activity, clock and data quality flags.
@@ -113,10 +112,9 @@ fn named(text: &[u8]) -> Option<(ChannelName, u8, &[u8])>
     ensures found { IfSome result (λ x. text.now ≡ codes "segment "
         ++ name_then x.0.network x.0.station x.0.location x.0.channel (32 ∷ (x.1 ∷ x.2.now))) }
     ensures quality { IfSome result (λ x. IsTrue (is_quality x.1)) }
-    ensures only { (network station location channel : List ℕ) (quality : ℕ) (rest : List ℕ)
-        → AreBytes 2 network → AreBytes 5 station → AreBytes 2 location → AreBytes 3 channel
-        → IsTrue (is_quality quality)
-        → text.now ≡ codes "segment " ++ name_then network station location channel (32 ∷ (quality ∷ rest))
+    ensures only { (key : ChannelKey) (rest : List ℕ) → IsKey key
+        → text.now ≡ codes "segment "
+        ++ name_then key.network key.station key.location key.channel (32 ∷ (key.quality ∷ rest))
         → IsSomeAnd result (λ x. x.2.now ≡ rest) }
 {
     if let Some(text) = after(text, b"segment ")

@@ -26,13 +26,11 @@ returns-in_default-counts-clause-fault c = λ more enough.
     rw c.lines_before.ensures
     (fault_counts c.args.text.now c.in-Some.second.now c.in-Some-record_length.third.now c.in-Some-tolerance.fourth.now
     c.kinds-kinds.result.1.now more (bytes_of c.in-Some-record_length.length) c.in-Some-tolerance.tolerance
-    c.kinds-kinds.result.0
-    _ c.in-Some-record_length.ensures.is_length c.in-Some-tolerance.ensures.range.0
+    c.kinds-kinds.result.0 _ c.in-Some-record_length.ensures.is_length c.in-Some-tolerance.ensures.range.0
     c.in-Some-tolerance.ensures.range.1 c.in-Some.ensures.found c.in-Some-record_length.ensures.found
     c.in-Some-tolerance.ensures.found c.kinds-kinds.ensures.found c.kinds-kinds.ensures.only enough
     (λ x is. one_of c.may_begin-in_default-counts.result (c.may_begin-in_default-counts-2.result && c.eq.result)
-    (c.may_begin-in_default-counts.ensures more x is))
-    (λ x all is.
+    (c.may_begin-in_default-counts.ensures more x is)) (λ x all is.
     let second = c.may_begin-in_default-counts-2.ensures more x is in
     let same : c.eq.result ≡ true = rw all at c.eq.ensures in
     other_of c.may_begin-in_default-counts.result (c.may_begin-in_default-counts-2.result && c.eq.result)

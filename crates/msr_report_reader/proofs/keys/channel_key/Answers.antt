@@ -21,15 +21,13 @@ after_quality key rest = rate_then key.rate.factor key.rate.multiplier (after_ra
 
 pub returns-in_err-factor-clause-only : goal.returns-in_err-factor-clause-only
 returns-in_err-factor-clause-only c key rest is_key ends is =
-    let name = c.in_ok-name.ensures.only key.network key.station key.location key.channel key.quality
-    (after_quality key rest) is_key.network is_key.station is_key.location is_key.channel is_key.quality is in
+    let name = c.in_ok-name.ensures.only key (after_quality key rest) is_key is in
     absurd (c.in_err-factor.ensures.only key.rate.factor key.rate.multiplier (after_rate key rest) is_key.factor
     is_key.multiplier refl name)
 
 pub returns-in_err-rate-clause-only : goal.returns-in_err-rate-clause-only
 returns-in_err-rate-clause-only c key rest is_key ends is =
-    let name = c.in_ok-name.ensures.only key.network key.station key.location key.channel key.quality
-    (after_quality key rest) is_key.network is_key.station is_key.location is_key.channel is_key.quality is in
+    let name = c.in_ok-name.ensures.only key (after_quality key rest) is_key is in
     let rate = c.in_ok-factor.ensures.only key.rate.factor key.rate.multiplier (after_rate key rest) is_key.factor
     is_key.multiplier refl name in
     let factor : c.in_ok-factor.factor ≢ pos 0 = λ zero. is_key.some_factor (sym rate.0 ∙ zero) in
@@ -38,14 +36,12 @@ returns-in_err-rate-clause-only c key rest is_key ends is =
     let fits_multiplier : FitsSigned w16 c.in_ok-factor.multiplier = rw rate.1 is_key.multiplier in
     absurd (c.in_err-rate.ensures (
       λ zero. factor (sym (to_z-of_z fits_factor) ∙ zero),
-      λ zero. multiplier
-          (sym (to_z-of_z fits_multiplier) ∙ zero),
+      λ zero. multiplier (sym (to_z-of_z fits_multiplier) ∙ zero),
     ))
 
 pub returns-in_err-activity-clause-only : goal.returns-in_err-activity-clause-only
 returns-in_err-activity-clause-only c key rest is_key ends is =
-    let name = c.in_ok-name.ensures.only key.network key.station key.location key.channel key.quality
-    (after_quality key rest) is_key.network is_key.station is_key.location is_key.channel is_key.quality is in
+    let name = c.in_ok-name.ensures.only key (after_quality key rest) is_key is in
     let rate = c.in_ok-factor.ensures.only key.rate.factor key.rate.multiplier (after_rate key rest) is_key.factor
     is_key.multiplier refl name in
     absurd (c.in_err-activity.ensures.only key.activity key.clock key.data_quality (after_flags key rest)
@@ -53,8 +49,7 @@ returns-in_err-activity-clause-only c key rest is_key ends is =
 
 pub returns-in_err-correction-clause-only : goal.returns-in_err-correction-clause-only
 returns-in_err-correction-clause-only c key rest is_key ends is =
-    let name = c.in_ok-name.ensures.only key.network key.station key.location key.channel key.quality
-    (after_quality key rest) is_key.network is_key.station is_key.location is_key.channel is_key.quality is in
+    let name = c.in_ok-name.ensures.only key (after_quality key rest) is_key is in
     let rate = c.in_ok-factor.ensures.only key.rate.factor key.rate.multiplier (after_rate key rest) is_key.factor
     is_key.multiplier refl name in
     let flags = c.in_ok-activity.ensures.only key.activity key.clock key.data_quality (after_flags key rest)
@@ -63,8 +58,7 @@ returns-in_err-correction-clause-only c key rest is_key ends is =
 
 pub returns-in_err-timing-clause-only : goal.returns-in_err-timing-clause-only
 returns-in_err-timing-clause-only c key rest is_key ends is =
-    let name = c.in_ok-name.ensures.only key.network key.station key.location key.channel key.quality
-    (after_quality key rest) is_key.network is_key.station is_key.location is_key.channel is_key.quality is in
+    let name = c.in_ok-name.ensures.only key (after_quality key rest) is_key is in
     let rate = c.in_ok-factor.ensures.only key.rate.factor key.rate.multiplier (after_rate key rest) is_key.factor
     is_key.multiplier refl name in
     let flags = c.in_ok-activity.ensures.only key.activity key.clock key.data_quality (after_flags key rest)
@@ -74,8 +68,7 @@ returns-in_err-timing-clause-only c key rest is_key ends is =
 
 pub returns-clause-only : goal.returns-clause-only
 returns-clause-only c key rest is_key ends is =
-    let name = c.in_ok-name.ensures.only key.network key.station key.location key.channel key.quality
-    (after_quality key rest) is_key.network is_key.station is_key.location is_key.channel is_key.quality is in
+    let name = c.in_ok-name.ensures.only key (after_quality key rest) is_key is in
     let rate = c.in_ok-factor.ensures.only key.rate.factor key.rate.multiplier (after_rate key rest) is_key.factor
     is_key.multiplier refl name in
     let flags = c.in_ok-activity.ensures.only key.activity key.clock key.data_quality (after_flags key rest)

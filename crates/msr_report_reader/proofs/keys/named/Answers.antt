@@ -4,25 +4,26 @@ use Rattle.msr_report_reader.proofs.keys.named.Goals.{in_default-via-in-None-1, 
 use Rattle.msr_report_reader.proofs.keys.named.Goals as goal
 
 pub returns-2-clause-only : goal.returns-2-clause-only
-returns-2-clause-only c network station location channel quality rest are_network are_station are_location
-    are_channel is_quality is =
-    let name = name_then network station location channel (32 ∷ (quality ∷ rest)) in
+returns-2-clause-only c key rest is_key is =
+    let after = 32 ∷ (key.quality ∷ rest) in
+    let name = name_then key.network key.station key.location key.channel after in
     elim c.in_default.branch [
-      in_default-via-in-None-1 w ↦
-        let word = c.after.ensures.only name is in
-        search rules
-    | in_default-via-in-Some+in-None-1 w ↦
-        let named = w.channel_name.ensures.only network station location channel (32 ∷ (quality ∷ rest)) are_network
-        are_station are_location are_channel (w.in-Some.ensures.only name is) in
-        search rules
-    | in_default-via-in-Some+in-Some-channel_name+in-None-1 w ↦
-        let named = w.in-Some-channel_name.ensures.only network station location channel (32 ∷ (quality ∷ rest))
-        are_network are_station are_location are_channel (w.in-Some.ensures.only name is) in
-        let space = w.after-2.ensures.only (quality ∷ rest) named in
-        search rules
-    | in_default-via-in-Some+in-Some-channel_name+in-Some-after+in-None-1 w ↦
-        let named = w.in-Some-channel_name.ensures.only network station location channel (32 ∷ (quality ∷ rest))
-        are_network are_station are_location are_channel (w.in-Some.ensures.only name is) in
-        let end = w.quality.ensures.only quality rest is_quality (w.in-Some-after.ensures.only (quality ∷ rest) named) in
-        search rules
+      | in_default-via-in-None-1 w ↦
+          let word = c.after.ensures.only name is in
+          search rules
+      | in_default-via-in-Some+in-None-1 w ↦
+          let named = w.channel_name.ensures.only key.network key.station key.location key.channel after is_key.network
+          is_key.station is_key.location is_key.channel (w.in-Some.ensures.only name is) in
+          search rules
+      | in_default-via-in-Some+in-Some-channel_name+in-None-1 w ↦
+          let named = w.in-Some-channel_name.ensures.only key.network key.station key.location key.channel after
+          is_key.network is_key.station is_key.location is_key.channel (w.in-Some.ensures.only name is) in
+          let space = w.after-2.ensures.only (key.quality ∷ rest) named in
+          search rules
+      | in_default-via-in-Some+in-Some-channel_name+in-Some-after+in-None-1 w ↦
+          let named = w.in-Some-channel_name.ensures.only key.network key.station key.location key.channel after
+          is_key.network is_key.station is_key.location is_key.channel (w.in-Some.ensures.only name is) in
+          let end = w.quality.ensures.only key.quality rest is_key.quality
+          (w.in-Some-after.ensures.only (key.quality ∷ rest) named) in
+          search rules
     ]

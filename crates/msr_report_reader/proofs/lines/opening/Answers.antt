@@ -3,60 +3,55 @@ use Rattle.jiff_core.proofs.SignedLemmas.{signed_arith}
 use Rattle.msr_report_reader.specs.Content.{key_then}
 use Rattle.msr_report_reader.proofs.lines.opening.Goals as goal
 
+-- what comes after the parts of an opening
+abbrev after_samples : ℕ → List ℕ → List ℕ
+after_samples records rest = codes " records " ++ (decimal records ++ (10 ∷ rest))
+
+abbrev after_start : ℕ → ℕ → List ℕ → List ℕ
+after_start samples records rest = codes " samples " ++ (decimal samples ++ after_samples records rest)
+
 pub returns-in_default-clause-only : goal.returns-in_default-clause-only
 returns-in_default-clause-only c key start samples records rest is_key fits_samples fits_records opening =
-    let after_samples : List ℕ = codes " records " ++ (decimal records ++ (10 ∷ rest)) in
-    let after_start : List ℕ = codes " samples " ++ (decimal samples ++ after_samples) in
-    let after_key : List ℕ = codes " start " ++ (opening.word ++ after_start) in
-    absurd (c.in_default.ensures.only key after_key is_key refl opening.is)
+    let more : List ℕ = opening.word ++ after_start samples records rest in
+    absurd (c.in_default.ensures.only key (codes " start " ++ more) is_key refl opening.is)
 
 pub returns-in_err-text-clause-only : goal.returns-in_err-text-clause-only
 returns-in_err-text-clause-only c key start samples records rest is_key fits_samples fits_records opening =
-    let after_samples : List ℕ = codes " records " ++ (decimal records ++ (10 ∷ rest)) in
-    let after_start : List ℕ = codes " samples " ++ (decimal samples ++ after_samples) in
-    let after_key : List ℕ = codes " start " ++ (opening.word ++ after_start) in
-    absurd (c.in_err-text.ensures.only (opening.word ++ after_start)
-    (c.in-Some.ensures.only key after_key is_key refl opening.is))
+    let more : List ℕ = opening.word ++ after_start samples records rest in
+    absurd (c.in_err-text.ensures.only more
+    (c.in-Some.ensures.only key (codes " start " ++ more) is_key refl opening.is))
 
 pub returns-in_err-start-clause-only : goal.returns-in_err-start-clause-only
 returns-in_err-start-clause-only c key start samples records rest is_key fits_samples fits_records opening =
-    let after_samples : List ℕ = codes " records " ++ (decimal records ++ (10 ∷ rest)) in
-    let after_start : List ℕ = codes " samples " ++ (decimal samples ++ after_samples) in
-    let after_key : List ℕ = codes " start " ++ (opening.word ++ after_start) in
-    let first = c.in_ok-text.ensures.only (opening.word ++ after_start)
-    (c.in-Some.ensures.only key after_key is_key refl opening.is) in
-    absurd (c.in_err-start.ensures.only start opening.word after_start opening.time first)
+    let more : List ℕ = opening.word ++ after_start samples records rest in
+    let first = c.in_ok-text.ensures.only more
+    (c.in-Some.ensures.only key (codes " start " ++ more) is_key refl opening.is) in
+    absurd (c.in_err-start.ensures.only start opening.word (after_start samples records rest) opening.time first)
 
 pub returns-in_err-samples-clause-only : goal.returns-in_err-samples-clause-only
 returns-in_err-samples-clause-only c key start samples records rest is_key fits_samples fits_records opening =
-    let after_samples : List ℕ = codes " records " ++ (decimal records ++ (10 ∷ rest)) in
-    let after_start : List ℕ = codes " samples " ++ (decimal samples ++ after_samples) in
-    let after_key : List ℕ = codes " start " ++ (opening.word ++ after_start) in
-    let first = c.in_ok-text.ensures.only (opening.word ++ after_start)
-    (c.in-Some.ensures.only key after_key is_key refl opening.is) in
-    let second = c.in_ok-start.ensures.only start opening.word after_start opening.time first in
-    absurd (c.in_err-samples.ensures.only samples after_samples fits_samples refl second.1)
+    let more : List ℕ = opening.word ++ after_start samples records rest in
+    let first = c.in_ok-text.ensures.only more
+    (c.in-Some.ensures.only key (codes " start " ++ more) is_key refl opening.is) in
+    let second = c.in_ok-start.ensures.only start opening.word (after_start samples records rest) opening.time first in
+    absurd (c.in_err-samples.ensures.only samples (after_samples records rest) fits_samples refl second.1)
 
 pub returns-in_err-records-clause-only : goal.returns-in_err-records-clause-only
 returns-in_err-records-clause-only c key start samples records rest is_key fits_samples fits_records opening =
-    let after_samples : List ℕ = codes " records " ++ (decimal records ++ (10 ∷ rest)) in
-    let after_start : List ℕ = codes " samples " ++ (decimal samples ++ after_samples) in
-    let after_key : List ℕ = codes " start " ++ (opening.word ++ after_start) in
-    let first = c.in_ok-text.ensures.only (opening.word ++ after_start)
-    (c.in-Some.ensures.only key after_key is_key refl opening.is) in
-    let second = c.in_ok-start.ensures.only start opening.word after_start opening.time first in
-    let third = c.in_ok-samples.ensures.only samples after_samples fits_samples refl second.1 in
+    let more : List ℕ = opening.word ++ after_start samples records rest in
+    let first = c.in_ok-text.ensures.only more
+    (c.in-Some.ensures.only key (codes " start " ++ more) is_key refl opening.is) in
+    let second = c.in_ok-start.ensures.only start opening.word (after_start samples records rest) opening.time first in
+    let third = c.in_ok-samples.ensures.only samples (after_samples records rest) fits_samples refl second.1 in
     absurd (c.in_err-records.ensures.only records rest fits_records third.1)
 
 pub returns-clause-only : goal.returns-clause-only
 returns-clause-only c key start samples records rest is_key fits_samples fits_records opening =
-    let after_samples : List ℕ = codes " records " ++ (decimal records ++ (10 ∷ rest)) in
-    let after_start : List ℕ = codes " samples " ++ (decimal samples ++ after_samples) in
-    let after_key : List ℕ = codes " start " ++ (opening.word ++ after_start) in
-    let first = c.in_ok-text.ensures.only (opening.word ++ after_start)
-    (c.in-Some.ensures.only key after_key is_key refl opening.is) in
-    let second = c.in_ok-start.ensures.only start opening.word after_start opening.time first in
-    let third = c.in_ok-samples.ensures.only samples after_samples fits_samples refl second.1 in
+    let more : List ℕ = opening.word ++ after_start samples records rest in
+    let first = c.in_ok-text.ensures.only more
+    (c.in-Some.ensures.only key (codes " start " ++ more) is_key refl opening.is) in
+    let second = c.in_ok-start.ensures.only start opening.word (after_start samples records rest) opening.time first in
+    let third = c.in_ok-samples.ensures.only samples (after_samples records rest) fits_samples refl second.1 in
     c.in_ok-records.ensures.only records rest fits_records third.1
 
 pub returns-clause-found : goal.returns-clause-found

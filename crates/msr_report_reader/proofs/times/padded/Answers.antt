@@ -11,8 +11,7 @@ returns-in_err-value-clause-only c n rest fits is =
     let bound = pow_small c.args.width c.requires.few in
     let word = reads_padded c.args.width n c.requires.some fits (omega arith) in
     let parts = padded_parts c.args.text.now rest c.split_at.result.0.now c.split_at.result.1.now
-    (padded_decimal c.args.width n) c.args.width
-    c.split_at.ensures.front c.split_at.ensures.back is word.long in
+    (padded_decimal c.args.width n) c.args.width c.split_at.ensures.front c.split_at.ensures.back is word.long in
     absurd (c.in_err-value.ensures (rw parts.0 word.all))
 
 pub returns-clause-found : goal.returns-clause-found
@@ -34,6 +33,5 @@ returns-clause-only c n rest fits is =
     let bound = pow_small c.args.width c.requires.few in
     let word = reads_padded c.args.width n c.requires.some fits (omega arith) in
     let parts = padded_parts c.args.text.now rest c.split_at.result.0.now c.split_at.result.1.now
-    (padded_decimal c.args.width n) c.args.width
-    c.split_at.ensures.front c.split_at.ensures.back is word.long in
+    (padded_decimal c.args.width n) c.args.width c.split_at.ensures.front c.split_at.ensures.back is word.long in
     (c.in_ok-value.ensures.1 ∙ ap (number_after 0) parts.0 ∙ word.is, parts.1)

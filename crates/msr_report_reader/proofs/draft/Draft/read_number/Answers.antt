@@ -16,8 +16,7 @@ returns-in_default c = λ expected.
     (1 + c.line_after.result) (omega (arith, c.line_after.ensures.line)) (number_fault c.args.first segments c.args.line
     c.args.self.now.numbers.items c.may_be_number.result past c.args.text.now more
     (read_to c.args.self.now (Number c.args.first c.args.line) past expected follows)
-    (λ n x small is. c.may_be_number.ensures n more x small is) enough c.in_default.ensures.only))
-    c.refuse.ensures
+    (λ n x small is. c.may_be_number.ensures n more x small is) enough c.in_default.ensures.only)) c.refuse.ensures
 
 pub returns : goal.returns
 returns c = λ expected.
