@@ -60,10 +60,9 @@ fn channel_name(text: &[u8]) -> Option<(ChannelName, &[u8])>
 /// The factor and the multiplier of a rate.
 fn rate(text: &[u8]) -> Option<(i16, i16, &[u8])>
     ensures found { IfSome result (λ x. text.now ≡ rate_then x.0 x.1 x.2.now) }
-    ensures only { (factor multiplier : ℤ) (rest : List ℕ) → FitsSigned w16 factor → FitsSigned w16 multiplier
-        → EndsNumber rest
-        → text.now ≡ rate_then factor multiplier rest
-        → IsSomeAnd result (λ x. (x.0 ≡ factor) × (x.1 ≡ multiplier) × (x.2.now ≡ rest)) }
+    ensures only { (key : ChannelKey) (rest : List ℕ) → IsKey key → EndsNumber rest
+        → text.now ≡ rate_then key.rate.factor key.rate.multiplier rest
+        → IsSomeAnd result (λ x. (x.0 ≡ key.rate.factor) × (x.1 ≡ key.rate.multiplier) × (x.2.now ≡ rest)) }
 {
     let (factor, text) = signed_16(text, b" rate ")?;
     let (multiplier, text) = signed_16(text, b" ")?;
@@ -82,9 +81,9 @@ fn spaced_byte(text: &[u8]) -> Option<(u8, &[u8])>
 /// The activity, clock and data quality flags.
 fn flags(text: &[u8]) -> Option<(u8, u8, u8, &[u8])>
     ensures found { IfSome result (λ x. text.now ≡ flags_then x.0 x.1 x.2 x.3.now) }
-    ensures only { (activity clock quality : ℕ) (rest : List ℕ) → activity < 256 → clock < 256 → quality < 256
-        → text.now ≡ flags_then activity clock quality rest
-        → IsSomeAnd result (λ x. (x.0 ≡ activity) × (x.1 ≡ clock) × (x.2 ≡ quality) × (x.3.now ≡ rest)) }
+    ensures only { (key : ChannelKey) (rest : List ℕ) → IsKey key
+        → text.now ≡ flags_then key.activity key.clock key.data_quality rest
+        → IsSomeAnd result (λ x. x.3.now ≡ rest) }
 {
     let text = after(text, b" flags")?;
     let (activity, text) = spaced_byte(text)?;

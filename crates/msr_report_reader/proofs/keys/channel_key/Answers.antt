@@ -22,14 +22,12 @@ after_quality key rest = rate_then key.rate.factor key.rate.multiplier (after_ra
 pub returns-in_err-factor-clause-only : goal.returns-in_err-factor-clause-only
 returns-in_err-factor-clause-only c key rest is_key ends is =
     let name = c.in_ok-name.ensures.only key (after_quality key rest) is_key is in
-    absurd (c.in_err-factor.ensures.only key.rate.factor key.rate.multiplier (after_rate key rest) is_key.factor
-    is_key.multiplier refl name)
+    absurd (c.in_err-factor.ensures.only key (after_rate key rest) is_key refl name)
 
 pub returns-in_err-rate-clause-only : goal.returns-in_err-rate-clause-only
 returns-in_err-rate-clause-only c key rest is_key ends is =
     let name = c.in_ok-name.ensures.only key (after_quality key rest) is_key is in
-    let rate = c.in_ok-factor.ensures.only key.rate.factor key.rate.multiplier (after_rate key rest) is_key.factor
-    is_key.multiplier refl name in
+    let rate = c.in_ok-factor.ensures.only key (after_rate key rest) is_key refl name in
     let factor : c.in_ok-factor.factor ≢ pos 0 = λ zero. is_key.some_factor (sym rate.0 ∙ zero) in
     let multiplier : c.in_ok-factor.multiplier ≢ pos 0 = λ zero. is_key.some_multiplier (sym rate.1 ∙ zero) in
     let fits_factor : FitsSigned w16 c.in_ok-factor.factor = rw rate.0 is_key.factor in
@@ -42,38 +40,30 @@ returns-in_err-rate-clause-only c key rest is_key ends is =
 pub returns-in_err-activity-clause-only : goal.returns-in_err-activity-clause-only
 returns-in_err-activity-clause-only c key rest is_key ends is =
     let name = c.in_ok-name.ensures.only key (after_quality key rest) is_key is in
-    let rate = c.in_ok-factor.ensures.only key.rate.factor key.rate.multiplier (after_rate key rest) is_key.factor
-    is_key.multiplier refl name in
-    absurd (c.in_err-activity.ensures.only key.activity key.clock key.data_quality (after_flags key rest)
-    is_key.activity is_key.clock is_key.data_quality rate.2)
+    let rate = c.in_ok-factor.ensures.only key (after_rate key rest) is_key refl name in
+    absurd (c.in_err-activity.ensures.only key (after_flags key rest) is_key rate.2)
 
 pub returns-in_err-correction-clause-only : goal.returns-in_err-correction-clause-only
 returns-in_err-correction-clause-only c key rest is_key ends is =
     let name = c.in_ok-name.ensures.only key (after_quality key rest) is_key is in
-    let rate = c.in_ok-factor.ensures.only key.rate.factor key.rate.multiplier (after_rate key rest) is_key.factor
-    is_key.multiplier refl name in
-    let flags = c.in_ok-activity.ensures.only key.activity key.clock key.data_quality (after_flags key rest)
-    is_key.activity is_key.clock is_key.data_quality rate.2 in
-    absurd (c.in_err-correction.ensures.only key.correction (after_correction key rest) is_key.correction refl flags.3)
+    let rate = c.in_ok-factor.ensures.only key (after_rate key rest) is_key refl name in
+    let flags = c.in_ok-activity.ensures.only key (after_flags key rest) is_key rate.2 in
+    absurd (c.in_err-correction.ensures.only key.correction (after_correction key rest) is_key.correction refl flags)
 
 pub returns-in_err-timing-clause-only : goal.returns-in_err-timing-clause-only
 returns-in_err-timing-clause-only c key rest is_key ends is =
     let name = c.in_ok-name.ensures.only key (after_quality key rest) is_key is in
-    let rate = c.in_ok-factor.ensures.only key.rate.factor key.rate.multiplier (after_rate key rest) is_key.factor
-    is_key.multiplier refl name in
-    let flags = c.in_ok-activity.ensures.only key.activity key.clock key.data_quality (after_flags key rest)
-    is_key.activity is_key.clock is_key.data_quality rate.2 in
-    let correction = c.in_ok-correction.ensures.only key.correction (after_correction key rest) is_key.correction refl flags.3 in
+    let rate = c.in_ok-factor.ensures.only key (after_rate key rest) is_key refl name in
+    let flags = c.in_ok-activity.ensures.only key (after_flags key rest) is_key rate.2 in
+    let correction = c.in_ok-correction.ensures.only key.correction (after_correction key rest) is_key.correction refl flags in
     absurd (c.in_err-timing.ensures.only key.timing rest is_key.timing ends correction.1)
 
 pub returns-clause-only : goal.returns-clause-only
 returns-clause-only c key rest is_key ends is =
     let name = c.in_ok-name.ensures.only key (after_quality key rest) is_key is in
-    let rate = c.in_ok-factor.ensures.only key.rate.factor key.rate.multiplier (after_rate key rest) is_key.factor
-    is_key.multiplier refl name in
-    let flags = c.in_ok-activity.ensures.only key.activity key.clock key.data_quality (after_flags key rest)
-    is_key.activity is_key.clock is_key.data_quality rate.2 in
-    let correction = c.in_ok-correction.ensures.only key.correction (after_correction key rest) is_key.correction refl flags.3 in
+    let rate = c.in_ok-factor.ensures.only key (after_rate key rest) is_key refl name in
+    let flags = c.in_ok-activity.ensures.only key (after_flags key rest) is_key rate.2 in
+    let correction = c.in_ok-correction.ensures.only key.correction (after_correction key rest) is_key.correction refl flags in
     let timing = c.in_ok-timing.ensures.only key.timing rest is_key.timing ends correction.1 in
     timing.1
 
