@@ -39,9 +39,8 @@ struct ChannelName {
 /// Network, station, location and channel, with dots between them.
 fn channel_name(text: &[u8]) -> Option<(ChannelName, &[u8])>
     ensures found { IfSome result (λ x. text.now ≡ name_then x.0.network x.0.station x.0.location x.0.channel x.1.now) }
-    ensures only { (network station location channel rest : List ℕ)
-        → AreBytes 2 network → AreBytes 5 station → AreBytes 2 location → AreBytes 3 channel
-        → text.now ≡ name_then network station location channel rest
+    ensures only { (key : ChannelKey) (rest : List ℕ) → IsKey key
+        → text.now ≡ name_then key.network key.station key.location key.channel rest
         → IsSomeAnd result (λ x. x.1.now ≡ rest) }
 {
     let (network, text) = dotted::<2>(text)?;

@@ -12,17 +12,14 @@ returns-2-clause-only c key rest is_key is =
           let word = c.after.ensures.only name is in
           search rules
       | in_default-via-in-Some+in-None-1 w ↦
-          let named = w.channel_name.ensures.only key.network key.station key.location key.channel after is_key.network
-          is_key.station is_key.location is_key.channel (w.in-Some.ensures.only name is) in
+          let named = w.channel_name.ensures.only key after is_key (w.in-Some.ensures.only name is) in
           search rules
       | in_default-via-in-Some+in-Some-channel_name+in-None-1 w ↦
-          let named = w.in-Some-channel_name.ensures.only key.network key.station key.location key.channel after
-          is_key.network is_key.station is_key.location is_key.channel (w.in-Some.ensures.only name is) in
+          let named = w.in-Some-channel_name.ensures.only key after is_key (w.in-Some.ensures.only name is) in
           let space = w.after-2.ensures.only (key.quality ∷ rest) named in
           search rules
       | in_default-via-in-Some+in-Some-channel_name+in-Some-after+in-None-1 w ↦
-          let named = w.in-Some-channel_name.ensures.only key.network key.station key.location key.channel after
-          is_key.network is_key.station is_key.location is_key.channel (w.in-Some.ensures.only name is) in
+          let named = w.in-Some-channel_name.ensures.only key after is_key (w.in-Some.ensures.only name is) in
           let end = w.quality.ensures.only key.quality rest is_key.quality
           (w.in-Some-after.ensures.only (key.quality ∷ rest) named) in
           search rules
