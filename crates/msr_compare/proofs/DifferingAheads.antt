@@ -84,8 +84,7 @@ keys_so segment one other done more other_more ones others c number k e f =
     (regrouped (symbols_of ones) done one.ahead (Opens k.key k.start ∷ map Holds k.begins.samples) more e
     k.begins.ahead_is)
     (regrouped (symbols_of others) done other.ahead (Opens k.other_key k.other_start ∷ map Holds k.other_begins.samples)
-    other_more f k.other_begins.ahead_is) k.differ
-    (omega (
+    other_more f k.other_begins.ahead_is) k.differ (omega (
       arith,
       number,
       c.segments,
@@ -103,8 +102,7 @@ starts_so segment one other done more other_more ones others c number k e f =
     (regrouped (symbols_of ones) done one.ahead (Opens k.key k.start ∷ map Holds k.begins.samples) more e
     k.begins.ahead_is)
     (regrouped (symbols_of others) done other.ahead (Opens k.key k.other_start ∷ map Holds k.other_begins.samples)
-    other_more f k.other_begins.ahead_is) k.differ
-    (omega (
+    other_more f k.other_begins.ahead_is) k.differ (omega (
       arith,
       number,
       c.segments,

@@ -94,8 +94,7 @@ values_differ one other number at value other_value is other_is unequal e = reco
 pub begun_held : (key : Key) (start : ℤ) (ahead : List Symbol) → BeginsNext key start ahead
     → ahead ≡ (Opens key start ∷ []) ++ map Holds (held_in ahead)
 begun_held key start ahead h =
-    h.ahead_is ∙ ap (λ (l : List ℤ). Opens key start ∷ map Holds l)
-    (sym (ap held_in h.ahead_is ∙ held_map h.samples))
+    h.ahead_is ∙ ap (λ (l : List ℤ). Opens key start ∷ map Holds l) (sym (ap held_in h.ahead_is ∙ held_map h.samples))
 
 pub passes_beginning : (one other new_one new_other : Standing) (key : Key) (start : ℤ) → BeginsNext key start one.ahead
     → BeginsNext key start other.ahead → new_one.ahead ≡ map Holds (held_in one.ahead)

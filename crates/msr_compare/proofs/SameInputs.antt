@@ -118,8 +118,7 @@ lists_same (x ∷ xs) how d = not_first x xs xs how d
 -- lists of segments that are the same have no first difference
 pub same_no_difference : (all : List Segment) (difference : Difference) → IsFirstDifference all all difference → ⊥
 same_no_difference all difference d =
-    let same : d.ones_left ≡ d.others_left =
-    tails_after d.same d.ones_left d.others_left (sym d.ones_are ∙ d.others_are) in
+    let same = tails_after d.same d.ones_left d.others_left (sym d.ones_are ∙ d.others_are) in
     lists_same d.ones_left difference.kind
     (subst (λ (l : List Segment). ListsDiffer d.ones_left l difference.kind) (sym same) d.differ)
 

@@ -103,16 +103,14 @@ first_names-push (m ∷ names) n =
         → first_names ((m ∷ names) ++ n ∷ []) ≡ with_name (first_names (m ∷ names)) n
     by true true e f rest = rw (rest, e, f) refl
     by true false e f rest =
-        let there : has n (without m (first_names names)) ≡ true =
-        has_without_other m n f (first_names names) ∙ e in
+        let there = has_without_other m n f (first_names names) ∙ e in
         rw (rest, e, f, there) refl
     by false true e f rest =
         let turned : bytes_eq m n ≡ true = bytes_eq_sym m n ∙ f in
         rw (rest, e, f, without_push m (first_names names) n, turned) refl
     by false false e f rest =
         let turned : bytes_eq m n ≡ false = bytes_eq_sym m n ∙ f in
-        let absent : has n (without m (first_names names)) ≡ false =
-        has_without_other m n f (first_names names) ∙ e in
+        let absent = has_without_other m n f (first_names names) ∙ e in
         rw (rest, e, f, without_push m (first_names names) n, turned, absent) refl
 
 -- no name stands in the list twice

@@ -38,8 +38,7 @@ segments_append (line ∷ lines) others text more h k = (
     (
       h.1.1.0,
       segments_append lines others h.1.0 more h.1.1.1 k,
-      ap
-          (λ (t : List ℕ). t ++ more) h.1.1.2 ∙ append_assoc h.0 h.1.0 more,
+      ap (λ (t : List ℕ). t ++ more) h.1.1.2 ∙ append_assoc h.0 h.1.0 more,
     ),
   ),
 )

@@ -1,8 +1,6 @@
 //! What the records of a segment have in common, at the start of a text.
-ghost use Rattle.std.specs.Prelude.{◌≡◌, ◌<◌, ◌++◌, ◌∷◌, ℕ, ℤ, List, IfSome, IsSomeAnd, IsTrue, codes};
+ghost use Rattle.std.specs.Prelude.{◌≡◌, ◌<◌, ◌++◌, ◌∷◌, ℕ, List, IfSome, IsSomeAnd, IsTrue, codes};
 ghost use Rattle.std.specs.Fmt.{decimal};
-ghost use Rattle.std.specs.Int.{w16};
-ghost use Rattle.std.specs.Int.RustNames.{FitsSigned};
 ghost use Rattle.msr_report.specs.Text.{hex_text, field_text};
 ghost use Rattle.msr_report_reader.specs.Fields.{EndsNumber, AreBytes, name_then, rate_then, flags_then};
 ghost use Rattle.msr_header.specs.Reading.{is_quality};

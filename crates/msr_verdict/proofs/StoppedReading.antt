@@ -146,8 +146,7 @@ same_shown : (report : Report) (input : List ℕ) (records : List Record) (parts
 same_shown report input records parts h are d =
     let same = same_parts report input records parts h are d in (
       subst (λ (rs : List Record). All (IsFull (bytes_of report.length)) rs) same.0 h.full,
-      subst
-          (λ (ps : List Part). AreShownBy (form_by report) ps report.segments.items) same.1 h.shown,
+      subst (λ (ps : List Part). AreShownBy (form_by report) ps report.segments.items) same.1 h.shown,
     )
 
 none_left : {X : Type 0} (left : List X) → length left ≡ 0 → left ≡ []

@@ -36,12 +36,12 @@ returns-in_err-visit_entry-clause-stops g t c =
 
 pub loop-name-preserved : goal.loop-name-preserved
 loop-name-preserved g t c = elim c.if-levels-gt0.branch [
-      then-levels-gt0+then-eq-2+in_ok-visit_folder w ↦ rw (w.out-is, w.tally-is) (g.met.V.Visitor.laws.more
-          c.args.walk.now.visitor.now (g.O.Sink.device c.args.out.now) (g.O.Sink.device c.loop-name.out)
-          (g.O.Sink.device w.visit_folder.new.out) c.args.tally.now c.loop-name.tally w.visit_folder.new.tally
-          c.loop-name.invariant w.in_ok-visit_folder.ensures.told)
-    | else-levels-gt0+in_ok-visit_entry w ↦ rw (w.out-is, w.tally-is) (g.met.V.Visitor.laws.more
-          c.args.walk.now.visitor.now (g.O.Sink.device c.args.out.now) (g.O.Sink.device c.loop-name.out)
-          (g.O.Sink.device w.visit_entry.new.out) c.args.tally.now c.loop-name.tally w.visit_entry.new.tally
-          c.loop-name.invariant w.in_ok-visit_entry.ensures.told)
-    ]
+  | then-levels-gt0+then-eq-2+in_ok-visit_folder w ↦ rw (w.out-is, w.tally-is) (g.met.V.Visitor.laws.more
+      c.args.walk.now.visitor.now (g.O.Sink.device c.args.out.now) (g.O.Sink.device c.loop-name.out)
+      (g.O.Sink.device w.visit_folder.new.out) c.args.tally.now c.loop-name.tally w.visit_folder.new.tally
+      c.loop-name.invariant w.in_ok-visit_folder.ensures.told)
+  | else-levels-gt0+in_ok-visit_entry w ↦ rw (w.out-is, w.tally-is) (g.met.V.Visitor.laws.more
+      c.args.walk.now.visitor.now (g.O.Sink.device c.args.out.now) (g.O.Sink.device c.loop-name.out)
+      (g.O.Sink.device w.visit_entry.new.out) c.args.tally.now c.loop-name.tally w.visit_entry.new.tally
+      c.loop-name.invariant w.in_ok-visit_entry.ensures.told)
+]

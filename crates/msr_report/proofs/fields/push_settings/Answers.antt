@@ -9,5 +9,4 @@ joined old a b c d e one two three four five first second third fourth fifth =
 
 pub returns : goal.returns
 returns c = joined _ (codes "rate ") _ (codes " flags ") _ _ _ _ _ _ _ c.in_ok-push_str.ensures.bytes
-    c.in_ok-push_rate.ensures c.in_ok-push_str-2.ensures.bytes c.in_ok-push_flags.ensures
-    c.in_ok-push_timing.ensures
+    c.in_ok-push_rate.ensures c.in_ok-push_str-2.ensures.bytes c.in_ok-push_flags.ensures c.in_ok-push_timing.ensures

@@ -16,5 +16,4 @@ returns c =
     on_ok_weaker c.push_decimal.result
     (λ last. joined (string_bytes c.args.text.now) (codes " correction ") (signed_decimal c.args.key.now.correction)
     (codes " timing ") (decimal c.args.key.now.timing) _ _ _ _ c.in_ok-push_str.ensures.bytes
-    signed c.in_ok-push_str-2.ensures.bytes last)
-    c.push_decimal.ensures
+    signed c.in_ok-push_str-2.ensures.bytes last) c.push_decimal.ensures

@@ -6,8 +6,7 @@ use Rattle.msr_report.proofs.json.iso_string.Goals as goal
 pub returns : goal.returns
 returns c =
     let split : IsSplit c.args.t c.in-Some.time c.in-Some.micros = search rules in
-    IfOk-weaker c.iso_time_string.result _ _
-    (λ text is. record {
+    IfOk-weaker c.iso_time_string.result _ _ (λ text is. record {
       time = c.in-Some.time;
       micros = c.in-Some.micros;
       date = c.date.result;

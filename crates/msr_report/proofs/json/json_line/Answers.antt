@@ -10,8 +10,7 @@ returns c =
     let found = c.in-Some.ensures.found in
     let end = rw (to_z-of_z fits_last, found.2.1) at c.in_ok-end.ensures in
     let clock = rw (to_z-of_z fits_correction) at c.in_ok-clock.ensures in
-    IfOk-weaker c.format.result _ _
-    (λ line written. record {
+    IfOk-weaker c.format.result _ _ (λ line written. record {
       start_text = string_bytes c.in_ok-start.start;
       start = rw (to_z-of_z fits) at c.in_ok-start.ensures;
       last = found.0;
@@ -28,8 +27,7 @@ returns c =
         c.in_ok-settings.ensures,
         clock,
       ) at written;
-    })
-    c.format.ensures.ok
+    }) c.format.ensures.ok
 
 pub iso_string-requires : goal.iso_string-requires
 iso_string-requires c =

@@ -6,8 +6,7 @@ use Rattle.msr_report.proofs.lines.push_segment.Goals as goal
 pub returns : goal.returns
 returns c =
     let is_time = rw (instant_back c.args.line.now.start c.requires) at (c.in_ok-time.ensures) in
-    on_ok_weaker c.push_separators.result
-    (λ second. two_lines c.args.line.now
+    on_ok_weaker c.push_separators.result (λ second. two_lines c.args.line.now
     (string_bytes c.in_ok-time.time) c.as_str.result.now c.as_str-2.result.now c.args.out.now.items
     c.push_words.new.out.items c.push_separators.new.out.items c.deref.result.now is_time
     c.as_str.ensures.value (c.as_str-2.ensures.value

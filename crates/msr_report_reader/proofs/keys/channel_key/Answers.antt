@@ -1,4 +1,4 @@
-use Rattle.std.proofs.Common.{◌≡◌, ◌≢◌, ◌∙◌, ap, sym, to_z-of_z, FitsSigned, ◌++◌, ◌∷◌, codes, decimal, refl, rules, arith, Fits, w8, slice_index, List, ℕ, pos}
+use Rattle.std.proofs.Common.{◌≡◌, ◌≢◌, ◌∙◌, ap, sym, to_z-of_z, FitsSigned, ◌++◌, ◌∷◌, codes, decimal, refl, rules, List, ℕ, pos}
 use Rattle.std.specs.Int.{w16, w32}
 use Rattle.msr_time.specs.SampleRate.{SampleRate}
 use Rattle.msr_rows.specs.declared.row.Key.{Key}
@@ -100,22 +100,10 @@ returns-clause-is_key c =
     ap (λ (r : SampleRate). r.multiplier) c.in_ok-rate.ensures.1 ∙ to_z-of_z fits_multiplier in
     let fits_correction : FitsSigned w32 c.in_ok-correction.correction = search rules in
     record {
-      network = record {
-        many = search rules;
-        each = λ k. let f : Fits w8 (slice_index c.in_ok-name.name.network k) = search rules in omega (arith, f);
-      };
-      station = record {
-        many = search rules;
-        each = λ k. let f : Fits w8 (slice_index c.in_ok-name.name.station k) = search rules in omega (arith, f);
-      };
-      location = record {
-        many = search rules;
-        each = λ k. let f : Fits w8 (slice_index c.in_ok-name.name.location k) = search rules in omega (arith, f);
-      };
-      channel = record {
-        many = search rules;
-        each = λ k. let f : Fits w8 (slice_index c.in_ok-name.name.channel k) = search rules in omega (arith, f);
-      };
+      network = record { many = search rules; each = λ k. search rules };
+      station = record { many = search rules; each = λ k. search rules };
+      location = record { many = search rules; each = λ k. search rules };
+      channel = record { many = search rules; each = λ k. search rules };
       quality = c.in_ok-name.ensures.quality;
       factor = rw factor fits_factor;
       multiplier = rw multiplier fits_multiplier;

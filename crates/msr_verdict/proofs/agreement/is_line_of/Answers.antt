@@ -16,8 +16,7 @@ pub returns-then-line-row : goal.returns-then-line-row
 returns-then-line-row c =
     let look = c.in-Some.ensures.lookup in
     let at : slice_get c.args.report.now.segments.items c.args.place ≡ Some c.in-Some.line.now =
-    rw c.deref.ensures.value at
-    (slice_get-get_or c.deref.result.now c.args.place c.in-Some.line.now look.3.0
+    rw c.deref.ensures.value at (slice_get-get_or c.deref.result.now c.args.place c.in-Some.line.now look.3.0
     ∙ ap (λ (l : SegmentLine). Some l) (sym (look.3.1 c.in-Some.line.now))) in
     let many : c.len.result ≡ length c.in-Some.line.now.separators.items = search rules in
     let fits : FitsSigned w64 c.in-Some.line.now.start = search rules in
@@ -36,8 +35,7 @@ pub returns-else-line-row : goal.returns-else-line-row
 returns-else-line-row c =
     let look = c.in-Some.ensures.lookup in
     let at : slice_get c.args.report.now.segments.items c.args.place ≡ Some c.in-Some.line.now =
-    rw c.deref.ensures.value at
-    (slice_get-get_or c.deref.result.now c.args.place c.in-Some.line.now look.3.0
+    rw c.deref.ensures.value at (slice_get-get_or c.deref.result.now c.args.place c.in-Some.line.now look.3.0
     ∙ ap (λ (l : SegmentLine). Some l) (sym (look.3.1 c.in-Some.line.now))) in
     tests_line c.args.report.now.segments.items c.args.place c.args.row.now.key c.args.row.now.start c.in-Some.line.now _ at (
       λ t. absurd (both_ways c.if-eq.value c.if-line-row.false t),

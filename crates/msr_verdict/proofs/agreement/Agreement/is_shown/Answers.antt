@@ -13,8 +13,7 @@ pub returns-clause-shown : goal.returns-clause-shown
 returns-clause-shown c segment runs =
     let look = c.in-Some.ensures.lookup in
     let at : slice_get c.args.report.now.segments.items c.self.inside.place ≡ Some c.in-Some.line.now =
-    rw c.deref.ensures.value at
-    (slice_get-get_or c.deref.result.now c.self.inside.place c.in-Some.line.now look.3.0
+    rw c.deref.ensures.value at (slice_get-get_or c.deref.result.now c.self.inside.place c.in-Some.line.now look.3.0
     ∙ ap (λ (l : SegmentLine). Some l) (sym (look.3.1 c.in-Some.line.now))) in
     let exact = rw (c.as_slice.ensures.value, c.form_by.ensures) at (c.shows_least.ensures.exact segment.samples runs) in
     rw (← c.self.view_is) (λ is judges. shown_at
