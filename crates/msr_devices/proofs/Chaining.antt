@@ -1,9 +1,12 @@
 -- Calls one after another on one device.
-use Rattle.std.proofs.Common.{[], Option, None, Some, refl, inl, inr, ◌⊎◌, ◌≡◌, ℕ, ◌+◌, ◌-◌, ◌<◌, ◌≤◌, List, ◌++◌, length, take, drop, sym, ap, ◌∙◌, append_assoc, arith, length-drop, length-take, length-append}
+use Rattle.std.proofs.Common.{[], Option, None, Some, refl, inl, inr, ◌⊎◌, ◌≡◌, ℕ, ◌+◌, ◌-◌, ◌^◌, ◌<◌, ◌≤◌, List, ◌++◌, length, take, drop, sym, ap, ◌∙◌, append_assoc, arith, length-drop, length-take, length-append}
 use Rattle.std.proofs.lemmas.Bool.{cases_lt}
 use Rattle.std.proofs.Math.Seq.{take-append-add, take-add}
-use Rattle.std.proofs.lemmas.List.{append-nil, length-take-le, take-append-le, take_all}
+use Rattle.std.proofs.lemmas.List.{append-nil, length-take-le, take-append-drop, take-append-le, take_all}
+use Rattle.std.proofs.lemmas.List.Edits.{take-paste}
+use Rattle.std.specs.List.{copy_within}
 use Rattle.msr_devices.specs.Device.{Device, HasLeft, Gives, GivesOnto, Takes, Moves, HasFailed, IsCalm, IsSteady, CountsFew, CanCountCall}
+use Rattle.msr_devices.specs.WriteBuffer.{Passes}
 
 pub gives_append : (a b c : Device) (xs ys : List ℕ) → Gives a b xs → Gives b c ys → Gives a c (xs ++ ys)
 gives_append a b c xs ys first second = record {
@@ -40,11 +43,10 @@ pub take_part : (a n : ℕ) (xs ys post : List ℕ) → a ≤ length xs → n �
     → take (a + n) (take a xs ++ (ys ++ post)) ≡ take a xs ++ take n ys
 take_part a n xs ys post within fits =
     ap (λ (m : ℕ). take (m + n) (take a xs ++ (ys ++ post))) (sym (length-take-le a xs within))
-    ∙ take-append-add (take a xs) (ys ++ post) n
-    ∙ ap (λ (t : List ℕ). take a xs ++ t) (take-append-le n ys post fits)
+    ∙ take-append-add (take a xs) (ys ++ post) n ∙ ap (λ (t : List ℕ). take a xs ++ t) (take-append-le n ys post fits)
 
 -- the prefix of a buffer that was written after it
-pub take_kept : (a : ℕ) (xs zs : List ℕ) → a ≤ length xs → take a (take a xs ++ zs) ≡ take a xs
+take_kept : (a : ℕ) (xs zs : List ℕ) → a ≤ length xs → take a (take a xs ++ zs) ≡ take a xs
 take_kept a xs zs within =
     let front : length (take a xs) ≡ a = omega (arith, length-take a xs) in
     take-append-le a (take a xs) zs (omega arith) ∙ take_all a (take a xs) (omega arith)
@@ -55,14 +57,40 @@ take_more a n xs =
     take-add a n xs ∙ ap (λ (t : List ℕ). take a xs ++ take n t)
     (sym (take_all (length xs - a) (drop a xs) (omega (arith, length-drop a xs))))
 
+-- what stands there after a read of no bytes
+pub kept_onto : (a b c : Device) (at : ℕ) (base room more : List ℕ) → at ≤ length room
+    → GivesOnto a b base (take at room) → Gives b c [] → c.moved ≡ b.moved → GivesOnto a c base (take at (take at room ++ more))
+kept_onto a b c at base room more within onto came still =
+    rw (take_kept at room more within)
+    (onto_more a b c base _ _ [] 0 onto came refl (omega (arith, still)) (sym (append-nil _)))
+
+-- what was not written waits
+pub passes_rest : (a b : Device) (n len : ℕ) (items written : List ℕ) → written ≡ items → length written ≡ len
+    → n ≤ length written → Takes a b (take n written) → b.moved ≡ a.moved + n → (0 < n → b.moved < 2 ^ 64)
+    → Passes a b items [] (take (len - n) (copy_within items n len 0))
+passes_rest a b n len items written same all within takes moved short =
+    let size = length-take-le n written within in
+    let left = len - n in
+    let fits : length items ≡ length written = ap length (sym same) in
+    let rest = length-drop n items in
+    let back : take left (copy_within items n len 0) ≡ drop n items =
+    ap (λ (k : ℕ). take k (copy_within items n len 0)) (let h : left ≡ 0 + left = omega arith in h)
+    ∙ take-paste items 0 (drop n items) left (omega arith) (omega arith) ∙ take_all left (drop n items) (omega arith) in
+    record {
+      taken = take n written;
+      takes = takes;
+      whole = append-nil items ∙ sym (rw (back, same) (take-append-drop n items));
+      moved = omega arith;
+      short = λ more. short (omega arith);
+    }
+
 -- a source has some bytes left
-some_left : (bytes : Option (List ℕ)) (moved failures interruptions : ℕ)
-    → (rest : List ℕ) × HasLeft (record {
-      bytes = bytes;
-      moved = moved;
-      failures = failures;
-      interruptions = interruptions;
-    }) rest
+some_left : (bytes : Option (List ℕ)) (moved failures interruptions : ℕ) → (rest : List ℕ) × HasLeft (record {
+  bytes = bytes;
+  moved = moved;
+  failures = failures;
+  interruptions = interruptions;
+}) rest
 some_left None moved failures interruptions = ([], tt)
 some_left (Some rest) moved failures interruptions = (rest, refl)
 

@@ -1,10 +1,10 @@
 -- The first bytes of what a reader has left.
-use Rattle.std.proofs.Common.{◌≡◌, ℕ, ◌+◌, ◌-◌, ◌^◌, ◌<◌, ◌≤◌, List, [], ◌++◌, ◌∙◌, length, take, Option, None, Some, arith, ap, refl, Ok, IfSome, length-take, length-append}
+use Rattle.std.proofs.Common.{◌≡◌, ℕ, ◌+◌, ◌-◌, ◌^◌, ◌<◌, ◌≤◌, List, [], ◌++◌, ◌∙◌, length, take, Option, None, Some, arith, ap, refl, Ok, IfSome, take-take, length-take, length-append}
 use Rattle.std.proofs.lemmas.List.{take_all, take-append-le}
 use Rattle.std.proofs.Math.Seq.{take-append-add}
 use Rattle.std.specs.Option.{option_map}
-use Rattle.std.specs.Io.KnownBytes.{Consumes, IsAtEnd}
-use Rattle.msr_devices.specs.Device.{Gives, Reads}
+use Rattle.std.specs.Io.KnownBytes.{Appends, Consumes, IsAtEnd}
+use Rattle.msr_devices.specs.Device.{Gives, Reads, Writes}
 
 pub limited_gives : (old new : Option (List ℕ)) (given f f' i i' : ℕ) (xs : List ℕ) → Consumes old new xs
     → given + length xs ≤ 2 ^ 64 - 1 →
@@ -60,4 +60,27 @@ reads_limited old new given f i n part back fits consumed end small room =
           (rw size at (limited_gives old new given f f i 0 (take n part) consumed few));
       end = λ zero some. at_end new (given + n) (end zero (room some));
       counts = record { moved = refl; failures = refl; interruptions = refl };
+    }
+
+appended : (old new : Option (List ℕ)) (more before : List ℕ) → Appends old new more → old ≡ Some before
+    → new ≡ Some (before ++ more)
+appended None new more before grown known = cc
+appended (Some xs) None more before grown known = absurd grown
+appended (Some xs) (Some ys) more before grown known = cc
+
+-- a write to a writer of a buffer's first bytes
+pub writes_limited : (old new : Option (List ℕ)) (given f i n most : ℕ) (buffer : List ℕ)
+    → n ≤ length (take most buffer) → Appends old new (take n (take most buffer)) → (n ≡ 0 → length buffer ≤ 0) →
+    Writes (record { bytes = old; moved = given; failures = f; interruptions = i })
+    (record { bytes = new; moved = given + n; failures = f; interruptions = 0 }) (Ok n) buffer
+writes_limited old new given f i n most buffer fits grown some =
+    let part = length-take most buffer in
+    record {
+      within = omega arith;
+      bytes = record {
+        back = λ before h. rw (← take-take n most buffer (omega arith)) (appended old new _ before grown h);
+      };
+      counts = λ more. record { moved = refl; failures = refl; interruptions = refl };
+      empty = λ zero none. record { moved = omega arith; failures = refl; interruptions = refl };
+      refused = λ zero more. absurd (omega (arith, some zero));
     }

@@ -11,8 +11,7 @@ loop-written-preserved g c = record {
   within = omega (
     arith,
     c.in-Ok.ensures.within,
-    length-take (length c.args.buf.now - c.loop-written.written)
-        (drop c.loop-written.written c.args.buf.now),
+    length-take (length c.args.buf.now - c.loop-written.written) (drop c.loop-written.written c.args.buf.now),
     length-drop c.loop-written.written c.args.buf.now,
   );
   calm = calm_moves _ _ _ c.in-Ok.n c.loop-written.invariant.calm c.in-Ok.ensures.moves c.in-Ok.ensures.some;
