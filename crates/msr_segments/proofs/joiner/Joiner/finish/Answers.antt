@@ -16,3 +16,6 @@ returns-clause-none c =
           let both : ◌≡◌ {A = Option Segment} None (Some (segment_at c.self.inside.samples c.in_ok-span.span)) =
           sym ended ∙ last in absurd cc,
     )
+
+pub returns-in_err-span-clause-value : goal.returns-in_err-span-clause-value
+returns-in_err-span-clause-value c = search rules
