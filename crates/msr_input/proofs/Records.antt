@@ -80,8 +80,7 @@ few_records [] input rest b = omega arith
 few_records (x ∷ xs) input rest b = omega (
   arith,
   (record_fits input x b.0).0,
-  few_records xs
-      (drop x.length input) rest b.1,
+  few_records xs (drop x.length input) rest b.1,
 )
 
 -- the one of two lists of an input's records goes on where the other stops

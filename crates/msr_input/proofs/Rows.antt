@@ -116,8 +116,7 @@ follow_stops s a reading records answers found (fault.Input f) has is agrees sto
     let at = stands_so reading.following (rows_of_records records) answers has.followed in
     let same = same_tolerance reading.following (rows_of_records records) at in
     let over : OverrunsWith (following_of at.joining) found.row =
-    subst (λ (f : Following). OverrunsWith f found.row) at.stands
-    (overruns_row reading.following found.row stop.2) in
+    subst (λ (f : Following). OverrunsWith f found.row) at.stands (overruns_row reading.following found.row stop.2) in
     let none = subst (λ (t : ℕ). NoneOverruns t records) same has.in_range in
     let begun-at = subst (λ (t : ℕ). HaveBegun t records given) same begun in
     let stops = overrun_stops s a reading.position at.joining records at.given given found f has.came none
@@ -319,8 +318,7 @@ outline_told_so s a bytes reading records answers found (Some row) (Some answer)
 pub outline_told : (s a : Device) (position : Position) (reading : RowReading) (records : List Record)
     (answers : List Step) (outline : Outline) (found : Record) (step : Option Step) (next : NextOutline)
     → IsNext position outline found → next_outline step outline.row ≡ Some next
-    → ReadsOn s a reading records answers (next_row step found.row)
-    → ReadsOutline s a reading records answers next
+    → ReadsOn s a reading records answers (next_row step found.row) → ReadsOutline s a reading records answers next
 outline_told s a position reading records answers outline found step next given told reads =
     let same = ap (λ (o : Outline). next_outline step o.row) given.outline_is in
     outline_told_so s a position.waiting reading records answers found found.row step next given.is_record refl

@@ -60,8 +60,7 @@ held_refused : (strict : Bool) (bytes rest : List ℕ) (kind : FaultKind) → Ho
     → IsRefusedAlone strict bytes kind → IsRefusedAlone strict (bytes ++ rest) kind
 held_refused strict bytes rest kind holds refused =
     let within = (header_sound bytes holds.0 holds.1).within in
-    alone_same strict bytes (bytes ++ rest) kind
-    (own_same bytes (bytes ++ rest) holds.0 holds.1
+    alone_same strict bytes (bytes ++ rest) kind (own_same bytes (bytes ++ rest) holds.0 holds.1
     (take-append-le (2 ^ holds.0.exponent) bytes rest within)) refused
 
 header_some : (bytes : List ℕ) (reason : HeaderFault) (ended : Bool) → (ended ≡ true → 0 < length bytes)

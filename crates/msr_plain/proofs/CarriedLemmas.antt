@@ -78,8 +78,7 @@ pub length-bytes_of_all : (width : Width) (xs : List ℤ) → length (bytes_of_a
 length-bytes_of_all width [] = omega arith
 length-bytes_of_all width (x ∷ xs) = omega (
   arith,
-  length-append (bytes_of width x)
-      (bytes_of_all width xs),
+  length-append (bytes_of width x) (bytes_of_all width xs),
   length-bytes_of width x,
   length-bytes_of_all width xs,
 )
@@ -106,12 +105,10 @@ one_more width samples old area place a x at within room same is =
     let next : drop (size_of width) (drop (size_of width * place) old) ≡ drop (size_of width * (place + 1)) old =
     drop-drop (size_of width) (size_of width * place) old ∙ ap (λ n. drop n old) (omega arith) in
     let all : bytes_of_all width (take (place + 1) samples) ≡ front ++ new =
-    ap (bytes_of_all width) (take_more samples place (pos 0) within
-    ∙ ap (λ y. take place samples ++ y ∷ [])
+    ap (bytes_of_all width) (take_more samples place (pos 0) within ∙ ap (λ y. take place samples ++ y ∷ [])
     (sym same)) ∙ flat_map-append (bytes_of width) (take place samples) (x ∷ []) ∙ ap (λ l. front
     ++ l) (append-nil new) in
-    rw (left, mid, none, next, all) (ap (λ l. front ++ l)
-    (append-nil (new ++ drop (size_of width * (place + 1)) old))
+    rw (left, mid, none, next, all) (ap (λ l. front ++ l) (append-nil (new ++ drop (size_of width * (place + 1)) old))
     ∙ sym (append_assoc front new (drop (size_of width * (place + 1)) old)))
 
 pub carried : (width : Width) (area : List ℕ) (xs : List ℤ) (rest : List ℕ) → All (FitsWidth width) xs

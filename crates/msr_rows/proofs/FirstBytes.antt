@@ -143,10 +143,8 @@ record_same xs ys found s p = same_parts xs ys found.length found.row found.reve
 
 -- and what they say of the reverse constant
 reverse_parts : (xs ys : List ℕ) (h : Header) (row : Option Row) (agrees : Bool) → SameRecord xs ys
-    → header_of xs ≡ Ok h
-    → IfNone row ((h.samples ≡ 0) × IsTrue agrees) → IfSome row (IsRowOf xs)
-    → IfSome row (λ row. IsTrue agrees ↔ AgreesAtEnd xs row)
-    → HasReverse ys agrees
+    → header_of xs ≡ Ok h → IfNone row ((h.samples ≡ 0) × IsTrue agrees) → IfSome row (IsRowOf xs)
+    → IfSome row (λ row. IsTrue agrees ↔ AgreesAtEnd xs row) → HasReverse ys agrees
 reverse_parts xs ys h None agrees s read empty is_row at_end =
     record { header = h; read = s.header ∙ read; row = None; empty = empty; is_row = tt; agrees_at_end = tt }
 reverse_parts xs ys h (Some row) agrees s read empty is_row at_end = record {

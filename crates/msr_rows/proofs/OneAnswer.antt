@@ -124,10 +124,8 @@ pub one_row : (bytes : List ℕ) (row other : Row) → IsRowOf bytes row → IsR
 one_row bytes row other p q =
     let same = kind_one bytes p.header q.header row.kind other.kind p.has_area q.has_area in
     let count = p.count ∙ ap (λ (h : Header). h.samples) same.0 ∙ sym q.count in
-    rows_equal row other
-    (p.key_is ∙ ap (λ (h : Header). key_of h) same.0 ∙ sym q.key_is)
-    (p.start_is ∙ ap (λ (h : Header). start_of h) same.0 ∙ sym q.start_is)
-    same.1
+    rows_equal row other (p.key_is ∙ ap (λ (h : Header). key_of h) same.0 ∙ sym q.key_is)
+    (p.start_is ∙ ap (λ (h : Header). start_of h) same.0 ∙ sym q.start_is) same.1
     (samples_one (storage_of other.kind) q.header.data_order (data_area q.header bytes) row.samples other.samples
     (carried_by bytes p.header q.header row.kind other.kind row.samples same.0 same.1 p.carried) q.carried count)
 
@@ -269,8 +267,7 @@ one_record_by bytes n m (Some row) None a b p q =
 one_record_by bytes n m (Some row) (Some other) a b p q =
     let same = one_row bytes row other p.row q.row in (
       ap (λ (r : Row). Some r) same,
-      bool_one a b (λ t. q.agrees.1 (rw same at (p.agrees.0 t)))
-          (λ t. p.agrees.1 (rw (← same) at (q.agrees.0 t))),
+      bool_one a b (λ t. q.agrees.1 (rw same at (p.agrees.0 t))) (λ t. p.agrees.1 (rw (← same) at (q.agrees.0 t))),
     )
 
 pub one_record : (bytes : List ℕ) (found other : Record) → IsRecordOf bytes found → IsRecordOf bytes other
@@ -284,12 +281,10 @@ one_record bytes found other p q =
 
 -- what the bytes say of the reverse constant, by the row that they begin with
 reverse_one_by : (bytes : List ℕ) (g h : Header) (o u : Option Row) (a b : Bool) → header_of bytes ≡ Ok g
-    → header_of bytes ≡ Ok h
-    → IfNone o ((g.samples ≡ 0) × IsTrue a) → IfSome o (IsRowOf bytes)
+    → header_of bytes ≡ Ok h → IfNone o ((g.samples ≡ 0) × IsTrue a) → IfSome o (IsRowOf bytes)
     → IfSome o (λ row. IsTrue a ↔ AgreesAtEnd bytes row)
     → IfNone u ((h.samples ≡ 0) × IsTrue b) → IfSome u (IsRowOf bytes)
-    → IfSome u (λ row. IsTrue b ↔ AgreesAtEnd bytes row)
-    → a ≡ b
+    → IfSome u (λ row. IsTrue b ↔ AgreesAtEnd bytes row) → a ≡ b
 reverse_one_by bytes g h None None a b p q none r s empty u v = none.1 ∙ sym empty.1
 reverse_one_by bytes g h None (Some row) a b p q none r s empty u v =
     absurd (no_samples bytes g u.header p none.0 u.has_area.has_samples)

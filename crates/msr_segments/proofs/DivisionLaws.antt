@@ -83,8 +83,7 @@ one_list tolerance rows segments others a b =
     a.each ∙ ap (map segment_of) (one_division tolerance rows a.parts b.parts a.division b.division) ∙ sym b.each
 
 -- neighbours of a mapped list are those of the list
-map_split : (f : Part → Segment) (xs before after : List Part) (p n : Part)
-    → map f xs ≡ map f (before ++ p ∷ n ∷ after)
+map_split : (f : Part → Segment) (xs before after : List Part) (p n : Part) → map f xs ≡ map f (before ++ p ∷ n ∷ after)
     → (b a : List Part) × (p' n' : Part) × (xs ≡ b ++ p' ∷ n' ∷ a) × (f p' ≡ f p) × (f n' ≡ f n)
 map_split f [] [] after p n e = absurd (no_empty [] (map f (n ∷ after)) (f p) e)
 map_split f [] (b ∷ before) after p n e = absurd (no_empty [] (map f (before ++ p ∷ n ∷ after)) (f b) e)

@@ -75,8 +75,7 @@ steps_longer parts p row =
     ∙ ap (λ (s : List Step). flat_map steps_of parts ++ s)
     (ap (λ (s : List Step). s ++ Joins ∷ []) (append-nil (steps_of p))
     ∙ ap (λ (s : List Step). Begins ∷ s) (sym (map-append (λ (r : Row). Joins) p.1 (row ∷ [])))
-    ∙ sym (append-nil (steps_of (longer_part p row))))
-    ∙ sym (flat_map-append steps_of parts (longer_part p row ∷ []))
+    ∙ sym (append-nil (steps_of (longer_part p row)))) ∙ sym (flat_map-append steps_of parts (longer_part p row ∷ []))
 
 followed_joins : (old : Following) (rows : List Row) (parts : List Part) (last : Option Part) (answers : List Step)
     (row : Row) (segment : Span) → IsDivision old.tolerance rows (parts ++ option_to_list last)

@@ -69,10 +69,8 @@ counted_joins old new samples more row counted k e span is =
     let after = ap (λ (f : Following). f.current) k.after in
     let some : Some span ≡ Some (longer k.segment (row_span row)) = sym is ∙ after in
     let same : span ≡ longer k.segment (row_span row) = cc in
-    ap (λ (s : Span). s.count) same
-    ∙ ap (λ (n : ℕ). n + length row.samples) (counted k.segment k.current)
-    ∙ sym (length-append samples row.samples)
-    ∙ ap length (sym e)
+    ap (λ (s : Span). s.count) same ∙ ap (λ (n : ℕ). n + length row.samples) (counted k.segment k.current)
+    ∙ sym (length-append samples row.samples) ∙ ap length (sym e)
 
 -- what a joiner shows once its follower and its samples have moved on
 pub moved_joins : (old new : Following) (samples more : List ℤ) (row : Row) → IsCounted old.current samples
@@ -85,16 +83,14 @@ moved_joins old new samples more row counted k e =
       segment = segment_at samples k.segment;
       current = ap (option_map (segment_at samples)) k.current;
       continues = subst (λ (s : Span). Continues old.tolerance s (row_span row)) (sym at) k.continues;
-      in_time = subst (λ (s : Span). SpanIsInTime s)
-          (sym (span_with_row (segment_at samples k.segment) row
+      in_time = subst (λ (s : Span). SpanIsInTime s) (sym (span_with_row (segment_at samples k.segment) row
           ∙ ap (λ (s : Span). longer s (row_span row)) at)) k.in_time;
       none = refl;
       after = rw (k.after, e) refl;
     }
 
 -- the span of the segment that a joiner shows
-current_at : (samples : List ℤ) (current : Option Span) (s : Segment)
-    → option_map (segment_at samples) current ≡ Some s
+current_at : (samples : List ℤ) (current : Option Span) (s : Segment) → option_map (segment_at samples) current ≡ Some s
     → (span : Span) × (current ≡ Some span) × (s ≡ segment_at samples span)
 current_at samples None s e = absurd cc
 current_at samples (Some span) s e = let same : s ≡ segment_at samples span = cc in (span, refl, same)

@@ -137,8 +137,7 @@ ends_overrun tolerance None rows given row a begun time out =
 ends_overrun tolerance (Some s) rows given row a begun time out =
     elim (continues_or_not tolerance (segment_span s) (row_span row)) [
       | inl k ↦
-          let same = last_same given out.segments (with_row s row) out.last
-          (one_list tolerance (rows ++ row ∷ []) _ _
+          let same = last_same given out.segments (with_row s row) out.last (one_list tolerance (rows ++ row ∷ []) _ _
           (segments_join tolerance rows given s row a k) out.are_segments) in
           record {
             segment = segment_span s;
@@ -154,6 +153,5 @@ ends_overrun tolerance (Some s) rows given row a begun time out =
 pub overruns_out : OverrunsAreOutOfRange
 overruns_out joining rows given row h time = (
   overruns_end joining rows given row h,
-  ends_overrun joining.tolerance joining.current rows given row
-      h.segments h.begun time,
+  ends_overrun joining.tolerance joining.current rows given row h.segments h.begun time,
 )

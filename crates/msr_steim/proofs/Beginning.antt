@@ -69,8 +69,7 @@ held_in_order version order area groups (suc words) held within =
 -- ---- what the first difference is added to
 
 pub first_part : (first before : ℤ) (group rest all : List ℤ) → all ≡ group ++ rest
-    → samples_of first all ≡ sums_after before all
-    → samples_of first group ≡ sums_after before group
+    → samples_of first all ≡ sums_after before all → samples_of first group ≡ sums_after before group
 first_part first before [] rest all same begins = refl
 first_part first before (d ∷ ds) rest all same begins =
     let so : samples_of first (d ∷ (ds ++ rest)) ≡ sums_after before (d ∷ (ds ++ rest)) =
@@ -93,23 +92,19 @@ none_before version order area count number samples read none =
     ∙ ap (differences_from version order area) read.number_is
 
 pub begins_here : (version : Version) (order : Order) (area : List ℕ) (count number : ℕ) (samples group : List ℤ)
-    (last : ℤ)
-    → AreReadBelow version order area count number (constant order area 1) samples → length samples ≡ 0
+    (last : ℤ) → AreReadBelow version order area count number (constant order area 1) samples → length samples ≡ 0
     → BeginsAfter version order area last → number < word_count area → WordHolds version order area number group
     → samples_of (constant order area 1) group ≡ sums_after last group
 begins_here version order area count number samples group last read none begins within here =
     first_part (constant order area 1) last group (differences_from version order area (number + 1))
-    (differences_from version order area 0)
-    (none_before version order area count number samples read none
+    (differences_from version order area 0) (none_before version order area count number samples read none
     ∙ one_group version order area number group within here) begins.sums
 
 -- the first samples begin after it, the others after the one before
 pub starts_here : (version : Version) (order : Order) (area : List ℕ) (number code word : ℕ) (at : Progress) (out : List ℤ)
-    → IsReached version order area number at out
-    → (at.place ≡ 0 → BeginsAfter version order area at.last)
+    → IsReached version order area number at out → (at.place ≡ 0 → BeginsAfter version order area at.last)
     → number < word_count area → code ≡ code_of order area number
-    → word ≡ arranged_word version order code area number
-    → IsStart version code word (constant order area 1) at at
+    → word ≡ arranged_word version order code area number → IsStart version code word (constant order area 1) at at
 starts_here version order area number code word at out reached begins within code_is word_is = record {
   place = refl;
   kept = λ some. refl;
@@ -121,22 +116,19 @@ starts_here version order area number code word at out reached begins within cod
 
 -- as long as no sample was written, the next word begins after the same number
 pub begins_on : (version : Version) (order : Order) (area : List ℕ) (at next : Progress)
-    → (next ≡ at) ⊎ (at.place < next.place)
-    → (at.place ≡ 0 → BeginsAfter version order area at.last)
+    → (next ≡ at) ⊎ (at.place < next.place) → (at.place ≡ 0 → BeginsAfter version order area at.last)
     → next.place ≡ 0 → BeginsAfter version order area next.last
 begins_on version order area at next on begins none =
     ⊎_elim
     (λ (same : next ≡ at). subst (λ (p : Progress). BeginsAfter version order area p.last) (sym same)
     (begins (sym (ap (λ (p : Progress). p.place) same) ∙ none)))
-    (λ (more : at.place < next.place). absurd (omega (arith, more, none)))
-    on
+    (λ (more : at.place < next.place). absurd (omega (arith, more, none))) on
 
 -- ---- where the samples end
 
 -- a word that reaches the end was written up to the end
 pub end_reached : (version : Version) (code word : ℕ) (at next : Progress) (old new : List ℤ)
-    → ReachesEnd version code word at.place (length old)
-    → IsWritten version code word at old new next
+    → ReachesEnd version code word at.place (length old) → IsWritten version code word at old new next
     → at.place < length old → length new ≡ length old → next.place ≡ length new
 end_reached version code word at next old new ends written room same =
     let reaches : length old ≤ at.place + length written.group = ends.reaches written.group written.holds in
@@ -157,8 +149,7 @@ end_reached version code word at next old new ends written room same =
 
 -- the highest bits are the code of the next word
 pub code_here : (order : Order) (area : List ℕ) (frame slot codes : ℕ) → 1 ≤ slot → slot < 16
-    → 3 ≤ 16 * frame + slot
-    → codes ≡ whole_word order area (16 * frame) * 2 ^ (2 * slot) % 4294967296
+    → 3 ≤ 16 * frame + slot → codes ≡ whole_word order area (16 * frame) * 2 ^ (2 * slot) % 4294967296
     → codes / 1073741824 ≡ code_of order area (16 * frame + slot)
 code_here order area frame slot codes some small late same =
     let word = whole_word order area (16 * frame) in
@@ -175,8 +166,7 @@ codes_by codes word slot words same =
     let product : word * 2 ^ (2 * slot) * 2 ^ (2 * words) ≡ word * 2 ^ (2 * (slot + words)) =
     mul_assoc word (2 ^ (2 * slot)) (2 ^ (2 * words)) ∙ ap (λ n. word * n) (sym power) in
     ap (λ n. n * 2 ^ (2 * words) % 4294967296) same
-    ∙ mul-mod_first (word * 2 ^ (2 * slot)) (2 ^ (2 * words)) 4294967296
-    ∙ ap (λ n. n % 4294967296) product
+    ∙ mul-mod_first (word * 2 ^ (2 * slot)) (2 ^ (2 * words)) 4294967296 ∙ ap (λ n. n % 4294967296) product
 
 -- by that of one
 pub codes_on : (codes word slot : ℕ) → codes ≡ word * 2 ^ (2 * slot) % 4294967296

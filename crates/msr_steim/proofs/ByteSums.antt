@@ -108,8 +108,7 @@ last_of_sums ds at old new next written some room =
     ∙ ap (λ i. get_or (at.last ∷ sums_after at.last ds) i (pos 0)) one
 
 pub both_written : (ds es : List ℤ) (at : Progress) (old new : List ℤ) (half : Progress) (newer : List ℤ) (next : Progress)
-    → 0 < length ds → at.place ≤ length old
-    → AreSumsWritten ds at old new half → AreSumsWritten es half new newer next
+    → 0 < length ds → at.place ≤ length old → AreSumsWritten ds at old new half → AreSumsWritten es half new newer next
     → AreSumsWritten (ds ++ es) at old newer next
 both_written ds es at old new half newer next some room first second = record {
   place = omega (arith, first.place, second.place, length-append ds es);

@@ -40,8 +40,7 @@ undefined_alone version code word n size ends =
 
 -- its samples stand at the first places
 alone : (version : Version) (code word : ℕ) (at next : Progress) (old new : List ℤ) → at.place ≡ 0
-    → length new ≡ length old
-    → (inner : IsInnerWritten version code word at old new next)
+    → length new ≡ length old → (inner : IsInnerWritten version code word at old new next)
     → take next.place new ≡ sums_after at.last inner.written.group
 alone version code word at next old new zeroth same inner =
     let sums = sums_after at.last inner.written.group in
@@ -122,8 +121,7 @@ take_first (suc m) (suc n) [] few = refl
 take_first (suc m) (suc n) (x ∷ xs) few = ap (λ ys. x ∷ ys) (take_first m n xs (omega (arith, few)))
 
 module _ (version : Version) (order : Order) (area : List ℕ) (number count left code word : ℕ) (at next : Progress)
-    (old new : List ℤ)
-    (passed : ArePassed version order area number count left at.last)
+    (old new : List ℤ) (passed : ArePassed version order area number count left at.last)
     (looked : IsLookedAt version order area number code word at next old new) where
   abbrev group : List ℤ
   group = looked.inner.written.group
@@ -175,8 +173,7 @@ module _ (version : Version) (order : Order) (area : List ℕ) (number count lef
   last_of_all : 0 < length all → next.last ≡ get_or all (length all - 1) (pos 0)
   last_of_all some =
       ⊎_elim (λ (same : next ≡ at). last_kept same some)
-      (λ (more : at.place < next.place). last_new (omega (arith, more)))
-      looked.inner.on
+      (λ (more : at.place < next.place). last_new (omega (arith, more))) looked.inner.on
 
   begins_of_all : length all ≡ 0 → BeginsAfter version order area next.last
   begins_of_all none =
@@ -214,8 +211,7 @@ module _ (version : Version) (order : Order) (area : List ℕ) (number count lef
         passed.left_is,
         passed.read.few,
         ap length passed.read.sums,
-        length-samples_of
-            (constant order area 1) (differences passed.read.groups),
+        length-samples_of (constant order area 1) (differences passed.read.groups),
       ) in
       let some : 0 < length last =
       omega (arith, few, ap length last_is, length-take left new, enough, looked.inner.room, looked.same) in

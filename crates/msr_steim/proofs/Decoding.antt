@@ -10,8 +10,7 @@ use Rattle.msr_base.specs.declared.order.Order.{Order}
 use Rattle.msr_kinds.specs.declared.storage.Version.{Version}
 use Rattle.msr_steim.specs.Area.{CarriesSteim, FirstWordsHold, WordHolds, constant, differences, samples_of, sums_after, word_count}
 
-pub sums_after_push : (x : ℤ) (es : List ℤ) (d : ℤ)
-    → sums_after x (es ++ d ∷ []) ≡ sums_after x es
+pub sums_after_push : (x : ℤ) (es : List ℤ) (d : ℤ) → sums_after x (es ++ d ∷ []) ≡ sums_after x es
     ++ int_wrap w32 (get_or (x ∷ sums_after x es) (length (sums_after x es)) (pos 0) +ℤ d) ∷ []
 sums_after_push x [] d = refl
 sums_after_push x (e ∷ es) d = ap (λ s. int_wrap w32 (x +ℤ e) ∷ s) (sums_after_push (int_wrap w32 (x +ℤ e)) es d)
@@ -48,8 +47,7 @@ one_more_held version order area groups group held within here = record {
         (λ (lt : n < length groups). rw (get_or-append groups (group ∷ []) [] n lt) (held.each n lt))
         (λ (le : length groups ≤ n). let e : length groups ≡ n = omega arith in
         subst (λ m. WordHolds version order area m (get_or (groups ++ group ∷ []) m [])) e
-        (rw (get_or-append_seam groups group [] []) here))
-        (cases_lt n (length groups))
+        (rw (get_or-append_seam groups group [] []) here)) (cases_lt n (length groups))
 
 pub differences_push : (groups : List (List ℤ)) (group : List ℤ)
     → differences (groups ++ group ∷ []) ≡ differences groups ++ group

@@ -167,8 +167,7 @@ digit_at b n (d ∷ ds) zero all within =
     let places : length (d ∷ ds) - 1 - 0 ≡ length ds = omega arith in
     let few : number_from_digits b ds < b ^ length ds = number_lt b ds all.1 in
     ap (λ k. number_from_digits_after b (n * b + d) ds / b ^ k % b) places
-    ∙ ap (λ x. x / b ^ length ds % b) (number_after b (n * b + d) ds)
-    ∙ ap (λ x. x % b) (digits_div (n * b + d) few)
+    ∙ ap (λ x. x / b ^ length ds % b) (number_after b (n * b + d) ds) ∙ ap (λ x. x % b) (digits_div (n * b + d) few)
     ∙ digits_mod n all.0
 digit_at b n (d ∷ ds) (suc i) all within =
     let places : length (d ∷ ds) - 1 - suc i ≡ length ds - 1 - i = omega arith in
@@ -313,8 +312,7 @@ read_none Two = refl
 
 held_here : (version : Version) (gs : List (List ℤ)) (number code word : ℕ) → AreGroups version gs
     → code ≡ code_in version gs number → ((ltb number 3 || eqb (number % 16) 0) ≡ false
-    → word ≡ group_word version (group_in gs number))
-    → Holds version code word (as_read version (group_in gs number))
+    → word ≡ group_word version (group_in gs number)) → Holds version code word (as_read version (group_in gs number))
 held_here version gs number code word are code_so word_so =
     ⊎_elim
     (λ (e : group_in gs number ≡ []). let zero_code : code ≡ 0 = code_so
@@ -326,8 +324,7 @@ held_here version gs number code word are code_so word_so =
     word_so (is_data version (ltb number 3 || eqb (number % 16) 0) (get_or gs (number - number / 16 - 3) []) is) in
     subst (λ c. Holds version c word (as_read version (group_in gs number))) (sym code_so)
     (subst (λ x. Holds version (code_in version gs number) x (as_read version (group_in gs number))) (sym w)
-    (group_held version (group_in gs number) is).holds))
-    (group_or_none version gs number are)
+    (group_held version (group_in gs number) is).holds)) (group_or_none version gs number are)
 
 -- each word holds its group, or nothing
 word_holds_group : (version : Version) (first last : ℤ) (gs : List (List ℤ)) (frames number : ℕ)
@@ -349,8 +346,7 @@ length-frame_bytes version first last gs frames =
     ∙ ap (λ n. 4 * n) (length-map-range_with_len (frame_word version first last gs) 0 (16 * frames)) ∙ e
 
 all_held : (version : Version) (first last : ℤ) (gs : List (List ℤ)) (frames : ℕ) → AreGroups version gs
-    → SFits w32 first → SFits w32 last
-    → FirstWordsHold version Big (frame_bytes version first last gs frames)
+    → SFits w32 first → SFits w32 last → FirstWordsHold version Big (frame_bytes version first last gs frames)
     (map (λ number. as_read version (group_in gs number)) (range_with_len 0 (16 * frames)))
 all_held version first last gs frames are f g =
     let h = λ (number : ℕ). as_read version (group_in gs number) in
@@ -508,15 +504,12 @@ constant_is : (version : Version) (first last : ℤ) (gs : List (List ℤ)) (fra
     × (constant Big (frame_bytes version first last gs frames) 2 ≡ last)
 unfolding frame_word
 constant_is version first last gs frames are f g some = (
-  ap (to_z w32) (word_is version first last gs frames 1 are f g (omega arith))
-      ∙ to_z-of_z w32 first f,
-  ap (to_z w32) (word_is version first last gs frames 2 are f g (omega arith))
-      ∙ to_z-of_z w32 last g,
+  ap (to_z w32) (word_is version first last gs frames 1 are f g (omega arith)) ∙ to_z-of_z w32 first f,
+  ap (to_z w32) (word_is version first last gs frames 2 are f g (omega arith)) ∙ to_z-of_z w32 last g,
 )
 
 pub filled_reverse : (version : Version) (first last : ℤ) (gs : List (List ℤ)) (frames : ℕ) → AreGroups version gs
-    → 0 < frames → SFits w32 first → SFits w32 last
-    → constant Big (frame_bytes version first last gs frames) 2 ≡ last
+    → 0 < frames → SFits w32 first → SFits w32 last → constant Big (frame_bytes version first last gs frames) 2 ≡ last
 filled_reverse version first last gs frames are some f g = (constant_is version first last gs frames are f g some).1
 
 -- the last sample is the reverse constant

@@ -49,8 +49,7 @@ pub no_group_no_word : (version : Version) (gs : List (List ℤ)) (number : ℕ)
     → (IsGroup version (group_in gs number) → ⊥) → 0 ≡ group_word version (group_in gs number)
 no_group_no_word version gs number are not_one =
     ⊎_elim (λ (e : group_in gs number ≡ []). word_of_none version ∙ ap (group_word version) (sym e))
-    (λ (is : IsGroup version (group_in gs number)). absurd (not_one is))
-    (group_or_none version gs number are)
+    (λ (is : IsGroup version (group_in gs number)). absurd (not_one is)) (group_or_none version gs number are)
 
 code_of_none : (version : Version) → 0 ≡ group_code version 0
 code_of_none One = refl
@@ -61,8 +60,7 @@ pub no_group_no_code : (version : Version) (gs : List (List ℤ)) (number : ℕ)
     → (IsGroup version (group_in gs number) → ⊥) → 0 ≡ code_in version gs number
 no_group_no_code version gs number are not_one =
     ⊎_elim (λ (e : group_in gs number ≡ []). code_of_none version ∙ ap (λ group. group_code version (length group)) (sym e))
-    (λ (is : IsGroup version (group_in gs number)). absurd (not_one is))
-    (group_or_none version gs number are)
+    (λ (is : IsGroup version (group_in gs number)). absurd (not_one is)) (group_or_none version gs number are)
 
 -- ---- the codes of a frame
 

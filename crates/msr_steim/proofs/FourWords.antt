@@ -99,11 +99,9 @@ begins_all version order area count number samples groups last read none begins 
 
 pub reached_on : (version : Version) (order : Order) (area : List ℕ) (number : ℕ) (groups : List (List ℤ))
     (at next : Progress) (old new : List ℤ) → IsReached version order area number at old
-    → (at.place ≡ 0 → BeginsAfter version order area at.last)
-    → AreSumsWritten (differences groups) at old new next
+    → (at.place ≡ 0 → BeginsAfter version order area at.last) → AreSumsWritten (differences groups) at old new next
     → HoldFrom version order area number groups → number + length groups ≤ word_count area
-    → length new ≡ length old → next.place < length new
-    → IsReached version order area (number + length groups) next new
+    → length new ≡ length old → next.place < length new → IsReached version order area (number + length groups) next new
 reached_on version order area number groups at next old new reached begins written here within same room =
     let first = constant order area 1 in
     let samples = take at.place old in
@@ -142,8 +140,7 @@ passed_all version order area number count left groups at next old new passed ze
     let sums = sums_after at.last group in
     let all = passed.samples ++ sums in
     let sums_are : take next.place new ≡ sums = written.samples ∙ ap (λ n. take n old ++ sums) zeroth in
-    let size : length sums ≡ next.place = length-sums_after at.last group
-    ∙ omega (arith, written.place, zeroth) in
+    let size : length sums ≡ next.place = length-sums_after at.last group ∙ omega (arith, written.place, zeroth) in
     let total : length all ≡ length passed.samples + next.place =
     length-append passed.samples sums ∙ ap (λ n. length passed.samples + n) size in
     let pushed : (before : List ℤ) → passed.samples ≡ samples_of first before
@@ -157,8 +154,7 @@ passed_all version order area number count left groups at next old new passed ze
       read = read_all version order area count number first passed.samples all groups passed.read here within pushed
           (omega (arith, total, passed.left_is, few));
       left_is = omega (arith, total, passed.left_is, few);
-      last_is = λ more. written.last
-          ∙ sym (get_or-take next.place new (next.place - 1) (pos 0) (omega (arith, some)))
+      last_is = λ more. written.last ∙ sym (get_or-take next.place new (next.place - 1) (pos 0) (omega (arith, some)))
           ∙ ap (λ l. get_or l (next.place - 1) (pos 0)) sums_are
           ∙ sym (get_or-append-add passed.samples sums (next.place - 1) (pos 0))
           ∙ ap (λ k. get_or all k (pos 0)) (sym end);
@@ -222,8 +218,7 @@ byte_groups_hold version area number (suc words) fits within codes = (
         held_so version Big area number 1 word (map (signed_of 8) (take 4 bytes)) code_is refl
         (subst (λ o. IsSomeAnd o (AreFields word (map (signed_of 8) (take 4 bytes))))
         (sym (four_fields version (word / 2 ^ 30)))
-        (subst (λ ds. AreFields word ds (record { count = 4; width = 8 })) numbers
-        (are_fields word 8 4 (lit< tt))))
+        (subst (λ ds. AreFields word ds (record { count = 4; width = 8 })) numbers (are_fields word 8 4 (lit< tt))))
 
 pub differences_of_bytes : (area : List ℕ) (number words : ℕ)
     → differences (byte_groups area number words) ≡ map (signed_of 8) (take (4 * words) (drop (4 * number) area))
@@ -232,13 +227,11 @@ differences_of_bytes area number (suc words) =
     let bytes = drop (4 * number) area in
     let next : 4 * number + 4 ≡ 4 * (number + 1) = omega arith in
     let all : 4 + 4 * words ≡ 4 * suc words = omega arith in
-    ap (λ ds. map (signed_of 8) (take 4 bytes) ++ ds)
-    (differences_of_bytes area (number + 1) words
+    ap (λ ds. map (signed_of 8) (take 4 bytes) ++ ds) (differences_of_bytes area (number + 1) words
     ∙ ap (λ n. map (signed_of 8) (take (4 * words) (drop n area))) (sym next)
     ∙ ap (λ l. map (signed_of 8) (take (4 * words) l)) (sym (drop-drop 4 (4 * number) area)))
     ∙ sym (map-append (signed_of 8) (take 4 bytes) (take (4 * words) (drop 4 bytes)))
-    ∙ ap (map (signed_of 8)) (sym (take-add 4 (4 * words) bytes))
-    ∙ ap (λ n. map (signed_of 8) (take n bytes)) all
+    ∙ ap (map (signed_of 8)) (sym (take-add 4 (4 * words) bytes)) ∙ ap (λ n. map (signed_of 8) (take n bytes)) all
 
 -- ---- four codes of 1
 
@@ -258,8 +251,7 @@ four_left word slot codes same ones =
     (λ (within : slot + 3 < 16). omega (arith, within))
     (λ (late : 16 ≤ slot + 3).
     let fourth : codes * 2 ^ (2 * 3) % 4294967296 ≡ 0 = codes_by codes word slot 3 same ∙ none_left word (slot + 3) late in
-    absurd (omega (arith, fourth, ones)))
-    (cases_lt (slot + 3) 16)
+    absurd (omega (arith, fourth, ones))) (cases_lt (slot + 3) 16)
 
 -- the highest code after k shifts
 highest : (codes k : ℕ) → codes / 16777216 ≡ 85 → k < 4 → codes * 2 ^ (2 * k) % 4294967296 / 1073741824 ≡ 1
@@ -278,8 +270,7 @@ codes_are_ones order area frame slot codes some late same ones k less =
     let number : 16 * frame + (slot + k) ≡ 16 * frame + slot + k = omega arith in
     ap (code_of order area) (sym number)
     ∙ sym (code_here order area frame (slot + k) (codes * 2 ^ (2 * k) % 4294967296) (omega (arith, some))
-    (omega (arith, within, less)) (omega (arith, late)) (codes_by codes word slot k same))
-    ∙ highest codes k ones less
+    (omega (arith, within, less)) (omega (arith, late)) (codes_by codes word slot k same)) ∙ highest codes k ones less
 
 -- ---- four words of code 1 of a frame
 
@@ -324,8 +315,7 @@ four_place area frame slot at next old new within written = written.place
     ∙ ap (λ n. at.place + n) (length-sixteen area (16 * frame + slot) within)
 
 pub four_reached : (version : Version) (order : Order) (area : List ℕ) (frame slot codes : ℕ) (at next : Progress)
-    (old new : List ℤ) → AreOnes order area frame slot codes
-    → IsReached version order area (16 * frame + slot) at old
+    (old new : List ℤ) → AreOnes order area frame slot codes → IsReached version order area (16 * frame + slot) at old
     → (at.place ≡ 0 → BeginsAfter version order area at.last)
     → AreSumsWritten (bytes_after area frame slot) at old new next
     → length new ≡ length old → at.place + 16 < length old
@@ -345,8 +335,7 @@ four_reached version order area frame slot codes at next old new are reached beg
 pub four_passed : (version : Version) (order : Order) (area : List ℕ) (frame slot codes count left : ℕ)
     (at next : Progress) (old new : List ℤ) → AreOnes order area frame slot codes
     → ArePassed version order area (16 * frame + slot) count left at.last → at.place ≡ 0
-    → AreSumsWritten (bytes_after area frame slot) at old new next
-    → 16 ≤ length new → 16 < left
+    → AreSumsWritten (bytes_after area frame slot) at old new next → 16 ≤ length new → 16 < left
     → ArePassed version order area (16 * frame + (slot + 4)) count (left - 16) next.last
 four_passed version order area frame slot codes count left at next old new are passed zeroth written room few =
     let number = 16 * frame + slot in

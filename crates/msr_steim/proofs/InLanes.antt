@@ -84,8 +84,7 @@ pair_2 : (word : ℕ) (bytes : List ℕ) → AreBytes word bytes
 pair_2 word bytes are = omega (arith, are.third, are.fourth)
 
 -- a field that lies within sixteen bits of the word, `low` bits from the lowest of them
-field_is : (word bits from low width after : ℕ) → bits ≡ word / 2 ^ from % 65536 → 0 < width
-    → width + low + after ≡ 16
+field_is : (word bits from low width after : ℕ) → bits ≡ word / 2 ^ from % 65536 → 0 < width → width + low + after ≡ 16
     → lane bits (2 ^ after) (low + after) ≡ signed_of width (word / 2 ^ (from + low) % 2 ^ width)
 field_is word bits from low width after bits_is positive whole =
     let x = word / 2 ^ from in
@@ -94,10 +93,8 @@ field_is word bits from low width after bits_is positive whole =
     ap (λ n. x % 2 ^ n / 2 ^ low) (sym places) ∙ field_of x (after + width) low in
     let moved : x / 2 ^ low ≡ word / 2 ^ (from + low) = div-div-eq-div-mul word (2 ^ from) (2 ^ low)
     ∙ ap (λ n. word / n) (sym (pow-add 2 from low)) in
-    lane_is bits low width after positive whole
-    ∙ ap (λ n. signed_of width (n / 2 ^ low % 2 ^ width)) bits_is
-    ∙ ap (λ n. signed_of width (n % 2 ^ width)) part
-    ∙ ap (signed_of width) (mod-mod-pow (x / 2 ^ low) after width)
+    lane_is bits low width after positive whole ∙ ap (λ n. signed_of width (n / 2 ^ low % 2 ^ width)) bits_is
+    ∙ ap (λ n. signed_of width (n % 2 ^ width)) part ∙ ap (signed_of width) (mod-mod-pow (x / 2 ^ low) after width)
     ∙ ap (λ n. signed_of width (n % 2 ^ width)) moved
 
 -- pairs of neighbours as numbers of sixteen bits
@@ -151,11 +148,9 @@ lanes_are : (word : ℕ) (places : List ℕ) (factors : List ℤ) (down : ℤ) (
     → lanes word places factors down ≡ numbers
 lanes_are word places factors down numbers small size are =
     let known = are_bytes word small in
-    ap (λ l. raised l factors down)
-    (halves_are 8 (swz_l w8 16 (splat_bytes word) 0 places)
+    ap (λ l. raised l factors down) (halves_are 8 (swz_l w8 16 (splat_bytes word) 0 places)
     (length-swz_l w8 16 (splat_bytes word) 0 places ∙ size)
-    (placed_below (splat_bytes word) 0 places known.below))
-    ∙ are (splat_bytes word) known
+    (placed_below (splat_bytes word) 0 places known.below)) ∙ are (splat_bytes word) known
 
 pub cons : {x y : ℤ} {xs ys : List ℤ} → x ≡ y → xs ≡ ys → x ∷ xs ≡ y ∷ ys
 cons {x} {y} {xs} {ys} e f = ap (λ z. z ∷ xs) e ∙ ap (λ zs. y ∷ zs) f
@@ -220,8 +215,7 @@ abbrev six_factors : List ℤ
 six_factors = pos 4 ∷ pos 128 ∷ pos 16 ∷ pos 512 ∷ pos 64 ∷ pos 2048 ∷ pos 0 ∷ pos 0 ∷ []
 
 six : (word : ℕ) (bytes : List ℕ) → AreBytes word bytes
-    → raised (halves (swz_l w8 16 bytes 0 six_places)) six_factors (pos 11)
-    ≡ numbers_in word 5 6 ++ replicate 2 (pos 0)
+    → raised (halves (swz_l w8 16 bytes 0 six_places)) six_factors (pos 11) ≡ numbers_in word 5 6 ++ replicate 2 (pos 0)
 unfolding numbers_in
 six word bytes are =
     cons (field_is word (get_or bytes 2 0 + 256 * get_or bytes 3 0) 16 9 5 2 (pair_2 word bytes are) (lit< tt) refl)
@@ -324,13 +318,10 @@ pub are_lanes : (word key : ℕ) → word < 4294967296 → HasThree key → AreL
 are_lanes word key small =
     let as_four = lanes_are word four_places four_factors (pos 8)
     (numbers_in word 8 4 ++ replicate 4 (pos 0)) small refl (four word) in
-    by_key (AreLanes word) as_four as_four as_four as_four
-    (lanes_are word three_places three_factors (pos 6)
+    by_key (AreLanes word) as_four as_four as_four as_four (lanes_are word three_places three_factors (pos 6)
     (numbers_in word 10 3 ++ replicate 5 (pos 0)) small refl (three word))
     (lanes_are word five_places five_factors (pos 10)
-    (numbers_in word 6 5 ++ replicate 3 (pos 0)) small refl (five word))
-    (lanes_are word six_places six_factors (pos 11)
+    (numbers_in word 6 5 ++ replicate 3 (pos 0)) small refl (five word)) (lanes_are word six_places six_factors (pos 11)
     (numbers_in word 5 6 ++ replicate 2 (pos 0)) small refl (six word))
     (lanes_are word seven_places seven_factors (pos 12)
-    (numbers_in word 4 7 ++ replicate 1 (pos 0)) small refl (seven word))
-    key
+    (numbers_in word 4 7 ++ replicate 1 (pos 0)) small refl (seven word)) key

@@ -48,8 +48,7 @@ unfolding numbers_in
 no_numbers word width count none = ap (numbers_in word width) none
 
 -- the first number, and those after it
-pub first_of_numbers : (word width count : ℕ) → 0 < count
-    → numbers_in word width count ≡ signed_of width
+pub first_of_numbers : (word width count : ℕ) → 0 < count → numbers_in word width count ≡ signed_of width
     (word / 2 ^ ((count - 1) * width) % 2 ^ width) ∷ numbers_in word width (count - 1)
 unfolding numbers_in
 first_of_numbers word width zero some = absurd (omega (arith, some))
@@ -65,8 +64,7 @@ pub one_word : (version : Version) (order : Order) (area : List ℕ) (number : �
 one_word version order area number within =
     let words : word_count area - number ≡ suc (word_count area - (number + 1)) = omega (arith, within) in
     let next : number + 1 ≡ suc number = omega arith in
-    ap (differences_of version order area number) words
-    ∙ ap (λ n. word_differences version order area number
+    ap (differences_of version order area number) words ∙ ap (λ n. word_differences version order area number
     ++ differences_of version order area n (word_count area - (number + 1))) (sym next)
 
 -- a word without differences is passed over
@@ -81,10 +79,8 @@ pub passed_empty : (version : Version) (order : Order) (area : List ℕ) (number
     → number < word_count area → HasFields version order area number fields → fields.count ≡ 0
     → differences_from version order area number ≡ differences_from version order area (number + 1)
 passed_empty version order area number fields within has none =
-    one_word version order area number within
-    ∙ ap (λ ds. ds ++ differences_from version order area (number + 1))
-    (fields_differences version order area number fields has
-    ∙ no_numbers fields.word fields.width fields.count none)
+    one_word version order area number within ∙ ap (λ ds. ds ++ differences_from version order area (number + 1))
+    (fields_differences version order area number fields has ∙ no_numbers fields.word fields.width fields.count none)
 
 -- what the first difference is added to
 pub begins_so : (first difference : ℤ) (ds : List ℤ) (constant_is : ℤ) → first ≡ constant_is → 1 ≤ length ds

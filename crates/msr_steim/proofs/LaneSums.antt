@@ -187,8 +187,7 @@ samples_are last ds last_fits size small =
     ∙ ap (map (λ b. (of_z w32 last + b) % 4294967296)) wide_is)
     ∙ ap (map (to_z w32)) (map-map (λ b. (of_z w32 last + b) % 4294967296) (λ x. of_z w32 (to_z w16 (of_z w16 x))) sums)
     ∙ map-map (to_z w32) (λ x. (of_z w32 last + of_z w32 (to_z w16 (of_z w16 x))) % 4294967296) sums
-    ∙ each_sample last (pos 0) ds last_fits fits
-    ∙ ap (λ z. sums_after z ds) (no_more last last_fits)
+    ∙ each_sample last (pos 0) ds last_fits fits ∙ ap (λ z. sums_after z ds) (no_more last last_fits)
 
 pub sample_fits : (v : ℤ) (ds : List ℤ) (i : ℕ) → SFits w32 (get_or (sums_after v ds) i (pos 0))
 sample_fits v [] zero = record { sfits = lit< tt }
@@ -245,8 +244,7 @@ group_of word count width at out ds next some few same room fits place last =
     let sums = sums_after at.last ds in
     let new = put_chunk at.place out sums in
     let counted : length numbers ≡ count = length-numbers_in word width count in
-    let eight : length sums ≡ 8 = length-sums_after at.last ds ∙ ap length same
-    ∙ omega (
+    let eight : length sums ≡ 8 = length-sums_after at.last ds ∙ ap length same ∙ omega (
       arith,
       length-append numbers (replicate (8 - count) (pos 0)),
       counted,
@@ -265,8 +263,7 @@ group_of word count width at out ds next some few same room fits place last =
     ∙ ap (sums_after at.last) of_numbers in
     let taken : take next.place new ≡ take at.place out ++ sums_after at.last numbers =
     sym (take-take next.place (at.place + 8) new within) ∙ ap (take next.place) stored
-    ∙ ap (λ n. take n (take at.place out ++ sums)) (sym whole)
-    ∙ take-append-add (take at.place out) sums count
+    ∙ ap (λ n. take n (take at.place out ++ sums)) (sym whole) ∙ take-append-add (take at.place out) sums count
     ∙ ap (λ l. take at.place out ++ l) first in
     let size : length (take at.place out ++ sums_after at.last numbers) ≤ length out =
     omega (

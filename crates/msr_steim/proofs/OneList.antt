@@ -17,8 +17,7 @@ unfoldable pub HasBits : WordLayout → Type 0
 HasBits d = 0 < d.count → 0 < d.width
 
 one_layout : (P : WordLayout → Type 0) → P (record { count = 0; width = 0 })
-    → ((count width : ℕ) → 0 < width → count ≤ 7 → P (record { count = count; width = width }))
-    → (a b c d : Bool)
+    → ((count width : ℕ) → 0 < width → count ≤ 7 → P (record { count = count; width = width })) → (a b c d : Bool)
     → IfSome {T = WordLayout} (cond a (Some (record { count = 0; width = 0 }))
     (cond b (Some (record { count = 4; width = 8 }))
     (cond c (Some (record { count = 2; width = 16 })) (cond d (Some (record { count = 1; width = 32 })) None)))) P
@@ -30,8 +29,7 @@ one_layout P none row_to false false false false = tt
 
 two_layout : (P : WordLayout → Type 0) → P (record { count = 0; width = 0 })
     → ((count width : ℕ) → 0 < width → count ≤ 7 → P (record { count = count; width = width }))
-    → (a b c d p q r s t u : Bool)
-    → IfSome {T = WordLayout} (cond a (Some (record { count = 0; width = 0 }))
+    → (a b c d p q r s t u : Bool) → IfSome {T = WordLayout} (cond a (Some (record { count = 0; width = 0 }))
     (cond b (Some (record { count = 4; width = 8 }))
     (cond c
     (cond p (Some (record { count = 1; width = 30 })) (cond q (Some (record { count = 2; width = 15 }))
@@ -120,8 +118,7 @@ fields_are_one width (x ∷ xs) (y ∷ ys) positive size f g e =
     ∙ ap (λ n. n * p + joined_fields width xs) (zero_first b first) in
     let right : joined_fields width (y ∷ ys) ≡ second * p + joined_fields width ys =
     number_after b (0 * b + second) (map (twos_complement width) ys)
-    ∙ ap (λ n. (0 * b + second) * b ^ n + joined_fields width ys)
-    (length-map ys (twos_complement width) ∙ sym same)
+    ∙ ap (λ n. (0 * b + second) * b ^ n + joined_fields width ys) (length-map ys (twos_complement width) ∙ sym same)
     ∙ ap (λ n. n * p + joined_fields width ys) (zero_first b second) in
     let below_left : joined_fields width xs < p =
     subst (λ n. joined_fields width xs < n) (sym (pow_pow 2 width (length xs)))

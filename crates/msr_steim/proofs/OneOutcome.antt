@@ -43,8 +43,7 @@ fewer_differences version order area gs hs f g few =
 -- words that hold too few differences are no more than those that hold enough
 enough_after : (version : Version) (order : Order) (area : List ℕ) (gs hs : List (List ℤ)) (count : ℕ)
     → FirstWordsHold version order area gs → FirstWordsHold version order area hs → length (differences gs) < count
-    → count ≤ length (differences hs)
-    → length gs < length hs
+    → count ≤ length (differences hs) → length gs < length hs
 enough_after version order area gs hs count f g few enough =
     ⊎_elim (λ (lt : length gs < length hs). lt)
     (λ (ge : length hs ≤ length gs). let h = fewer_differences version order area hs gs g f ge in absurd (omega arith))
@@ -84,9 +83,7 @@ one_undefined version order area count m n u v =
     (λ (ge : n ≤ m). ⊎_elim
     (λ (lt : n < m). absurd (undefined_not_held version order area u.groups n v.undefined u.held
     (omega (arith, u.first))))
-    (λ (le : m ≤ n). omega arith)
-    (cases_lt n m))
-    (cases_lt m n)
+    (λ (le : m ≤ n). omega arith) (cases_lt n m)) (cases_lt m n)
 
 -- ---- the samples are one list
 

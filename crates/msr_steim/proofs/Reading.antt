@@ -29,8 +29,7 @@ from_base : (first base d : ℤ) (ds : List ℤ) → int_wrap w32 (base +ℤ d) 
 from_base first base d ds e = ap (λ x. x ∷ sums_after x ds) (sym e)
 
 pub first_sums : (first : ℤ) (group items : List ℤ) → group ≡ items → 1 ≤ length items → SFits w32 first
-    → SFits w32 (get_or items 0 (pos 0))
-    → samples_of first group ≡ sums_after (to_z w32
+    → SFits w32 (get_or items 0 (pos 0)) → samples_of first group ≡ sums_after (to_z w32
     ((of_z w32 first + (4294967296 - of_z w32 (get_or items 0 (pos 0)))) % 4294967296)) group
 first_sums first group [] same some f g = absurd (omega (arith, some))
 first_sums first group (d ∷ ds) same some f g =
@@ -46,8 +45,7 @@ pub sums_after_append : (x : ℤ) (es gs : List ℤ)
 sums_after_append x [] gs = refl
 sums_after_append x (e ∷ es) gs = ap (λ s. int_wrap w32 (x +ℤ e) ∷ s) (sums_after_append (int_wrap w32 (x +ℤ e)) es gs)
 
-samples_of_append : (first : ℤ) (es gs : List ℤ) → 0 < length es
-    → samples_of first (es ++ gs) ≡ samples_of first es
+samples_of_append : (first : ℤ) (es gs : List ℤ) → 0 < length es → samples_of first (es ++ gs) ≡ samples_of first es
     ++ sums_after (get_or (samples_of first es) (length es - 1) (pos 0)) gs
 samples_of_append first [] gs some = absurd (omega (arith, some))
 samples_of_append first (e ∷ es) gs some =
@@ -63,8 +61,7 @@ no_samples first (d ∷ ds) e = absurd (omega (arith, e))
 -- one more group of differences gives its sums
 pub grown : (first last : ℤ) (samples group before : List ℤ)
     → (0 < length samples → last ≡ get_or samples (length samples - 1) (pos 0))
-    → (length samples ≡ 0 → samples_of first group ≡ sums_after last group)
-    → samples ≡ samples_of first before
+    → (length samples ≡ 0 → samples_of first group ≡ sums_after last group) → samples ≡ samples_of first before
     → samples_of first (before ++ group) ≡ samples ++ sums_after last group
 grown first last samples group before last_is begins same =
     let size : length before ≡ length samples = sym (length-samples_of first before) ∙ ap length (sym same) in
@@ -78,8 +75,7 @@ grown first last samples group before last_is begins same =
     (λ (none : length samples ≤ 0).
     let empty : length samples ≡ 0 = omega (arith, none) in
     ap (λ b. samples_of first (b ++ group)) (no_samples first before (size ∙ empty)) ∙ begins empty
-    ∙ ap (λ s. s ++ sums_after last group) (sym (no_samples first samples empty)))
-    (cases_lt 0 (length samples))
+    ∙ ap (λ s. s ++ sums_after last group) (sym (no_samples first samples empty))) (cases_lt 0 (length samples))
 
 -- what was written for a word is what its group gives
 pub pushed : (first : ℤ) (at start : Progress) (old new group : List ℤ) (n : ℕ)
@@ -156,8 +152,7 @@ pub step_more : (version : Version) (order : Order) (area : List ℕ) (number co
     → IsStart version code word (constant order area 1) at start
     → IsWritten version code word start old new next → code ≡ code_of order area number
     → word ≡ arranged_word version order code area number → number < word_count area → length new ≡ length old
-    → next.place ≢ length new
-    → IsReached version order area (number + 1) next new
+    → next.place ≢ length new → IsReached version order area (number + 1) next new
 step_more version order area number code word at start next old new reached begin written e f within same unlike =
     let size : length (take next.place new) ≡ next.place = length-take next.place new
     ∙ omega (arith, written.within, same) in
@@ -183,8 +178,7 @@ pub step_enough : (version : Version) (order : Order) (area : List ℕ) (number 
     → IsStart version code word (constant order area 1) at start
     → IsWritten version code word start old new next → code ≡ code_of order area number
     → word ≡ arranged_word version order code area number → number < word_count area → length new ≡ length old
-    → next.place ≡ length new
-    → CarriesSteim version order area new
+    → next.place ≡ length new → CarriesSteim version order area new
 step_enough version order area number code word at start next old new reached begin written e f within same full =
     let whole : take next.place new ≡ new = ap (λ k. take k new) full ∙ take_all (length new) new (omega arith) in
     let size : length (take next.place new) ≡ length old = ap length whole ∙ same in
@@ -274,8 +268,7 @@ code_data order area frame slot codes code some small late codes_is code_is =
 
 pub undefined_before : (version : Version) (order : Order) (area : List ℕ) (count number : ℕ) (first : ℤ)
     (samples : List ℤ) → AreReadBelow version order area count number first samples → number < word_count area
-    → IsUndefined version order area number
-    → IsUndefinedBefore version order area count number
+    → IsUndefined version order area number → IsUndefinedBefore version order area count number
 undefined_before version order area count number first samples read within undefined =
     record {
       groups = read.groups;

@@ -96,8 +96,7 @@ lowered w field width down rest double positive places within few =
     let bound = below_half field rest (2 ^ (width - 1)) (2 ^ down) (2 ^ hbits w) low few product in
     let e : to_z w (field * 2 ^ down + rest) ≡ pos (field * 2 ^ down + rest) =
     to_z_pos w (field * 2 ^ down + rest) bound in
-    ap (λ z. int_shr z down) e ∙ ap pos (shr_high field down rest few)
-    ∙ sym (low_signed width field low))
+    ap (λ z. int_shr z down) e ∙ ap pos (shr_high field down rest few) ∙ sym (low_signed width field low))
     (λ (high : 2 ^ (width - 1) ≤ field).
     let k = 2 ^ down in
     let a = 2 ^ width - 1 - field in
@@ -107,8 +106,7 @@ lowered w field width down rest double positive places within few =
     let e : to_z w (field * k + rest) ≡ negsuc (a * k + (k - 1 - rest)) = ap (to_z w) bound.1
     ∙ to_z-neg w (a * k + (k - 1 - rest)) bound.0 in
     ap (λ z. int_shr z down) e ∙ ap negsuc (shr_high a down (k - 1 - rest) under)
-    ∙ sym (high_signed width field high))
-    (cases_lt field (2 ^ (width - 1)))
+    ∙ sym (high_signed width field high)) (cases_lt field (2 ^ (width - 1)))
   where
     below_half : (f r h k m : ℕ) → f < h → r < k → h * k ≡ m → f * k + r < m
     below_half f r h k m low few product = let e : (f + 1) * k ≤ h * k = grind arith in omega arith
@@ -153,16 +151,14 @@ signed_fits width field positive within =
     ⊎_elim
     (λ (low : field < 2 ^ (width - 1)). subst (FitsBits width) (sym (low_signed width field low)) low)
     (λ (high : 2 ^ (width - 1) ≤ field). let few : 2 ^ width - 1 - field < 2 ^ (width - 1) = omega arith in
-    subst (FitsBits width) (sym (high_signed width field high)) few)
-    (cases_lt field (2 ^ (width - 1)))
+    subst (FitsBits width) (sym (high_signed width field high)) few) (cases_lt field (2 ^ (width - 1)))
 
 pub signed_same : (width field : ℕ) → field < 2 ^ width → twos_complement width (signed_of width field) ≡ field
 signed_same width field within =
     ⊎_elim
     (λ (low : field < 2 ^ (width - 1)). ap (twos_complement width) (low_signed width field low))
     (λ (high : 2 ^ (width - 1) ≤ field). let back : 2 ^ width - suc (2 ^ width - 1 - field) ≡ field =
-    omega arith in ap (twos_complement width) (high_signed width field high) ∙ back)
-    (cases_lt field (2 ^ (width - 1)))
+    omega arith in ap (twos_complement width) (high_signed width field high) ∙ back) (cases_lt field (2 ^ (width - 1)))
 
 -- ---- all fields of a word
 
@@ -176,8 +172,7 @@ unfolding numbers_in
 numbers_fit word width zero positive = tt
 numbers_fit word width (suc below) positive =
     let some : 0 < 2 ^ width = pow_pos width in (
-      signed_fits width (word / 2 ^ (below * width) % 2 ^ width) positive
-          (mod-lt (word / 2 ^ (below * width)) some),
+      signed_fits width (word / 2 ^ (below * width) % 2 ^ width) positive (mod-lt (word / 2 ^ (below * width)) some),
       numbers_fit word width below positive,
     )
 
@@ -230,8 +225,7 @@ are_fields word width count positive = record {
 }
 
 -- the number at a place
-pub number_at : (word width count i : ℕ) → i < count
-    → get_or (numbers_in word width count) i (pos 0)
+pub number_at : (word width count i : ℕ) → i < count → get_or (numbers_in word width count) i (pos 0)
     ≡ signed_of width (word / 2 ^ ((count - 1 - i) * width) % 2 ^ width)
 unfolding numbers_in
 number_at word width zero i within = absurd (omega (arith, within))

@@ -28,8 +28,7 @@ fits_w32 width (negsuc n) small fits = let bound : 2 ^ (width - 1) ≤ 214748364
 -- one more sum
 pub one_more_sum : (before last d v : ℤ) (ds sums : List ℤ) (i : ℕ) → i < length ds
     → sums ≡ sums_after before (take i ds) → last ≡ get_or (before ∷ sums) i (pos 0) → get_or ds i (pos 0) ≡ d
-    → v ≡ int_wrap w32 (last +ℤ d)
-    → sums ++ v ∷ [] ≡ sums_after before (take (i + 1) ds)
+    → v ≡ int_wrap w32 (last +ℤ d) → sums ++ v ∷ [] ≡ sums_after before (take (i + 1) ds)
 one_more_sum before last d v ds sums i within same last_is d_is v_is =
     let es = take i ds in
     let size : length (sums_after before es) ≡ i = length-sums_after before es ∙ length-take i ds
@@ -65,8 +64,7 @@ all_written out new ds last place m same all within =
     let size : length (take place out ++ sums_after last ds) ≤ length out =
     omega (
       arith,
-      length-append (take place out)
-          (sums_after last ds),
+      length-append (take place out) (sums_after last ds),
       length-take place out,
       length-sums_after last ds,
       within,
@@ -75,8 +73,7 @@ all_written out new ds last place m same all within =
 
 -- the places end first
 pub some_written : (out new ds : List ℤ) (last : ℤ) (place m : ℕ) → new ≡ sums_after last (take m ds)
-    → place + m ≡ length out
-    → take place out ++ new ≡ take (length out) (take place out ++ sums_after last ds)
+    → place + m ≡ length out → take place out ++ new ≡ take (length out) (take place out ++ sums_after last ds)
 some_written out new ds last place m same within =
     let size : length (take place out) ≡ place = length-take place out ∙ omega (arith, within) in
     let total : length (take place out) + m ≡ length out = omega (arith, size, within) in
@@ -92,8 +89,7 @@ far_written out new ds last place m same far =
     ⊎_elim
     (λ (fewer : length out < place + length ds). some_written out new ds last place m same (omega (arith, far, fewer)))
     (λ (enough : place + length ds ≤ length out). all_written out new ds last place m same
-    (omega (arith, far, enough)) enough)
-    (cases_lt (length out) (place + length ds))
+    (omega (arith, far, enough)) enough) (cases_lt (length out) (place + length ds))
 
 -- the layout of a word, by its code and its top two bits
 pub divided : (version other : Version) (code top c t : ℕ) → version ≡ other → code ≡ c → top ≡ t
@@ -106,8 +102,7 @@ pub group_written : (version : Version) (code word : ℕ) (at : Progress) (old n
     → layout_of version code (word / 2 ^ 30) ≡ Some (record { count = count; width = width }) → 0 < width
     → next.place ≤ length old
     → take next.place new ≡ take (length old) (take at.place old ++ sums_after at.last (numbers_in word width count))
-    → next.last ≡ slice_index_or new (next.place - 1) (pos 0)
-    → IsWritten version code word at old new next
+    → next.last ≡ slice_index_or new (next.place - 1) (pos 0) → IsWritten version code word at old new next
 group_written version code word at old new next count width layout positive within samples last = record {
   group = numbers_in word width count;
   holds = subst (λ d. IsSomeAnd d (AreFields word (numbers_in word width count))) (sym layout)

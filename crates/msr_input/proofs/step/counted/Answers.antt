@@ -28,27 +28,17 @@ returns c = λ found outline records counts few.
       arith,
       c.saturating_add.ensures,
       ap (λ (k : Counts). k.read) counts,
-      length-append records
-          (found ∷ []),
+      length-append records (found ∷ []),
       few,
     ) in
     let one : c.from-empty.result ≡ (if is_some found.row then 0 else 1) = c.from-empty.ensures
     ∙ one_unless c.is_none.result
     ∙ ap (λ (b : Bool). if b then 0 else 1) (sym c.is_none.ensures ∙ ap (λ (o : Outline). is_some o.row) outline
     ∙ some_outlined found.row) in
+    let was = ap (λ (k : Counts). k.empty) counts in
+    let most = one_most (is_some found.row) in
     let empty : c.saturating_add-2.result ≡ empty_count (records ++ found ∷ []) =
-    grind (
-      arith,
-      c.saturating_add-2.ensures,
-      ap
-          (λ (k : Counts). k.empty) counts,
-      empty_snoc records found,
-      empty_most records,
-      one,
-      one_most
-          (is_some found.row),
-      few,
-    ) in
+    grind (arith, c.saturating_add-2.ensures, was, empty_snoc records found, empty_most records, one, most, few) in
     let mismatched : c.saturating_add-3.result ≡ mismatch_count (records ++ found ∷ []) =
     grind (
       arith,

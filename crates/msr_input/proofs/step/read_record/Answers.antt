@@ -49,8 +49,7 @@ returns-in-Ok-clause-next g c =
     let judged = rw c.bytes-bytes.ensures at c.in-Ok.ensures.found in
     record {
       judged = judged;
-      room_is = room_found c.args.buffer.now.room c.bytes.buffer judged.found c.bytes.invariant.room
-          judged.is_record;
+      room_is = room_found c.args.buffer.now.room c.bytes.buffer judged.found c.bytes.invariant.room judged.is_record;
     }
 
 pub bytes-preserved : goal.bytes-preserved

@@ -32,8 +32,7 @@ same c =
     rw (to_z-of_z w32 before fits) c.before_first.ensures.sums in
     in_order_is version order area ds found.samples (to_z w32 (of_z w32 before)) found.carried (all_left first)
     (subst (λ xs. samples_of (constant order area 1) xs ≡ sums_after (to_z w32 (of_z w32 before)) xs)
-    (all_left first) begins)
-    ∙ ap (λ n. take n (sums_after (to_z w32 (of_z w32 before)) ds)) found.count_is
+    (all_left first) begins) ∙ ap (λ n. take n (sums_after (to_z w32 (of_z w32 before)) ds)) found.count_is
 
 pub returns-clause-samples : goal.returns-clause-samples
 returns-clause-samples c = subst (CarriesSteim c.args.version c.args.order c.args.area.now)

@@ -11,8 +11,7 @@ returns c =
     let from = c.args.from in
     let half = c.write_eight-half in
     subst (λ ds. AreSumsWritten ds c.args.at c.args.out.now c.write_eight.new.out c.write_eight.result)
-    (sixteen_at from area)
-    (both_written (map (signed_of 8) (take 8 (drop from area)))
+    (sixteen_at from area) (both_written (map (signed_of 8) (take 8 (drop from area)))
     (map (signed_of 8) (take 8 (drop (from + 8) area))) c.args.at c.args.out.now half.new.out half.result
     c.write_eight.new.out c.write_eight.result (omega (arith, eight_at from area (omega (arith, c.requires.within))))
     (omega (arith, c.requires.room)) half.ensures c.write_eight.ensures)

@@ -16,8 +16,7 @@ loop-number-preserved c =
     let room : 4 * n + 4 ≤ length c.loop-number.area = omega arith in
     let buf : c.write_u32.new.buf ≡ big_bytes 4 (f n)
     ++ drop 4 (take (length c.loop-number.area - 4 * n) (drop (4 * n) c.loop-number.area)) =
-    c.write_u32.ensures ∙ ap (λ w. big_bytes 4 w
-    ++ drop 4 (take (length c.loop-number.area - 4 * n)
+    c.write_u32.ensures ∙ ap (λ w. big_bytes 4 w ++ drop 4 (take (length c.loop-number.area - 4 * n)
     (drop (4 * n) c.loop-number.area))) c.frame_word-word.ensures in
     fill_step (map f (range_with_len 0 n)) (f n) n c.args.area.now c.loop-number.area c.write_u32.new.buf
     (length-map-range_with_len f 0 n) c.loop-number.invariant buf room

@@ -19,7 +19,6 @@ overflow_cast-samples c =
 pub returns : goal.returns
 returns c =
     let fits : SFits w32 c.args.at.last = search rules in
-    all_lanes_written c.args.word c.args.key c.args.at c.args.out.now c.lanes_of.result c.prefix_sums-sums.result
-    _
+    all_lanes_written c.args.word c.args.key c.args.at c.args.out.now c.lanes_of.result c.prefix_sums-sums.result _
     c.requires.layout c.lanes_of.ensures c.prefix_sums-sums.ensures c.requires.room fits
     (ap (λ n. c.args.at.place + n) c.from.ensures) refl

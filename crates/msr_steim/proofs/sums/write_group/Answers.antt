@@ -13,8 +13,7 @@ use Rattle.msr_steim.proofs.sums.write_group.Goals as goal
 
 -- the last sample is the last one that was written
 abbrev Last : goal.After-out-1 → Type 0
-Last c = to_z w32 (of_z w32 c.write_sums-last.result)
-    ≡ get_or (put_mid c.args.at.place (c.args.at.place
+Last c = to_z w32 (of_z w32 c.write_sums-last.result) ≡ get_or (put_mid c.args.at.place (c.args.at.place
     + c.args.count - c.args.at.place) c.args.out.now c.write_sums-last.new.out)
     (c.args.at.place + c.args.count - 1) (pos 0)
 
@@ -40,8 +39,7 @@ returns-clause-some c =
       place = refl;
       room = c.if-end-out.false;
       samples = take-put_mid place (place + c.args.count - place) out new (place + c.args.count) end
-          (omega (arith, c.requires.room))
-          ∙ all_written out new ds c.args.at.last place
+          (omega (arith, c.requires.room)) ∙ all_written out new ds c.args.at.last place
           (length (take (place + c.args.count - place) (drop place out))) filled (omega (arith, size, wide))
           (omega (arith, wide, c.if-end-out.false));
       last = last_is c;

@@ -8,16 +8,14 @@ pub returns-in-1-clause-some : goal.returns-in-1-clause-some
 returns-in-1-clause-some c =
     let code_is : c.args.code ≡ 1 = omega arith in
     inner_group_written c.args.version c.args.code c.args.word c.args.at c.args.out.now c.write_group.new.out 4 8
-    c.write_group.result
-    (divided c.args.version One c.args.code (c.args.word / 1073741824) 1
+    c.write_group.result (divided c.args.version One c.args.code (c.args.word / 1073741824) 1
     (c.args.word / 1073741824) c.in-One.is code_is refl) (lit< tt) (lit< tt) c.write_group.ensures.some
 
 pub returns-in-2-clause-some : goal.returns-in-2-clause-some
 returns-in-2-clause-some c =
     let code_is : c.args.code ≡ 2 = omega arith in
     inner_group_written c.args.version c.args.code c.args.word c.args.at c.args.out.now c.write_group-in-2.new.out
-    2 16 c.write_group-in-2.result
-    (divided c.args.version One c.args.code (c.args.word / 1073741824) 2
+    2 16 c.write_group-in-2.result (divided c.args.version One c.args.code (c.args.word / 1073741824) 2
     (c.args.word / 1073741824) c.in-One.is code_is refl) (lit< tt) (lit< tt) c.write_group-in-2.ensures.some
 
 pub returns-in_default-clause-some : goal.returns-in_default-clause-some

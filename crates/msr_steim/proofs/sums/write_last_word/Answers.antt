@@ -14,8 +14,7 @@ use Rattle.msr_steim.proofs.sums.write_last_word.Goals as goal
 
 -- the last sample is the last one that was written
 abbrev Last : goal.After-out-1 → Type 0
-Last c = to_z w32 (of_z w32 c.write_sums-last.result)
-    ≡ get_or (put_mid c.args.at.place
+Last c = to_z w32 (of_z w32 c.write_sums-last.result) ≡ get_or (put_mid c.args.at.place
     (c.min-end.result - c.args.at.place) c.args.out.now c.write_sums-last.new.out) (c.min-end.result - 1) (pos 0)
 
 last_is : (c : goal.After-out-1) → Last c
@@ -36,8 +35,7 @@ returns-clause-some c =
     let layout : layout_of version code (word / 1073741824) ≡ Some c.in_ok-layout.layout =
     sym c.layout_for.ensures ∙ c.in_ok-layout.was in
     let some : 0 < count = omega (arith, c.if-layout-eq0.false) in
-    let positive : 0 < width = bits_of_fields version code
-    (word / 1073741824) c.in_ok-layout.layout layout some in
+    let positive : 0 < width = bits_of_fields version code (word / 1073741824) c.in_ok-layout.layout layout some in
     let wide : length ds ≡ count = length-numbers_in word width count in
     let end_is : end ≡ min (length out) (at.place + count) = c.min-end.ensures in
     let within : end ≤ length out = omega (arith, end_is) in

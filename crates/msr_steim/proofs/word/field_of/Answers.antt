@@ -10,8 +10,7 @@ returns-then-bits-most-clause-fits c =
     ∙ ap (of_z w32) (to_z-of_z w32 c.args.number c.ranges.number) in
     let low = rw (mask_is c.args.width c.requires.small, bits) at c.if-bits-most.true in (
       (λ _. (field_low c.args.number c.args.width c.requires.positive c.ranges.number low c.requires.small).0),
-      λ _.
-          refl,
+      λ _. refl,
     )
 
 pub returns-then-bits-most-clause-same : goal.returns-then-bits-most-clause-same
@@ -45,6 +44,5 @@ returns-else-bits-most-2-clause-fits c =
     let low = rw (mask_is c.args.width c.requires.small, bits) at c.if-bits-most.false in
     let high = rw (mask_is c.args.width c.requires.small, bits) at c.if-bits-most-2.false in (
       (λ h. absurd (cc)),
-      λ here. absurd
-          (field_none c.args.number c.args.width c.requires.positive c.ranges.number low high here),
+      λ here. absurd (field_none c.args.number c.args.width c.requires.positive c.ranges.number low high here),
     )

@@ -20,6 +20,5 @@ returns c =
     let same = rw c.bytes.ensures at c.read_header.ensures.header in
     rw (c.is_ok.ensures.value, ← c.self.view_is) (
       ok_header c.self.inside.buffer.bytes c.read_header.result same,
-      header_ok c.self.inside.buffer.bytes
-          c.read_header.result same,
+      header_ok c.self.inside.buffer.bytes c.read_header.result same,
     )

@@ -111,8 +111,7 @@ returns-in-Some-next_outline-clause-read g c =
 pub returns-in-Some-next_outline-clause-in_bounds : goal.returns-in-Some-next_outline-clause-in_bounds
 returns-in-Some-next_outline-clause-in_bounds g c =
     outline_bounds (IsInBounds c.take.new.self.following.current) c.in-Some.found.row c.in_ok-step.step
-    c.in-Some-next_outline.next (sym c.next_outline.ensures
-    ∙ c.in-Some-next_outline.is) c.in_ok-step.ensures.in_bounds
+    c.in-Some-next_outline.next (sym c.next_outline.ensures ∙ c.in-Some-next_outline.is) c.in_ok-step.ensures.in_bounds
 
 pub records-preserved : goal.records-preserved
 records-preserved g c =

@@ -54,8 +54,7 @@ returns-in_default-clause-step c =
           (span_of c.args.key.now c.args.start c.args.count) c.in_default.self-inside.tolerance
           (ap (λ (i : Inside). i.tolerance) w.self-inside-is)
           (breaks_some c.self.inside.tolerance (span_of c.args.key.now c.args.start c.args.count)
-          c.self.inside.current w.in-Some.segment w.in-Some.is
-          (λ k. absurd (both_ways _ w.if-is_continued_by.false
+          c.self.inside.current w.in-Some.segment w.in-Some.is (λ k. absurd (both_ways _ w.if-is_continued_by.false
           (((rw (to_z-of_z c.ranges.start) at w.is_continued_by.ensures) c.args.count).1 k))))
       | in_default-via-in_default w ↦
           begins_after (record { tolerance = c.self.inside.tolerance; current = c.self.inside.current })

@@ -48,8 +48,7 @@ returns-in-Ok-extend_from_slice-clause-time_range c =
     ∙ following_same c.self.inside.follow c.self.inside.samples c.self.invariant in
     let refused = rw (c.len.ensures, to_z-of_z fits) at c.in-Ok.ensures.out_of_range in (
       λ e. absurd e,
-      λ o. let impossible = refused.1
-          (subst (λ (f : Following). Overruns f (row_span c.args.row)) same o) in cc,
+      λ o. let impossible = refused.1 (subst (λ (f : Following). Overruns f (row_span c.args.row)) same o) in cc,
     )
 
 pub returns-in-Begins-clause-step : goal.returns-in-Begins-clause-step
@@ -57,8 +56,7 @@ returns-in-Begins-clause-step c =
     let fits : FitsSigned w64 c.args.row.start = search rules in
     let begins = rw (c.in-Begins.is, c.len.ensures, to_z-of_z fits) at c.in-Ok.ensures.step in
     rw (c.finish.ensures.value, c.replace.ensures.after, c.replace.ensures.value, ← c.self.view_is)
-    (inr (moved_begins c.self.inside.follow c.step.new.self c.self.inside.samples c.args.row c.self.invariant
-    begins))
+    (inr (moved_begins c.self.inside.follow c.step.new.self c.self.inside.samples c.args.row c.self.invariant begins))
 
 pub returns-in-Begins-clause-segments : goal.returns-in-Begins-clause-segments
 returns-in-Begins-clause-segments c =
@@ -72,8 +70,7 @@ returns-in-Begins-clause-time_range c =
     ∙ following_same c.self.inside.follow c.self.inside.samples c.self.invariant in
     let refused = rw (c.len.ensures, to_z-of_z fits) at c.in-Ok.ensures.out_of_range in (
       λ e. absurd e,
-      λ o. let impossible = refused.1
-          (subst (λ (f : Following). Overruns f (row_span c.args.row)) same o) in cc,
+      λ o. let impossible = refused.1 (subst (λ (f : Following). Overruns f (row_span c.args.row)) same o) in cc,
     )
 
 pub invariant_of-self : goal.invariant_of-self
@@ -87,6 +84,5 @@ returns-in_default-extend_from_slice-clause-time_range c =
     ∙ following_same c.self.inside.follow c.self.inside.samples c.self.invariant in
     let refused = rw (c.len.ensures, to_z-of_z fits) at c.in-Ok.ensures.out_of_range in (
       λ e. absurd cc,
-      λ o. let impossible = refused.1
-          (subst (λ (f : Following). Overruns f (row_span c.args.row)) same o) in cc,
+      λ o. let impossible = refused.1 (subst (λ (f : Following). Overruns f (row_span c.args.row)) same o) in cc,
     )

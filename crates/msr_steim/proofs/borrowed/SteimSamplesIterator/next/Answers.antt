@@ -39,8 +39,7 @@ returns-clause-steps c =
       | then-self-eq0-2+in_ok-fields w ↦ sym c.self.view_is
           ∙ ap (λ (ds : List ℤ). record { samples = take old.left (sums_after old.last ds); agrees = old.agrees })
           (ap (λ ds. ds ++ from) (no_numbers old.fields.word old.fields.width old.fields.count w.if-self-eq0-2.true)
-          ∙ w.in_ok-fields.ensures.some)
-          ∙ ap samples_left (sym w.self-inside-is)
+          ∙ w.in_ok-fields.ensures.some) ∙ ap samples_left (sym w.self-inside-is)
       | else-self-eq0-2 w ↦ sym c.self.view_is ∙ ap samples_left (sym w.self-inside-is)
     ] in
     let some : 0 < here.fields.count = elim c.if-self-eq0-2.branch [
@@ -59,8 +58,7 @@ returns-clause-steps c =
     ∙ ap (λ x. x ∷ next) (sym c.difference_at-difference.ensures) in (
       ap (λ (s : SamplesLeft). s.samples) whole
           ∙ first_sum here.last (numbers_in here.fields.word here.fields.width here.fields.count ++ rest) next given
-          here.left many first
-          ∙ ap (λ x. x ∷ take (here.left - 1) (sums_after x next)) (sym sum)
+          here.left many first ∙ ap (λ x. x ∷ take (here.left - 1) (sums_after x next)) (sym sum)
           ∙ ap (λ x. x ∷ take (here.left - 1) (sums_after v next)) (sym (to_z-of_z w32 v fits)),
       ap (λ (s : SamplesLeft). s.agrees) (sym whole),
     )
