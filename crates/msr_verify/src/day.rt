@@ -10,7 +10,7 @@ use msr_tool::FromRead;
 use std::alloc::{AllocError, Global};
 use std::rt::Files;
 
-/// What the files of the day with this path show. All are opened before one is read, the records twice.
+/// What the files of the day with this path show.
 pub(crate) fn judge_day<R: Files>(
     rt: &R,
     alloc: Global,
@@ -23,29 +23,36 @@ pub(crate) fn judge_day<R: Files>(
     let records = join(alloc, folders.out, path)?;
     let report = join(alloc, folders.reports, path)?;
     let report = ended(alloc, report.as_str(), ".txt")?;
-    if is_gone(rt, records.as_str()) || is_gone(rt, report.as_str()) {
-        return Ok(Judgement::Missing);
+    Ok(judge_at(rt, alloc, file.as_str(), records.as_str(), report.as_str()))
+}
+
+/// What the files with these names show. All are opened before one is read, the records twice.
+fn judge_at<R: Files>(rt: &R, alloc: Global, file: &str, records: &str, report: &str) -> Judgement
+    ensures { IsJudgementOfDay result }
+{
+    if is_gone(rt, records) || is_gone(rt, report) {
+        return Judgement::Missing;
     }
-    let Ok(text) = open_regular(rt, report.as_str()) else {
-        return Ok(Judgement::Refused(Refusal::ReportUnopened));
+    let Ok(text) = open_regular(rt, report) else {
+        return Judgement::Refused(Refusal::ReportUnopened);
     };
-    let Ok(packed) = open_regular(rt, records.as_str()) else {
-        return Ok(Judgement::Refused(Refusal::RecordsUnopened));
+    let Ok(packed) = open_regular(rt, records) else {
+        return Judgement::Refused(Refusal::RecordsUnopened);
     };
-    if Look::at(rt, file.as_str()).may_be(&Look::at(rt, records.as_str())) {
-        return Ok(Judgement::Refused(Refusal::SameFile));
+    if Look::at(rt, file).may_be(&Look::at(rt, records)) {
+        return Judgement::Refused(Refusal::SameFile);
     }
-    let Ok(again) = open_regular(rt, records.as_str()) else {
-        return Ok(Judgement::Refused(Refusal::RecordsUnopened));
+    let Ok(again) = open_regular(rt, records) else {
+        return Judgement::Refused(Refusal::RecordsUnopened);
     };
-    let Ok(own) = open_regular(rt, file.as_str()) else {
-        return Ok(Judgement::Refused(Refusal::FileUnopened));
+    let Ok(own) = open_regular(rt, file) else {
+        return Judgement::Refused(Refusal::FileUnopened);
     };
-    Ok(judgement_of(verify_day(
+    judgement_of(verify_day(
         alloc,
         &mut FromRead::new(own),
         &mut FromRead::new(packed),
         &mut FromRead::new(again),
         &mut FromRead::new(text),
-    )))
+    ))
 }

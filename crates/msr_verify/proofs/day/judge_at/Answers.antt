@@ -3,7 +3,7 @@ use Rattle.msr_verify.specs.Entries.{HasAnswer, IsJudgementOfDay, judgement_of}
 use Rattle.msr_verify.specs.declared.judging.Finding.{Finding}
 use Rattle.msr_verify.specs.declared.judging.Finding.TheVariants.{Verified, NotShown, Differs}
 use Rattle.msr_verify.specs.declared.judging.VerifyFault.{VerifyFault}
-use Rattle.msr_verify.proofs.day.judge_day.Goals as goal
+use Rattle.msr_verify.proofs.day.judge_at.Goals as goal
 
 -- what is told of a day with an answer says that some files have it
 told : (answer : Result Finding VerifyFault) → HasAnswer answer → IsJudgementOfDay (judgement_of answer)
