@@ -12,7 +12,10 @@ use Rattle.msr_folders.proofs.VisitLemmas.{part_none, stops_within}
 use Rattle.msr_report.specs.Writing.{TakesPrefix}
 use Rattle.msr_tool.specs.Fault.{fault_of_writing}
 use Rattle.msr_tool.specs.declared.fault.ToolFault.TheVariants.{Write}
-use Rattle.msr_verify.specs.Entries.{Entry, IsEntry, IsEntryLine, IsVerifyTally}
+use Rattle.msr_verify.specs.declared.judgement.Judgement.{Judgement}
+use Rattle.msr_verify.specs.declared.judgement.Judgement.TheVariants.{Refused, Skipped}
+use Rattle.msr_verify.specs.declared.judgement.Refusal.TheVariants.{FileUnopened, Listing, RecordsListing}
+use Rattle.msr_verify.specs.Entries.{Entry, IsDay, IsEntry, IsEntryLine, IsJudgementOf, IsJudgementOfDay, IsVerifyTally}
 use Rattle.msr_verify.specs.Walk.{IsWalkInPart, StopsPrefix, StopsTelling, Tells, TellsEnd, TellsInPart, Verifies, counts_line, summary}
 use Rattle.msr_verify.specs.declared.tally.VerifyTally.{VerifyTally}
 
@@ -130,3 +133,11 @@ front_piece old new text n piece = record {
   takes = piece;
   whole = sym (take-append-drop n text);
 }
+
+-- what was found of a day is found of its entry
+pub judged : (path : List ℕ) (judgement : Judgement) → IsDay path → IsJudgementOfDay judgement → IsJudgementOf path judgement
+judged path (Refused FileUnopened) day is = tt
+judged path (Refused Listing) day is = tt
+judged path (Refused RecordsListing) day is = tt
+judged path (Skipped fault) day is = absurd is
+judged path judgement day is = record { day = day; judgement_is = is }

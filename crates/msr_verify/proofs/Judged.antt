@@ -2,6 +2,9 @@
 use Rattle.std.proofs.Common.{◌≡◌, ℕ, List, Result, Ok, Err, inl, inr, refl}
 use Rattle.msr_devices.specs.Device.{Device, HasLeft}
 use Rattle.msr_devices.proofs.Chaining.{left_of}
+use Rattle.msr_compare.specs.Answers.{CompareAnswers}
+use Rattle.msr_compare.specs.declared.fault.CompareFault.TheVariants.{One, Other}
+use Rattle.msr_input.specs.declared.settings.Settings.{Settings}
 use Rattle.msr_report.specs.declared.report.Report.{Report}
 use Rattle.msr_report_reader.specs.Reading.{ReadsReport}
 use Rattle.msr_report_reader.specs.declared.fault.ReportFault.{ReportFault}
@@ -123,3 +126,16 @@ data_compared file records again report second text found result left_records le
   answers = comparison_said compared.first second compared.second text found result
       (record { report = found; read = reads; least = least }) refl compared.answers;
 }
+
+-- what comparing says of the day's own file that is at fault, and of its records
+pub file_said : (settings : Settings) (first second : List ℕ) (why : ReadFault)
+    → CompareAnswers settings first second (Err (One why)) → DataAnswers settings first second (Err (File why))
+file_said settings first second (stop.Input found) answers = answers
+file_said settings first second stop.Read answers = tt
+file_said settings first second stop.Memory answers = tt
+
+pub records_said : (settings : Settings) (first second : List ℕ) (why : ReadFault)
+    → CompareAnswers settings first second (Err (Other why)) → DataAnswers settings first second (Err (Records why))
+records_said settings first second (stop.Input found) answers = answers
+records_said settings first second stop.Read answers = tt
+records_said settings first second stop.Memory answers = tt

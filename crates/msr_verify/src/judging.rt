@@ -5,7 +5,7 @@ ghost use Rattle.msr_report.specs.Proper.{IsProper};
 ghost use Rattle.msr_verify.specs.Day.{ComparesDay, VerifiesDay, fault_of_report};
 ghost use Rattle.msr_verdict.specs.Packed.{settings_by};
 
-use msr_compare::{CompareFault, compare};
+use msr_compare::{CompareFault, Comparison, compare};
 use msr_devices::Source;
 use msr_input::{ReadFault, Settings};
 use msr_report::Report;
@@ -78,8 +78,8 @@ fn compare_day<F: Source, P: Source>(
         strict: false,
     };
     match compare(alloc, file, records, settings) {
-        Ok(found) if found.is_same() => Ok(Finding::Verified),
-        Ok(_) => Ok(Finding::Differs),
+        Ok(Comparison::Same(_)) => Ok(Finding::Verified),
+        Ok(Comparison::Differ(_)) => Ok(Finding::Differs),
         Err(CompareFault::One(fault)) => Err(VerifyFault::File(fault)),
         Err(CompareFault::Other(fault)) => Err(VerifyFault::Records(fault)),
     }

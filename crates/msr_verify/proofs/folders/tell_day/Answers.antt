@@ -1,5 +1,5 @@
 use Rattle.std.proofs.lemmas.Result.{err_from_is_err_and}
-use Rattle.msr_verify.proofs.EntriesFound.{none_told, tells_none}
+use Rattle.msr_verify.proofs.EntriesFound.{judged, none_told, tells_none}
 use Rattle.msr_verify.proofs.folders.tell_day.Goals as goal
 
 pub returns-in_err-judgement-clause-stops : goal.returns-in_err-judgement-clause-stops
@@ -14,3 +14,9 @@ returns-in_err-file-clause-stops g c =
 
 pub returns-clause-told : goal.returns-clause-told
 returns-clause-told g c = λ name day. tells_none (g.O.Sink.device c.args.out.now) c.args.tally.now
+
+pub returns-then-eq-clause-told : goal.returns-then-eq-clause-told
+returns-then-eq-clause-told g c = λ name day. c.tell.ensures.told (judged _ c.in_ok-judgement.judgement (name, day) c.in_ok-judgement.ensures)
+
+pub returns-then-eq-clause-stops : goal.returns-then-eq-clause-stops
+returns-then-eq-clause-stops g c = λ name day. c.tell.ensures.stops (judged _ c.in_ok-judgement.judgement (name, day) c.in_ok-judgement.ensures)

@@ -8,88 +8,51 @@ use Rattle.msr_verify.proofs.folders.verify.Goals as goal
 pub returns-in_err-walk_tree-clause-answer : goal.returns-in_err-walk_tree-clause-answer
 returns-in_err-walk_tree-clause-answer g c =
     let p = err_from_is_err_and c.from_residual.result c.from_residual.ensures.1 in
-    let out0 = g.O.Sink.device c.args.out.now in
-    let out = g.O.Sink.device c.walk_tree.new.out in
-    let fault = c.in_err-walk_tree.field-0.0 in
-    rw (p.1, p.2) (walk_stops out0 out fault (stops_entries out0 out fault c.in_err-walk_tree.ensures.stops))
+    rw (p.1, p.2) (walk_stops _ _ _ (stops_entries _ _ c.in_err-walk_tree.field-0.0 c.in_err-walk_tree.ensures.stops))
 
 pub returns-in_err-walk_tree-clause-write : goal.returns-in_err-walk_tree-clause-write
 returns-in_err-walk_tree-clause-write g c =
     let p = err_from_is_err_and c.from_residual.result c.from_residual.ensures.1 in
-    let out0 = g.O.Sink.device c.args.out.now in
-    let out = g.O.Sink.device c.walk_tree.new.out in
-    rw (p.1, p.2) (stop_tells _ out0 out c.in_err-walk_tree.field-0.0 c.in_err-walk_tree.ensures.stops)
+    rw (p.1, p.2) (stop_tells _ _ _ c.in_err-walk_tree.field-0.0 c.in_err-walk_tree.ensures.stops)
 
 pub returns-in_err-walk_tree-2-clause-answer : goal.returns-in_err-walk_tree-2-clause-answer
 returns-in_err-walk_tree-2-clause-answer g c =
     let p = err_from_is_err_and c.from_residual-in_err-walk_tree-2.result
     c.from_residual-in_err-walk_tree-2.ensures.1 in
-    let out0 = g.O.Sink.device c.args.out.now in
-    let out1 = g.O.Sink.device c.walk_tree.new.out in
-    let out = g.O.Sink.device c.walk_tree-2.new.out in
     let fault = c.in_err-walk_tree-2.field-0.0 in
-    rw (p.1, p.2) (walk_stops out0 out fault (stops_entries out0 out fault
-    (stops_more out0 out1 out c.new-tally.result c.walk_tree.new.tally fault c.in_ok-walk_tree.ensures.told
-    c.in_err-walk_tree-2.ensures.stops)))
+    rw (p.1, p.2) (walk_stops _ _ _ (stops_entries _ _ fault
+    (stops_more _ _ _ _ _ fault c.in_ok-walk_tree.ensures.told c.in_err-walk_tree-2.ensures.stops)))
 
 pub returns-in_err-walk_tree-2-clause-write : goal.returns-in_err-walk_tree-2-clause-write
 returns-in_err-walk_tree-2-clause-write g c =
     let p = err_from_is_err_and c.from_residual-in_err-walk_tree-2.result
     c.from_residual-in_err-walk_tree-2.ensures.1 in
-    let out0 = g.O.Sink.device c.args.out.now in
-    let out1 = g.O.Sink.device c.walk_tree.new.out in
-    let out = g.O.Sink.device c.walk_tree-2.new.out in
     let fault = c.in_err-walk_tree-2.field-0.0 in
-    rw (p.1, p.2) (stop_tells _ out0 out fault
-    (stops_more out0 out1 out c.new-tally.result c.walk_tree.new.tally fault c.in_ok-walk_tree.ensures.told
-    c.in_err-walk_tree-2.ensures.stops))
+    rw (p.1, p.2) (stop_tells _ _ _ fault
+    (stops_more _ _ _ _ _ fault c.in_ok-walk_tree.ensures.told c.in_err-walk_tree-2.ensures.stops))
 
 pub returns-in_err-write-clause-answer : goal.returns-in_err-write-clause-answer
 returns-in_err-write-clause-answer g c =
     let p = err_from_is_err_and c.from_residual-in_err-write.result c.from_residual-in_err-write.ensures.1 in
-    let out0 = g.O.Sink.device c.args.out.now in
-    let out1 = g.O.Sink.device c.walk_tree.new.out in
-    let out2 = g.O.Sink.device c.walk_tree-2.new.out in
-    let out = g.O.Sink.device c.write.new.out in
-    let tally = c.walk_tree-2.new.tally in
     let fault = c.in_err-write.field-0.0 in
-    let told = tells_more out0 out1 out2 c.new-tally.result c.walk_tree.new.tally tally
-    c.in_ok-walk_tree.ensures.told c.in_ok-walk_tree-2.ensures.told in
-    let line = summary_is told.entries tally (told.counts [] c.new-tally.ensures) in
-    rw (p.1, p.2) (walk_stops out0 out fault
-    (stops_summary out0 out2 out c.new-tally.result tally fault told
-    (rw line at c.in_err-write.ensures.stops)))
+    let told = tells_more _ _ _ _ _ _ c.in_ok-walk_tree.ensures.told c.in_ok-walk_tree-2.ensures.told in
+    let line = summary_is told.entries _ (told.counts [] c.new-tally.ensures) in
+    rw (p.1, p.2) (walk_stops _ _ fault (stops_summary _ _ _ _ _ fault told (rw line at c.in_err-write.ensures.stops)))
 
 pub returns-in_err-write-clause-write : goal.returns-in_err-write-clause-write
 returns-in_err-write-clause-write g c =
     let p = err_from_is_err_and c.from_residual-in_err-write.result c.from_residual-in_err-write.ensures.1 in
-    let out0 = g.O.Sink.device c.args.out.now in
-    let out1 = g.O.Sink.device c.walk_tree.new.out in
-    let out2 = g.O.Sink.device c.walk_tree-2.new.out in
-    let out = g.O.Sink.device c.write.new.out in
-    let tally = c.walk_tree-2.new.tally in
     let fault = c.in_err-write.field-0.0 in
-    let told = tells_more out0 out1 out2 c.new-tally.result c.walk_tree.new.tally tally
-    c.in_ok-walk_tree.ensures.told c.in_ok-walk_tree-2.ensures.told in
-    let line = summary_is told.entries tally (told.counts [] c.new-tally.ensures) in
-    rw (p.1, p.2) (stop_tells _ out0 out fault
-    (stops_summary out0 out2 out c.new-tally.result tally fault told
-    (rw line at c.in_err-write.ensures.stops)))
+    let told = tells_more _ _ _ _ _ _ c.in_ok-walk_tree.ensures.told c.in_ok-walk_tree-2.ensures.told in
+    let line = summary_is told.entries _ (told.counts [] c.new-tally.ensures) in
+    rw (p.1, p.2) (stop_tells _ _ _ fault (stops_summary _ _ _ _ _ fault told (rw line at c.in_err-write.ensures.stops)))
 
 pub returns-clause-answer : goal.returns-clause-answer
 returns-clause-answer g c =
-    let out0 = g.O.Sink.device c.args.out.now in
-    let out1 = g.O.Sink.device c.walk_tree.new.out in
-    let out2 = g.O.Sink.device c.walk_tree-2.new.out in
-    let out = g.O.Sink.device c.write.new.out in
-    let tally = c.walk_tree-2.new.tally in
-    let told = tells_more out0 out1 out2 c.new-tally.result c.walk_tree.new.tally tally
-    c.in_ok-walk_tree.ensures.told c.in_ok-walk_tree-2.ensures.told in
+    let told = tells_more _ _ _ _ _ _ c.in_ok-walk_tree.ensures.told c.in_ok-walk_tree-2.ensures.told in
     let counts = told.counts [] c.new-tally.ensures in
-    let line = summary_is told.entries tally counts in
-    walk_ends out0 out2 out c.new-tally.result tally _ told
-    (rw line at c.in_ok-write.ensures.all)
-    (c.end_of.ensures told.entries counts)
+    let line = summary_is told.entries _ counts in
+    walk_ends _ _ _ _ _ _ told (rw line at c.in_ok-write.ensures.all) (c.end_of.ensures told.entries counts)
 
 pub returns-clause-write : goal.returns-clause-write
 returns-clause-write g c =

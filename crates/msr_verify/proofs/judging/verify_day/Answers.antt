@@ -30,3 +30,6 @@ returns-clause-answer g c =
     records_fail (g.F.Source.device c.args.file.now) (g.P.Source.device c.args.records.now)
     (g.A.Source.device c.args.again.now) (g.Q.Source.device c.args.report.now) b.0 a.0 c.in-Ok.report
     c.in-Err-verify_packed.fault b.1 a.1 a.2 b.2
+
+pub returns-in-Ok-Least-clause-read_file : goal.returns-in-Ok-Least-clause-read_file
+returns-in-Ok-Least-clause-read_file g c = c.compare_day.ensures.read_file
