@@ -76,13 +76,9 @@ impl DayFiles {
         if !check {
             return Ok(());
         }
-        let records = self.records.open(rt)?;
-        let report = self.report.open(rt)?;
-        require_shown(
-            alloc,
-            &mut FromRead::new(records),
-            &mut FromRead::new(report),
-        )
+        let mut records = FromRead::new(self.records.open(rt)?);
+        let mut report = FromRead::new(self.report.open(rt)?);
+        require_shown(alloc, &mut records, &mut report)
     }
 
     /// Stamps the day, if its input is as it was; without a stamp the next walk repacks it again. Tells whether nothing
@@ -167,13 +163,9 @@ impl Day {
             return Ok(());
         }
         let input = opened(Side::File, open_regular(work.rt, self.input.as_str()))?;
-        let records = files.records.open(work.rt)?;
-        require_same(
-            work.alloc,
-            &mut FromRead::new(input),
-            &mut FromRead::new(records),
-            work.asked.options,
-        )
+        let mut input = FromRead::new(input);
+        let mut records = FromRead::new(files.records.open(work.rt)?);
+        require_same(work.alloc, &mut input, &mut records, work.asked.options)
     }
 
     /// Opens the input before any file is made. What is to be shown is shown, and what is to be compared is compared,
