@@ -10,20 +10,17 @@ use Rattle.msr_walk.proofs.folders.tell_day.Goals as goal
 pub returns-in_err-channel-clause-stops : goal.returns-in_err-channel-clause-stops
 returns-in_err-channel-clause-stops g c =
     let p = err_from_is_err_and c.from_residual.result c.from_residual.ensures.1 in
-    let out = g.O.Sink.device c.args.out.now in
-    rw (p.1, p.2) (none_told c.args.walker.now.archive.now.days out)
+    rw (p.1, p.2) (none_told _ _)
 
 pub returns-in_err-day-clause-stops : goal.returns-in_err-day-clause-stops
 returns-in_err-day-clause-stops g c =
     let p = err_from_is_err_and c.from_residual-in_err-day.result c.from_residual-in_err-day.ensures.1 in
-    let out = g.O.Sink.device c.args.out.now in
-    rw (p.1, p.2) (none_told c.args.walker.now.archive.now.days out)
+    rw (p.1, p.2) (none_told _ _)
 
 pub returns-in_err-outcome-clause-stops : goal.returns-in_err-outcome-clause-stops
 returns-in_err-outcome-clause-stops g c =
     let p = err_from_is_err_and c.from_residual-in_err-outcome.result c.from_residual-in_err-outcome.ensures.1 in
-    let out = g.O.Sink.device c.args.out.now in
-    rw (p.1, p.2) (none_told c.args.walker.now.archive.now.days out)
+    rw (p.1, p.2) (none_told _ _)
 
 pub returns-clause-told : goal.returns-clause-told
 returns-clause-told g c =
