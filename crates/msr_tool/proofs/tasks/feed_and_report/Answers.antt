@@ -1,3 +1,4 @@
+use Rattle.std.proofs.Common.{rules}
 use Rattle.std.proofs.lemmas.Result.{err_from_is_err_and}
 use Rattle.msr_tool.proofs.StoppedTexts.{repack_stops, text_stops}
 use Rattle.msr_tool.proofs.tasks.feed_and_report.Goals as goal
@@ -13,3 +14,15 @@ returns-in_err-write_text-clause-answer g c =
     let t = c.in_err-write_text.ensures.text in
     rw (p.1, p.2) (text_stops c.args.options _ _ _ _ _ _ t.0 _ c.in_err-write_text.field-0.0
     c.in_ok-fed.ensures.does t.1.0 t.1.1)
+
+pub returns-in_err-fed-clause-failures : goal.returns-in_err-fed-clause-failures
+returns-in_err-fed-clause-failures g c = search rules
+
+pub returns-in_err-write_text-clause-failures : goal.returns-in_err-write_text-clause-failures
+returns-in_err-write_text-clause-failures g c = search rules
+
+pub returns-clause-answer : goal.returns-clause-answer
+returns-clause-answer g c = search rules
+
+pub returns-clause-failures : goal.returns-clause-failures
+returns-clause-failures g c = search rules
