@@ -41,9 +41,8 @@ returns-in_err-take g c =
     let next = c.in-Some.next in
     let reads = rw c.in-Some.is at (c.in_ok-next.ensures.read
     (g.R.Source.device c.args.source.now) u.rows.records u.rows.answers u.rows.has_read) in
-    let step = rw c.in-Some.is at c.in_ok-next.ensures.step in
-    let bounds = rw c.in-Some.is at c.in_ok-next.ensures.in_bounds in
-    let m = outline_more _ _ _ _ _ _ u.given u.joining next u.rows reads step c.next_outline.ensures.settings bounds in
+    let m = outline_more _ _ _ _ _ _ u.given u.joining next u.rows reads (rw c.in-Some.is at c.in_ok-next.ensures.step)
+    c.next_outline.ensures.settings (rw c.in-Some.is at c.in_ok-next.ensures.in_bounds) in
     let after = given_read _ _ _ _ _ m.new m.rows in
     let stops = rw u.same_form at (c.in_err-take.ensures.written _ u.given u.joining.current listed u.last) in
     rw (p.1, p.2) (write_ends _ _ _ _ _ _ _ _ c.in_err-take.field-0.0 reads.reads.read.came.steady
@@ -56,9 +55,8 @@ rows-preserved g c =
     let next = c.in-Some.next in
     let reads = rw c.in-Some.is at (c.in_ok-next.ensures.read
     (g.R.Source.device c.args.source.now) u.rows.records u.rows.answers u.rows.has_read) in
-    let step = rw c.in-Some.is at c.in_ok-next.ensures.step in
-    let bounds = rw c.in-Some.is at c.in_ok-next.ensures.in_bounds in
-    let m = outline_more _ _ _ _ _ _ u.given u.joining next u.rows reads step c.next_outline.ensures.settings bounds in
+    let m = outline_more _ _ _ _ _ _ u.given u.joining next u.rows reads (rw c.in-Some.is at c.in_ok-next.ensures.step)
+    c.next_outline.ensures.settings (rw c.in-Some.is at c.in_ok-next.ensures.in_bounds) in
     under_more _ _ _ _ _ _ _ c.rows.writer _ u.given u.joining next reads.row reads.outline_is u.last m
     u.same_form c.in_ok-take.ensures.form
     (c.in_ok-take.ensures.written _ u.given u.joining.current listed u.last)

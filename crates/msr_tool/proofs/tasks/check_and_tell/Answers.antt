@@ -8,15 +8,13 @@ pub returns-in_err-verdict-clause-answer : goal.returns-in_err-verdict-clause-an
 returns-in_err-verdict-clause-answer g c =
     let p = err_from_is_err_and c.from_residual.result c.from_residual.ensures.1 in
     let a = c.in_err-verdict.ensures.answer in
-    rw (p.1, p.2) (check_stops (g.R.Source.device c.args.packed.now) (g.Q.Source.device c.args.report.now)
-    (g.T.Sink.device c.args.out.now) a.0 a.1 c.in_err-verdict.field-0.0 a.2 a.3 a.4)
+    rw (p.1, p.2) (check_stops _ _ _ a.0 a.1 c.in_err-verdict.field-0.0 a.2 a.3 a.4)
 
 pub returns-in_err-line-clause-answer : goal.returns-in_err-line-clause-answer
 returns-in_err-line-clause-answer g c =
     let p = err_from_is_err_and c.from_residual-in_err-line.result c.from_residual-in_err-line.ensures.1 in
     let a = c.in_ok-verdict.ensures.answer in
-    rw (p.1, p.2) (line_refused (g.R.Source.device c.args.packed.now) (g.Q.Source.device c.args.report.now)
-    (g.T.Sink.device c.args.out.now) a.0 a.1 a.2 a.3)
+    rw (p.1, p.2) (line_refused _ _ _ a.0 a.1 a.2 a.3)
 
 pub returns-in_err-write_all-clause-answer : goal.returns-in_err-write_all-clause-answer
 returns-in_err-write_all-clause-answer g c =
@@ -24,7 +22,4 @@ returns-in_err-write_all-clause-answer g c =
     let a = c.in_ok-verdict.ensures.answer in
     let part = c.in_err-write_all.ensures.part in
     let line : c.as_bytes.result.now ≡ verdict_line c.in_ok-verdict.verdict = search rules in
-    rw (p.1, p.2) (line_cut (g.R.Source.device c.args.packed.now) (g.Q.Source.device c.args.report.now)
-    (g.T.Sink.device c.args.out.now)
-    (g.T.Sink.device c.write_all.new.sink) a.0 a.1 c.as_bytes.result.now part.0 c.in_ok-verdict.verdict a.2 a.3
-    a.4 line part.1)
+    rw (p.1, p.2) (line_cut _ _ _ _ a.0 a.1 c.as_bytes.result.now part.0 c.in_ok-verdict.verdict a.2 a.3 a.4 line part.1)

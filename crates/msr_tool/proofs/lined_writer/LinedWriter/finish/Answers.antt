@@ -9,8 +9,7 @@ returns-in_err-finish-clause-written g c = λ start packed current h.
     let wrote = lined_none start (g.W.Sink.device c.end_last.new.sink) _ m.all
     (rw (← c.all.view_is) at c.in_ok-end_last.ensures.last) (rw (← c.all.view_is) at m.after) in
     let same_form = rw (← c.all.view_is) at c.in_ok-end_last.ensures.form in
-    rw (p.1, p.2) (stops_finishing _ start
-    (g.W.Sink.device c.finish.new.sink) c.all.inside.writer m.all packed current c.in_err-finish.field-0.0
+    rw (p.1, p.2) (stops_finishing _ start _ c.all.inside.writer m.all packed current c.in_err-finish.field-0.0
     same_form m.same (c.in_err-finish.ensures.written start m.all wrote.0 wrote.1))
 
 pub returns-clause-written : goal.returns-clause-written
