@@ -16,17 +16,14 @@ returns-in_err-write_all-clause-stops g c =
     let part = c.in_err-write_all.ensures.part in
     let entry : Entry = record { path = c.args.path.now; judgement = c.args.judgement } in
     λ is. rw (p.1, p.2) (
-      part_line IsEntry IsEntryLine (g.O.Sink.device c.args.out.now)
-          (g.O.Sink.device c.write_all.new.sink) part.0 entry c.as_bytes.result.now
-          is (rw c.as_bytes.ensures.value c.in_ok-line.ensures) part.1,
+      part_line IsEntry IsEntryLine _ _ part.0 entry c.as_bytes.result.now is
+          (rw c.as_bytes.ensures.value c.in_ok-line.ensures) part.1,
       c.in_err-write_all.ensures.failed,
     )
 
 pub returns-clause-told : goal.returns-clause-told
 returns-clause-told g c =
     let entry : Entry = record { path = c.args.path.now; judgement = c.args.judgement } in
-    λ is. tells_one IsEntry IsEntryLine IsVerifyTally (g.O.Sink.device c.args.out.now)
-    (g.O.Sink.device c.write_all.new.sink) c.args.tally.now c.add.new.self entry
-    c.as_bytes.result.now is
+    λ is. tells_one IsEntry IsEntryLine IsVerifyTally _ _ _ _ entry c.as_bytes.result.now is
     (rw c.as_bytes.ensures.value c.in_ok-line.ensures) c.in_ok-write_all.ensures.all c.in_ok-write_all.ensures.calm
     (λ before h. c.add.ensures before entry h refl)
