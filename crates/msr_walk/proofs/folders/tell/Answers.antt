@@ -17,9 +17,8 @@ returns-in_err-write_all-clause-stops g c =
     let asked = c.args.walker.now.archive.now.days in
     let entry : Entry = record { path = c.args.path.now; channel = c.args.channel.now; outcome = c.args.outcome } in
     λ is. rw (p.1, p.2) (
-      part_line (IsEntry asked) (IsEntryLine asked.bytes) (g.O.Sink.device c.args.out.now)
-          (g.O.Sink.device c.write_all.new.sink) part.0 entry c.as_bytes.result.now
-          is (rw c.as_bytes.ensures.value c.in_ok-line.ensures) part.1,
+      part_line (IsEntry asked) (IsEntryLine asked.bytes) _ _ part.0 entry c.as_bytes.result.now is
+          (rw c.as_bytes.ensures.value c.in_ok-line.ensures) part.1,
       c.in_err-write_all.ensures.failed,
     )
 
@@ -29,9 +28,8 @@ returns-in_err-add-clause-stops g c =
     let asked = c.args.walker.now.archive.now.days in
     let entry : Entry = record { path = c.args.path.now; channel = c.args.channel.now; outcome = c.args.outcome } in
     λ is. rw (p.1, p.2) (
-      part_one (IsEntry asked) (IsEntryLine asked.bytes) (g.O.Sink.device c.args.out.now)
-          (g.O.Sink.device c.write_all.new.sink) entry c.as_bytes.result.now
-          is (rw c.as_bytes.ensures.value c.in_ok-line.ensures) c.in_ok-write_all.ensures.all,
+      part_one (IsEntry asked) (IsEntryLine asked.bytes) _ _ entry c.as_bytes.result.now is
+          (rw c.as_bytes.ensures.value c.in_ok-line.ensures) c.in_ok-write_all.ensures.all,
       c.in_ok-write_all.ensures.calm.steady,
     )
 
@@ -39,7 +37,6 @@ pub returns-clause-told : goal.returns-clause-told
 returns-clause-told g c =
     let asked = c.args.walker.now.archive.now.days in
     let entry : Entry = record { path = c.args.path.now; channel = c.args.channel.now; outcome = c.args.outcome } in
-    λ is. tells_one (IsEntry asked) (IsEntryLine asked.bytes) IsTally (g.O.Sink.device c.args.out.now)
-    (g.O.Sink.device c.write_all.new.sink) c.args.tally.now c.add.new.self entry c.as_bytes.result.now is
+    λ is. tells_one (IsEntry asked) (IsEntryLine asked.bytes) IsTally _ _ _ _ entry c.as_bytes.result.now is
     (rw c.as_bytes.ensures.value c.in_ok-line.ensures) c.in_ok-write_all.ensures.all c.in_ok-write_all.ensures.calm
     (λ before h. c.in_ok-add.ensures before entry h refl refl)
