@@ -1,6 +1,7 @@
 -- One size more.
-use Rattle.std.proofs.Common.{rules, arith, ◌<◌, ◌≤◌, ◌-◌, ◌∷◌, length-set, drop, w64, SFits, subst, ◌∙◌}
+use Rattle.std.proofs.Common.{rules, arith, sym, ◌<◌, ◌≤◌, ◌-◌, ◌∷◌, length-set, drop, w64, SFits, subst, ◌∙◌}
 use Rattle.std.proofs.lemmas.Int.{to_z-of_z}
+use Rattle.std.proofs.lemmas.List.{drop_all}
 use Rattle.msr_words.specs.FirstGroup.{IsFirstGroup}
 use Rattle.msr_words.specs.Following.{IsFollowing}
 use Rattle.msr_words.proofs.FirstGroups.{given_at, sizes_more}
@@ -35,4 +36,18 @@ loop-at-preserved g c =
             subst (λ xs. IsFirstGroup xs c.preceded_by-following.result.group (c.preceded_by-following.result.all - 1))
                 cut group,
           );
+    }
+
+pub loop-at-init : goal.loop-at-init
+loop-at-init g c =
+    let long = sym c.in_ok-sizes.sizes.ok.0 ∙ c.in_ok-sizes.ensures.len in
+    record {
+      few = omega (arith, c.nothing-following.ensures.few);
+      long = long;
+      following = λ ds given. subst (λ xs. IsFollowing xs c.nothing-following.result)
+          (sym (drop_all c.args.count ds (omega (arith, given.long)))) c.nothing-following.ensures.following;
+      sizes = λ ds given. record {
+        long = long ∙ sym given.long;
+        each = λ at from less. absurd (omega (arith, given.long));
+      };
     }
