@@ -1,7 +1,7 @@
 -- One difference more, and the last group.
 use Rattle.std.proofs.Common.{rules, arith, ◌≡◌, ◌+◌, ◌++◌, [], ◌∷◌, length, map, take, drop, min, get_or, pos, w32, w64, SFits, ap, ◌∙◌, subst, inl, inr}
 use Rattle.std.proofs.lemmas.Int.{to_z-of_z}
-use Rattle.std.proofs.lemmas.List.{length-map, take_all, take_more}
+use Rattle.std.proofs.lemmas.List.{length-append, length-map, take_all, take_more}
 use Rattle.msr_kinds.specs.declared.storage.Version.TheVariants.{Two}
 use Rattle.msr_words.specs.Division.{CanDivide}
 use Rattle.msr_words.specs.Groups.{IsCapacity}
@@ -97,4 +97,15 @@ returns-clause-chosen c =
           let last = greedy_none c.args.words c.loop-difference.most ds c.loop-difference.group.items
           (map (λ g. g.items) c.loop-difference.groups.items) is (grind arith) in
           rw w.groups-is last
+    ]
+
+pub returns-clause-few : goal.returns-clause-few
+returns-clause-few c =
+    let few = c.loop-difference.invariant.few in
+    let number = length-map c.loop-difference.groups.items (λ g. g.items) in
+    elim c.if-not-is_empty.branch [
+      | then-not-is_empty+in_ok-push-2 w ↦
+          let more = length-append c.loop-difference.groups.items (c.loop-difference.group ∷ []) in
+          rw (w.groups-is, w.in_ok-push-2.ensures.items) (omega arith)
+      | else-not-is_empty w ↦ rw w.groups-is (omega arith)
     ]
