@@ -14,3 +14,6 @@ returns-then-sample-before c =
     let turned : SFits w64 (pos 0 -ℤ ((c.args.sample -ℤ c.args.before) +ℤ pos 1)) = search rules in
     let less : (c.args.sample -ℤ c.args.before) <ℤ pos 0 = omega (arith, ints, c.if-sample-before.true) in
     simp to_z-of_z (size_below (c.args.sample -ℤ c.args.before) less)
+
+pub returns-else-sample-before : goal.returns-else-sample-before
+returns-else-sample-before c = search rules
