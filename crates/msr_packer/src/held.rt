@@ -1,6 +1,6 @@
 //! The last samples of a segment, with the step whose piece comes next.
 
-ghost use Rattle.std.specs.Prelude.{◌≡◌, ℕ, ℤ, List, [], ◌++◌, ◌+◌, ◌-◌, ◌*◌, ◌<◌, ◌≤◌, ◌⊎◌, length, drop, IfSome, IsNone, IsSome, Some};
+ghost use Rattle.std.specs.Prelude.{◌≡◌, ℕ, ℤ, List, [], ◌++◌, ◌+◌, ◌-◌, ◌*◌, ◌<◌, ◌≤◌, ◌⊎◌, length, drop, IfSome, IsNone, IsSome, None, Some};
 ghost use Rattle.msr_words.specs.declared.kinds.Run.{Run};
 ghost use Rattle.msr_words.specs.Fit.{FitsAny, IsRun, records_of};
 ghost use Rattle.msr_words.specs.Laws.{most_any};
@@ -194,7 +194,7 @@ impl HeldSamples {
         ensures form { result.form ≡ form }
         ensures none { HoldsRest [] [] [] result }
         ensures sound { IsSound result }
-        ensures current { IsNone result.current }
+        ensures current { result.current ≡ None }
         ensures samples { result.samples.items ≡ [] }
         ensures shown { shown_by result ≡ [] }
         ensures sizes { KnowsSizes result }
