@@ -39,15 +39,7 @@ returns-in_default-clause-given c = λ records before runs separators s.
     let held = c.forget.new.held in
     let t = c.forget.ensures.streaming in
     let items = rw (to_z-of_z c.ranges.sample) at c.in_ok-extend_from_slice.ensures.items in
-    let new : HeldSamples = record {
-      form = held.form;
-      samples = c.extend_from_slice.new.self;
-      offset = held.offset;
-      current = held.current;
-      from = held.from;
-      to = held.to;
-      sizes = held.sizes;
-    } in
+    let new : HeldSamples = record held { samples = c.extend_from_slice.new.self } in
     let m = packs_pushed records before runs separators own held new (c.args.sample ∷ []) false
     c.forget.ensures.needed refl refl refl items (rw (← c.self.view_is) at s).packs in
     let growing = rw (c.as_slice-seen.ensures.value, c.frontier_of-frontier.ensures) at c.in_default.ensures.open refl
@@ -63,15 +55,7 @@ invariant_of-self-in_default c =
     let t = c.forget.ensures.streaming in
     let more = c.args.sample ∷ [] in
     let items = rw (to_z-of_z c.ranges.sample) at c.in_ok-extend_from_slice.ensures.items in
-    let new : HeldSamples = record {
-      form = held.form;
-      samples = c.extend_from_slice.new.self;
-      offset = held.offset;
-      current = held.current;
-      from = held.from;
-      to = held.to;
-      sizes = held.sizes;
-    } in
+    let new : HeldSamples = record held { samples = c.extend_from_slice.new.self } in
     let growing = rw (c.as_slice-seen.ensures.value, c.frontier_of-frontier.ensures) at c.in_default.ensures.open refl
     in
     let behind = growing_few (records_of held.form) new.samples.items
@@ -107,15 +91,7 @@ returns-clause-given c = λ records before runs separators s.
     let d = rw (c.as_slice-seen.ensures.value, c.frontier_of-frontier.ensures) at c.in-Some.ensures.decided in
     let last = d.before_last in
     let items = rw (to_z-of_z c.ranges.sample) at c.in_ok-extend_from_slice.ensures.items in
-    let mid : HeldSamples = record {
-      form = held.form;
-      samples = c.extend_from_slice.new.self;
-      offset = held.offset;
-      current = held.current;
-      from = held.from;
-      to = held.to;
-      sizes = held.sizes;
-    } in
+    let mid : HeldSamples = record held { samples = c.extend_from_slice.new.self } in
     let m = packs_pushed records before runs separators own held mid (c.args.sample ∷ []) false c.forget.ensures.needed
     refl refl refl items (rw (← c.self.view_is) at s).packs in
     let g = c.go_on.ensures in
@@ -145,18 +121,16 @@ returns-clause-shown c = λ records before runs separators s.
     let held = c.forget.new.held in
     let t = c.forget.ensures.streaming in
     let items = rw (to_z-of_z c.ranges.sample) at c.in_ok-extend_from_slice.ensures.items in
-    let mid : HeldSamples = record {
-      form = held.form;
-      samples = c.extend_from_slice.new.self;
-      offset = held.offset;
-      current = held.current;
-      from = held.from;
-      to = held.to;
-      sizes = held.sizes;
-    } in
+    let mid : HeldSamples = record held { samples = c.extend_from_slice.new.self } in
     let m = packs_pushed records before runs separators own held mid (c.args.sample ∷ []) false c.forget.ensures.needed
     refl refl refl items (rw (← c.self.view_is) at s).packs in
     let g = c.go_on.ensures in
     shown_if_any (before ++ c.args.sample ∷ []) _ _ c.go_on.result
     (g.given.shows (before ++ c.args.sample ∷ []) runs separators
     (holds_in records (before ++ c.args.sample ∷ []) runs separators mid m.of_form m.holds)) g.none
+
+pub of-next-requires-clause-step : goal.of-next-requires-clause-step
+of-next-requires-clause-step c = (rw c.frontier_of-frontier.ensures at c.in-Some.ensures.decided).step
+
+pub go_on-requires-clause-next : goal.go_on-requires-clause-next
+go_on-requires-clause-next c = rw c.as_slice-seen.ensures.value at c.of-next.ensures.next
