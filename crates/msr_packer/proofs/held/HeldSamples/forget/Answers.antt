@@ -1,9 +1,28 @@
 use Rattle.std.proofs.Common.{◌≡◌, ◌<◌, ◌-◌, ap, arith, length, length-drop, refl}
-use Rattle.msr_packer.specs.HeldSamples.{frontier_of, start_of}
+use Rattle.msr_packer.specs.HeldSamples.{HoldsNeeded, IsSound, frontier_of, start_of}
+use Rattle.msr_packer.specs.declared.held.HeldSamples.{HeldSamples}
 use Rattle.msr_packer.proofs.Holding.{window_less}
 use Rattle.msr_packer.proofs.ToldSizes.{none_sized, sized_less}
 use Rattle.msr_words.specs.Fit.{records_of}
 use Rattle.msr_packer.proofs.held.HeldSamples.forget.Goals as goal
+
+-- if no samples are shown any more, and none are removed
+shows_none : (held : HeldSamples) → IsSound held → HoldsNeeded held (record held {
+  from = 0;
+  to = 0;
+  sizes = record held.sizes { shown = record held.sizes.shown { count = 0 } };
+})
+shows_none held sound = record {
+  sound = record { number = sound.number; inside = sound.inside; order = omega arith; within = omega arith };
+  holds = λ samples runs separators h. h;
+  stays = λ stays. stays;
+  form = refl;
+  number = refl;
+  sizes = λ knows. record {
+    next = record { next = knows.next.next };
+    shown = none_sized _ 0 0 0 held.sizes.shown.places.items held.sizes.shown.words.items refl;
+  };
+}
 
 pub returns-clause-needed : goal.returns-clause-needed
 returns-clause-needed c =
@@ -49,19 +68,7 @@ returns-clause-needed c =
     }
 
 pub returns-then-count-eq0-clause-needed : goal.returns-then-count-eq0-clause-needed
-returns-then-count-eq0-clause-needed c = record {
-  sound = record {
-    number = c.requires.number;
-    inside = c.requires.inside;
-    order = omega arith;
-    within = omega arith;
-  };
-  holds = λ samples runs separators h. h;
-  stays = λ stays. stays;
-  form = refl;
-  number = refl;
-  sizes = λ knows. record {
-    next = record { next = knows.next.next };
-    shown = none_sized _ 0 0 0 c.args.self.now.sizes.shown.places.items c.args.self.now.sizes.shown.words.items refl;
-  };
-}
+returns-then-count-eq0-clause-needed c = shows_none c.args.self.now c.requires
+
+pub returns-in_default-clause-needed : goal.returns-in_default-clause-needed
+returns-in_default-clause-needed c = shows_none c.args.self.now c.requires
