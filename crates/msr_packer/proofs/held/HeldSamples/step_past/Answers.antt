@@ -53,3 +53,6 @@ returns-clause-sizes c = λ knows.
       take_at words (drop (length words) word_places.items) (vec_len word_places) wide,
     )
     (rw c.as_slice.ensures.value at c.next-step.ensures.sizes))
+
+pub go_on-requires-clause-next : goal.go_on-requires-clause-next
+go_on-requires-clause-next c = rw c.as_slice.ensures.value at c.next-step.ensures.next

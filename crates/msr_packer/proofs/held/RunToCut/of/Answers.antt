@@ -24,3 +24,12 @@ kind_of-requires-2-clause-fits c =
 pub returns-clause-sizes : goal.returns-clause-sizes
 returns-clause-sizes c = λ sizes words is.
     c.groups_of.ensures c.args.samples.now sizes words (rw c.frontier_of-frontier.ensures is)
+
+pub returns-clause-next : goal.returns-clause-next
+returns-clause-next c = record {
+  frontier = c.frontier_of-frontier.ensures;
+  inside = rw c.frontier_of-frontier.ensures c.requires.inside;
+  step = rw c.frontier_of-frontier.ensures c.requires.step.step;
+  whole = c.kind_of.ensures;
+  short = c.kind_of-2.ensures;
+}
