@@ -1,4 +1,4 @@
-use Rattle.std.proofs.Common.{◌≡◌, false, Some, rules, subst}
+use Rattle.std.proofs.Common.{◌≡◌, ap, arith, false, length, refl, Some, rules, subst}
 use Rattle.msr_packer.specs.Blocks.{PacksLast, holding_of}
 use Rattle.msr_packer.proofs.Holding.{holds_still}
 use Rattle.msr_packer.proofs.InBlocks.{all_given, holds_in, packs_all, packs_last_next}
@@ -51,7 +51,19 @@ returns-clause-all c = λ records samples runs separators p none.
     all_given records samples runs separators c.last_piece.result none a.left
 
 pub last_piece-requires-clause-end : goal.last_piece-requires-clause-end
-last_piece-requires-clause-end c = search rules
+last_piece-requires-clause-end c =
+    let few = c.in_default.ensures.few refl in
+    let held = ap length c.in_default.ensures.given.held in
+    omega arith
+
+pub invariant_of-self : goal.invariant_of-self
+invariant_of-self c = (c.next_piece.ensures.given.sound, c.next_piece.ensures.sizes c.self.invariant.1)
+
+pub invariant_of-self-2 : goal.invariant_of-self-2
+invariant_of-self-2 c = (
+  c.last_piece.ensures.same.sound,
+  c.last_piece.ensures.sizes (c.in_default.ensures.sizes c.self.invariant.1),
+)
 
 pub returns-clause-fewer : goal.returns-clause-fewer
 returns-clause-fewer c = search rules

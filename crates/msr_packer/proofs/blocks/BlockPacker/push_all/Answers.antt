@@ -42,15 +42,7 @@ returns-clause-taken c = λ records before runs separators p.
     let room = c.take_places.new.self in
     let r = packs_same records before runs separators c.make_room.new.self room
     c.self.inside.ended t.same q in
-    let new : HeldSamples = record {
-      form = room.form;
-      samples = c.extend_from_slice.new.self;
-      offset = room.offset;
-      current = room.current;
-      from = room.from;
-      to = room.to;
-      sizes = room.sizes;
-    } in
+    let new : HeldSamples = record room { samples = c.extend_from_slice.new.self } in
     packs_more records before runs separators room new c.args.samples.now c.self.inside.ended
     (subst (λ r. 256 ≤ r.bytes) r.of_form room.form.length.least) refl refl refl
     c.in_ok-extend_from_slice.ensures.items r
@@ -62,15 +54,7 @@ invariant_of-self-2 c =
     let s = t.same.sound in
     let knows = t.sizes (c.make_room.ensures.needed.sizes c.self.invariant.1) in
     let items = c.in_ok-extend_from_slice.ensures.items in
-    let new : HeldSamples = record {
-      form = room.form;
-      samples = c.extend_from_slice.new.self;
-      offset = room.offset;
-      current = room.current;
-      from = room.from;
-      to = room.to;
-      sizes = room.sizes;
-    } in
+    let new : HeldSamples = record room { samples = c.extend_from_slice.new.self } in
     let few = rw (← c.self.view_is) at c.requires in
     let number = c.make_room.ensures.needed.number in
     let offset = t.same.offset in
@@ -105,3 +89,17 @@ invariant_of-self-in_err-extend_from_slice c =
         shown = rw items knows.shown;
       },
     )
+
+pub invariant_of-self : goal.invariant_of-self
+invariant_of-self c = (
+  c.take_places.ensures.same.sound,
+  c.take_places.ensures.sizes (c.make_room.ensures.needed.sizes c.self.invariant.1),
+)
+
+pub returns-clause-few : goal.returns-clause-few
+returns-clause-few c = λ few.
+    let least = c.make_room.ensures.few (rw (← c.self.view_is) at few) in
+    let held = ap length c.take_places.ensures.same.held in
+    let long = ap length c.in_ok-extend_from_slice.ensures.items
+    ∙ length-append c.take_places.new.self.samples.items c.args.samples.now in
+    rw (← c.self.view_is) (omega arith)
