@@ -1,9 +1,11 @@
 -- The size of the longest group, by the sizes of seven differences.
-use Rattle.std.proofs.Common.{◌≡◌, ◌<◌, ◌≤◌, ◌↔◌, ℕ, suc, ◌+◌, ℤ, pos, get_or, take, drop, List, [], ◌∷◌, length, Option, Some, None, zero, refl, ◌∙◌, arith, bit_or, true}
+use Rattle.std.proofs.Common.{◌≡◌, ◌<◌, ◌≤◌, ◌↔◌, ℕ, suc, ◌+◌, ◌-◌, ◌^◌, ℤ, pos, get_or, take, drop, List, [], ◌∷◌, length, Option, Some, None, zero, refl, ◌∙◌, arith, bit_or, true}
+use Rattle.std.specs.Bool.{⊤}
+use Rattle.std.specs.List.{AllByRecursion}
 use Rattle.std.proofs.lemmas.Nat.{le_or_l, le_or_r, or_lt}
 use Rattle.std.proofs.lemmas.List.{get_or-drop}
 use Rattle.msr_kinds.specs.declared.storage.Version.TheVariants.{Two}
-use Rattle.msr_steim.specs.Word.{IsGroup}
+use Rattle.msr_steim.specs.Word.{FitsBits, IsGroup}
 use Rattle.msr_words.specs.Groups.{IsLongestGroup}
 use Rattle.msr_words.specs.Segment.{differences, difference_at, difference_from}
 use Rattle.msr_words.specs.Window.{IsSize}
@@ -36,176 +38,79 @@ from_inside (Some x) run (suc at) later = refl
 
 -- ---- groups by sizes
 
+-- these are the sizes of the differences
+abbrev AreSizesOf : List ℤ → List ℕ → Type 0
+AreSizesOf [] [] = ⊤
+AreSizesOf [] (m ∷ ms) = ⊥
+AreSizesOf (d ∷ ds) [] = ⊥
+AreSizesOf (d ∷ ds) (m ∷ ms) = IsSize d m × AreSizesOf ds ms
+
+-- the bits that are set in any of them
+abbrev or_of : ℕ → List ℕ → ℕ
+or_of m [] = m
+or_of m (n ∷ ns) = or_of (bit_or m n) ns
+
+or_below : (k m : ℕ) (ms : List ℕ) → (or_of m ms < 2 ^ k ↔ (m < 2 ^ k) × AllByRecursion (λ n. n < 2 ^ k) ms)
+or_below k m [] = (λ small. (small, tt), λ each. each.0)
+or_below k m (n ∷ ns) =
+    let l = le_or_l m n in
+    let r = le_or_r m n in
+    let rest = or_below k (bit_or m n) ns in (
+      λ small. let first = (rest.0 small).0 in (omega arith, (omega arith, (rest.0 small).1)),
+      λ each. rest.1 (or_lt k m n each.0 each.1.0, each.1.1),
+    )
+
+each_fits : (w : ℕ) (ds : List ℤ) (ms : List ℕ) → AreSizesOf ds ms
+    → (AllByRecursion (λ n. n < 2 ^ (w - 1)) ms ↔ AllByRecursion (FitsBits w) ds)
+each_fits w [] [] are = (λ each. tt, λ each. tt)
+each_fits w [] (m ∷ ms) are = elim are [ ]
+each_fits w (d ∷ ds) [] are = elim are [ ]
+each_fits w (d ∷ ds) (m ∷ ms) are =
+    let rest = each_fits w ds ms are.1 in
+    (λ each. ((are.0 w).1 each.0, rest.0 each.1), λ each. ((are.0 w).0 each.0, rest.1 each.1))
+
+group_by : (w : ℕ) (d : ℤ) (m : ℕ) (ds : List ℤ) (ms : List ℕ) → IsSize d m → AreSizesOf ds ms
+    → (or_of m ms < 2 ^ (w - 1) ↔ FitsBits w d × AllByRecursion (FitsBits w) ds)
+group_by w d m ds ms first are =
+    let by = or_below (w - 1) m ms in
+    let rest = each_fits w ds ms are in (
+      λ small. let each = by.0 small in ((first w).1 each.0, rest.0 each.1),
+      λ fits. by.1 ((first w).0 fits.0, rest.1 fits.1),
+    )
+
 group_1 : (a : ℤ) (ma : ℕ) → IsSize a ma → (ma < 536870912 ↔ IsGroup Two (a ∷ []))
-group_1 a ma ha =
-    (λ small. ((ha 30).1 (omega arith), tt), λ t. (ha 30).0 t.0)
+group_1 a ma ha = group_by 30 a ma [] [] ha tt
 
 group_2 : (a b : ℤ) (ma mb : ℕ) → IsSize a ma → IsSize b mb → (bit_or ma mb < 16384 ↔ IsGroup Two (a ∷ b ∷ []))
-group_2 a b ma mb ha hb =
-    let l1 = le_or_l (ma) mb in
-    let r1 = le_or_r (ma) mb in (
-      λ small. ((ha 15).1 (omega arith), ((hb 15).1 (omega arith), tt)),
-      λ t. or_lt 14 (ma) mb ((ha 15).0 t.0)
-          ((hb 15).0 (t.1.0)),
-    )
+group_2 a b ma mb ha hb = group_by 15 a ma (b ∷ []) (mb ∷ []) ha (hb, tt)
 
 group_3 : (a b c : ℤ) (ma mb mc : ℕ) → IsSize a ma → IsSize b mb → IsSize c mc
     → (bit_or (bit_or ma mb) mc < 512 ↔ IsGroup Two (a ∷ b ∷ c ∷ []))
-group_3 a b c ma mb mc ha hb hc =
-    let l1 = le_or_l (ma) mb in
-    let r1 = le_or_r (ma) mb in
-    let l2 = le_or_l (bit_or ma mb) mc in
-    let r2 = le_or_r (bit_or ma mb) mc in (
-      λ small. ((ha 10).1 (omega arith), ((hb 10).1 (omega arith), ((hc 10).1 (omega arith), tt))),
-      λ t. or_lt 9
-          (bit_or ma mb) mc (or_lt 9 (ma) mb ((ha 10).0 t.0) ((hb 10).0 (t.1.0))) ((hc 10).0 (t.1.1.0)),
-    )
+group_3 a b c ma mb mc ha hb hc = group_by 10 a ma (b ∷ c ∷ []) (mb ∷ mc ∷ []) ha (hb, (hc, tt))
 
 group_4 : (a b c d : ℤ) (ma mb mc md : ℕ) → IsSize a ma → IsSize b mb → IsSize c mc → IsSize d md
     → (bit_or (bit_or (bit_or ma mb) mc) md < 128 ↔ IsGroup Two (a ∷ b ∷ c ∷ d ∷ []))
 group_4 a b c d ma mb mc md ha hb hc hd =
-    let l1 = le_or_l (ma) mb in
-    let r1 = le_or_r (ma) mb in
-    let l2 = le_or_l (bit_or ma mb) mc in
-    let r2 = le_or_r (bit_or ma mb) mc in
-    let l3 = le_or_l (bit_or (bit_or ma mb) mc) md in
-    let r3 = le_or_r (bit_or (bit_or ma mb) mc) md in (
-      λ small. (
-        (ha 8).1 (omega arith),
-        (
-          (hb 8).1 (omega arith),
-          (
-            (hc 8).1 (omega arith),
-            (
-              (hd 8).1 (omega arith),
-              tt,
-            ),
-          ),
-        ),
-      ),
-      λ t. or_lt 7 (bit_or (bit_or ma mb) mc) md (or_lt 7 (bit_or ma mb) mc (or_lt 7 (ma) mb ((ha
-          8).0 t.0) ((hb 8).0 (t.1.0))) ((hc 8).0 (t.1.1.0))) ((hd 8).0 (t.1.1.1.0)),
-    )
+    group_by 8 a ma (b ∷ c ∷ d ∷ []) (mb ∷ mc ∷ md ∷ []) ha (hb, (hc, (hd, tt)))
 
 group_5 : (a b c d e : ℤ) (ma mb mc md me : ℕ) → IsSize a ma → IsSize b mb → IsSize c mc → IsSize d md
     → IsSize e me → (bit_or (bit_or (bit_or (bit_or ma mb) mc) md) me < 32 ↔ IsGroup Two (a ∷ b ∷ c ∷ d ∷ e ∷ []))
 group_5 a b c d e ma mb mc md me ha hb hc hd he =
-    let l1 = le_or_l (ma) mb in
-    let r1 = le_or_r (ma) mb in
-    let l2 = le_or_l (bit_or ma mb) mc in
-    let r2 = le_or_r (bit_or ma mb) mc in
-    let l3 = le_or_l (bit_or (bit_or ma mb) mc) md in
-    let r3 = le_or_r (bit_or (bit_or ma mb) mc) md in
-    let l4 = le_or_l (bit_or (bit_or (bit_or ma mb) mc) md) me in
-    let r4 = le_or_r (bit_or (bit_or (bit_or ma mb) mc) md) me in (
-      λ small. (
-        (ha 6).1 (omega arith),
-        (
-          (hb 6).1 (omega arith),
-          (
-            (hc 6).1 (omega arith),
-            (
-              (hd 6).1 (omega arith),
-              (
-                (he 6).1 (omega arith),
-                tt,
-              ),
-            ),
-          ),
-        ),
-      ),
-      λ t. or_lt 5 (bit_or (bit_or (bit_or ma mb) mc) md) me
-          (or_lt 5 (bit_or (bit_or ma mb) mc) md (or_lt 5 (bit_or ma mb) mc
-          (or_lt 5 (ma) mb ((ha 6).0 t.0) ((hb 6).0 (t.1.0))) ((hc 6).0 (t.1.1.0))) ((hd 6).0
-          (t.1.1.1.0))) ((he 6).0 (t.1.1.1.1.0)),
-    )
+    group_by 6 a ma (b ∷ c ∷ d ∷ e ∷ []) (mb ∷ mc ∷ md ∷ me ∷ []) ha (hb, (hc, (hd, (he, tt))))
 
 group_6 : (a b c d e f : ℤ) (ma mb mc md me mf : ℕ) → IsSize a ma → IsSize b mb → IsSize c mc → IsSize d md
     → IsSize e me → IsSize f mf → (bit_or (bit_or (bit_or (bit_or (bit_or ma mb) mc) md) me) mf < 16
     ↔ IsGroup Two (a ∷ b ∷ c ∷ d ∷ e ∷ f ∷ []))
 group_6 a b c d e f ma mb mc md me mf ha hb hc hd he hf =
-    let l1 = le_or_l (ma) mb in
-    let r1 = le_or_r (ma) mb in
-    let l2 = le_or_l (bit_or ma mb) mc in
-    let r2 = le_or_r (bit_or ma mb) mc in
-    let l3 = le_or_l (bit_or (bit_or ma mb) mc) md in
-    let r3 = le_or_r (bit_or (bit_or ma mb) mc) md in
-    let l4 = le_or_l (bit_or (bit_or (bit_or ma mb) mc) md) me in
-    let r4 = le_or_r (bit_or (bit_or (bit_or ma mb) mc) md) me in
-    let l5 = le_or_l (bit_or (bit_or (bit_or (bit_or ma mb) mc) md) me) mf in
-    let r5 = le_or_r (bit_or (bit_or (bit_or (bit_or ma mb) mc) md) me) mf in (
-      λ small. (
-        (ha 5).1 (omega arith),
-        (
-          (hb 5).1 (omega arith),
-          (
-            (hc 5).1 (omega arith),
-            (
-              (hd 5).1 (omega arith),
-              (
-                (he 5).1 (omega arith),
-                (
-                  (hf 5).1 (omega arith),
-                  tt,
-                ),
-              ),
-            ),
-          ),
-        ),
-      ),
-      λ t. or_lt 4 (bit_or (bit_or (bit_or (bit_or ma mb) mc) md) me) mf
-          (or_lt 4 (bit_or (bit_or (bit_or ma mb) mc) md) me
-          (or_lt 4 (bit_or (bit_or ma mb) mc) md (or_lt 4 (bit_or ma mb) mc
-          (or_lt 4 (ma) mb ((ha 5).0 t.0) ((hb 5).0 (t.1.0))) ((hc 5).0 (t.1.1.0))) ((hd 5).0
-          (t.1.1.1.0))) ((he 5).0 (t.1.1.1.1.0))) ((hf 5).0 (t.1.1.1.1.1.0)),
-    )
+    group_by 5 a ma (b ∷ c ∷ d ∷ e ∷ f ∷ []) (mb ∷ mc ∷ md ∷ me ∷ mf ∷ []) ha (hb, (hc, (hd, (he, (hf, tt)))))
 
 group_7 : (a b c d e f g : ℤ) (ma mb mc md me mf mg : ℕ) → IsSize a ma → IsSize b mb → IsSize c mc → IsSize d md
     → IsSize e me → IsSize f mf → IsSize g mg → (bit_or
     (bit_or (bit_or (bit_or (bit_or (bit_or ma mb) mc) md) me) mf) mg < 8
     ↔ IsGroup Two (a ∷ b ∷ c ∷ d ∷ e ∷ f ∷ g ∷ []))
 group_7 a b c d e f g ma mb mc md me mf mg ha hb hc hd he hf hg =
-    let l1 = le_or_l (ma) mb in
-    let r1 = le_or_r (ma) mb in
-    let l2 = le_or_l (bit_or ma mb) mc in
-    let r2 = le_or_r (bit_or ma mb) mc in
-    let l3 = le_or_l (bit_or (bit_or ma mb) mc) md in
-    let r3 = le_or_r (bit_or (bit_or ma mb) mc) md in
-    let l4 = le_or_l (bit_or (bit_or (bit_or ma mb) mc) md) me in
-    let r4 = le_or_r (bit_or (bit_or (bit_or ma mb) mc) md) me in
-    let l5 = le_or_l (bit_or (bit_or (bit_or (bit_or ma mb) mc) md) me) mf in
-    let r5 = le_or_r (bit_or (bit_or (bit_or (bit_or ma mb) mc) md) me) mf in
-    let l6 = le_or_l (bit_or (bit_or (bit_or (bit_or (bit_or ma mb) mc) md) me) mf) mg in
-    let r6 = le_or_r (bit_or (bit_or (bit_or (bit_or (bit_or ma mb) mc) md) me) mf) mg in (
-      λ small. (
-        (ha 4).1 (omega arith),
-        (
-          (hb 4).1 (omega arith),
-          (
-            (hc 4).1 (omega arith),
-            (
-              (hd 4).1 (omega arith),
-              (
-                (he 4).1 (omega arith),
-                (
-                  (hf 4).1 (omega arith),
-                  (
-                    (hg 4).1 (omega arith),
-                    tt,
-                  ),
-                ),
-              ),
-            ),
-          ),
-        ),
-      ),
-      λ t. or_lt 3 (bit_or (bit_or (bit_or (bit_or (bit_or ma mb) mc) md) me) mf) mg
-          (or_lt 3 (bit_or (bit_or (bit_or (bit_or ma mb) mc) md) me) mf
-          (or_lt 3 (bit_or (bit_or (bit_or ma mb) mc) md) me
-          (or_lt 3 (bit_or (bit_or ma mb) mc) md (or_lt 3 (bit_or ma mb) mc
-          (or_lt 3 (ma) mb ((ha 4).0 t.0) ((hb 4).0 (t.1.0))) ((hc 4).0 (t.1.1.0))) ((hd 4).0
-          (t.1.1.1.0))) ((he 4).0 (t.1.1.1.1.0))) ((hf 4).0 (t.1.1.1.1.1.0))) ((hg 4).0 (t.1.1.1.1.1.1.0)),
-    )
+    group_by 4 a ma (b ∷ c ∷ d ∷ e ∷ f ∷ g ∷ []) (mb ∷ mc ∷ md ∷ me ∷ mf ∷ mg ∷ []) ha
+    (hb, (hc, (hd, (he, (hf, (hg, tt))))))
 
 -- ---- the longest
 
