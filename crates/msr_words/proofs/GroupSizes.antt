@@ -35,28 +35,25 @@ pair_is d (x ∷ ds) size first here one =
       λ group. or_lt 15 size first ((here 16).0 group.1.0) ((one 16 (lit≤ tt)).1 (omega arith, group.1.1.0)),
     )
 
+-- if there is no difference at a place, it is in no group
+missing : (P : Type 0) (ds : List ℤ) (at before last : ℕ) → IsSizeAt ds at last → length ds ≤ at
+    → (bit_or before last < 128 ↔ (suc at ≤ length ds) × P)
+missing P ds at before last there short =
+    let r = le_or_r before last in (
+      λ small. absurd (omega (arith, ((there 8 (lit≤ tt)).0 (omega arith)).0)),
+      λ group. absurd (omega (arith, group.0)),
+    )
+
 -- three differences
 pub triple_at : (ds : List ℤ) (first second third : ℕ) → IsSizeAt ds 0 first → IsSizeAt ds 1 second
     → IsSizeAt ds 2 third
     → (bit_or (bit_or first second) third < 128 ↔ (3 ≤ length ds) × IsGroup One (take 3 ds))
 triple_at [] first second third one two three =
-    let r = le_or_r (bit_or first second) third in (
-      λ small. let e = ((three 8 (lit≤ tt)).0 (omega arith)).0 in absurd (omega arith),
-      λ group. let e = group.0 in
-          absurd (omega arith),
-    )
+    missing (IsGroup One (take 3 [])) [] 2 (bit_or first second) third three (omega arith)
 triple_at (x ∷ []) first second third one two three =
-    let r = le_or_r (bit_or first second) third in (
-      λ small. let e = ((three 8 (lit≤ tt)).0 (omega arith)).0 in absurd (omega arith),
-      λ group. let e = group.0 in
-          absurd (omega arith),
-    )
+    missing (IsGroup One (take 3 (x ∷ []))) (x ∷ []) 2 (bit_or first second) third three (omega arith)
 triple_at (x ∷ y ∷ []) first second third one two three =
-    let r = le_or_r (bit_or first second) third in (
-      λ small. let e = ((three 8 (lit≤ tt)).0 (omega arith)).0 in absurd (omega arith),
-      λ group. let e = group.0 in
-          absurd (omega arith),
-    )
+    missing (IsGroup One (take 3 (x ∷ y ∷ []))) (x ∷ y ∷ []) 2 (bit_or first second) third three (omega arith)
 triple_at (x ∷ y ∷ z ∷ ds) first second third one two three =
     let l = le_or_l first second in
     let r = le_or_r first second in
@@ -85,23 +82,14 @@ pub four_is : (d : ℤ) (ds : List ℤ) (size first second third : ℕ) → IsSi
     → IsSizeAt ds 1 second → IsSizeAt ds 2 third
     → (bit_or (bit_or (bit_or size first) second) third < 128 ↔ (4 ≤ length (d ∷ ds)) × IsGroup One (take 4 (d ∷ ds)))
 four_is d [] size first second third here one two three =
-    let r = le_or_r (bit_or (bit_or size first) second) third in (
-      λ small. let e = ((three 8 (lit≤ tt)).0 (omega arith)).0 in absurd (omega arith),
-      λ group. let e = group.0 in
-          absurd (omega arith),
-    )
+    missing (IsGroup One (take 4 (d ∷ []))) (d ∷ []) 3 (bit_or (bit_or size first) second) third
+    (size_later d [] 2 third three) (omega arith)
 four_is d (x ∷ []) size first second third here one two three =
-    let r = le_or_r (bit_or (bit_or size first) second) third in (
-      λ small. let e = ((three 8 (lit≤ tt)).0 (omega arith)).0 in absurd (omega arith),
-      λ group. let e = group.0 in
-          absurd (omega arith),
-    )
+    missing (IsGroup One (take 4 (d ∷ x ∷ []))) (d ∷ x ∷ []) 3 (bit_or (bit_or size first) second) third
+    (size_later d (x ∷ []) 2 third three) (omega arith)
 four_is d (x ∷ y ∷ []) size first second third here one two three =
-    let r = le_or_r (bit_or (bit_or size first) second) third in (
-      λ small. let e = ((three 8 (lit≤ tt)).0 (omega arith)).0 in absurd (omega arith),
-      λ group. let e = group.0 in
-          absurd (omega arith),
-    )
+    missing (IsGroup One (take 4 (d ∷ x ∷ y ∷ []))) (d ∷ x ∷ y ∷ []) 3 (bit_or (bit_or size first) second) third
+    (size_later d (x ∷ y ∷ []) 2 third three) (omega arith)
 four_is d (x ∷ y ∷ z ∷ ds) size first second third here one two three =
     let l = le_or_l size first in
     let r = le_or_r size first in
