@@ -54,3 +54,9 @@ returns-then-is_err-clause-unchanged c =
     back) ∙ sym many) c.resize.new.self.ok.0 in
     of_error c.fill_record-filled.result (c.truncate.ensures.items ∙ ap (take c.len-end.result) whole
     ∙ take_at c.args.out.now.items c.fill_record-filled.new.bytes c.len-end.result (sym end))
+
+pub returns-then-is_err-clause-appended : goal.returns-then-is_err-clause-appended
+returns-then-is_err-clause-appended c = search rules
+
+pub returns-else-is_err-clause-unchanged : goal.returns-else-is_err-clause-unchanged
+returns-else-is_err-clause-unchanged c = search rules

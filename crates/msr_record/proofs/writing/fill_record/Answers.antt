@@ -60,3 +60,8 @@ returns c =
     (rw c.storage.ensures at c.in_ok-frames.ensures.carried) (rw c.storage.ensures at c.in_ok-frames.ensures.reverse)
     split c.exponent-exponent.ensures bounds.0 bounds.1
     c.requires.can.quality c.requires.can.normal c.requires.can.some c.header_for-header.ensures.rate
+
+pub unwrap-micros-requires : goal.unwrap-micros-requires
+unwrap-micros-requires c =
+    let fits : FitsSigned w64 c.args.run.now.start = search rules in
+    (rw (to_z-of_z fits) at c.split.ensures.range).1 c.requires.can.instant
