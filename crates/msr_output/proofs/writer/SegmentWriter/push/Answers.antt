@@ -1,7 +1,6 @@
 use Rattle.std.proofs.Common.{◌∙◌}
 use Rattle.std.proofs.lemmas.Result.{err_from_is_err_and}
 use Rattle.msr_output.specs.Opened.{longer_by}
-use Rattle.msr_output.specs.Writing.{Writing}
 use Rattle.msr_output.proofs.OpenSegments.{begun_failed, begun_longer, begun_more, can_longer, refused_longer, refused_now, writable_longer}
 use Rattle.msr_output.proofs.writer.SegmentWriter.push.Goals as goal
 
@@ -23,53 +22,38 @@ pub returns-in_err-self-inside-clause-written : goal.returns-in_err-self-inside-
 returns-in_err-self-inside-clause-written g c = λ start packed before h.
     let p = err_from_is_err_and c.from_residual-in_err-self-inside.result
     c.from_residual-in_err-self-inside.ensures.1 in
-    let w : Writing = record {
-      form = c.self.inside.form;
-      number = c.self.inside.number;
-      waiting = c.self.inside.buffer.bytes.items;
-    } in
     let was = rw (← c.self.view_is) at h in
     let writable = writable_longer c.args.segment.now before h.runs c.args.samples.now h.is_open
     c.requires.can.writable h.samples c.samples_have_32_bits.ensures c.requires.in_time in
-    let begun = begun_longer start _ w packed before c.args.samples.now c.args.segment.now c.push.new.self
+    let begun = begun_longer start _ _ packed before c.args.samples.now c.args.segment.now c.push.new.self
     was c.samples_have_32_bits.ensures c.push.ensures.form
     (c.in_ok-push.ensures.taken before was.runs was.is_open) in
-    rw (p.1, p.2, ← c.self.view_is) (refused_now start _ w packed
+    rw (p.1, p.2, ← c.self.view_is) (refused_now start _ _ packed
     (longer_by before c.args.samples.now) c.push.new.self writable begun)
 
 pub returns-in_err-flush_full-clause-written : goal.returns-in_err-flush_full-clause-written
 returns-in_err-flush_full-clause-written g c = λ start packed before h.
     let p = err_from_is_err_and c.from_residual-in_err-flush_full.result c.from_residual-in_err-flush_full.ensures.1 in
-    let w : Writing = record {
-      form = c.self.inside.form;
-      number = c.self.inside.number;
-      waiting = c.self.inside.buffer.bytes.items;
-    } in
     let was = rw (← c.self.view_is) at h in
     let writable = writable_longer c.args.segment.now before h.runs c.args.samples.now h.is_open
     c.requires.can.writable h.samples c.samples_have_32_bits.ensures c.requires.in_time in
-    let begun = begun_longer start _ w packed before c.args.samples.now c.args.segment.now c.push.new.self
+    let begun = begun_longer start _ _ packed before c.args.samples.now c.args.segment.now c.push.new.self
     was c.samples_have_32_bits.ensures c.push.ensures.form
     (c.in_ok-push.ensures.taken before was.runs was.is_open) in
     let a = c.in_ok-self-inside.ensures.appends (longer_by before c.args.samples.now) begun.runs begun.is_open in
-    rw (p.1, p.2, ← c.self.view_is) (begun_failed start _ _ w packed
+    rw (p.1, p.2, ← c.self.view_is) (begun_failed start _ _ _ packed
     (longer_by before c.args.samples.now) c.push.new.self c.encode_runs.new.self _ c.encode_runs.new.out.items
     _ c.in_ok-self-inside.field-0 writable c.encode_runs.ensures.form begun a.some
     c.in_err-flush_full.ensures.passes c.in_err-flush_full.ensures.failed)
 
 pub returns-clause-written : goal.returns-clause-written
 returns-clause-written g c = λ start packed before h.
-    let w : Writing = record {
-      form = c.self.inside.form;
-      number = c.self.inside.number;
-      waiting = c.self.inside.buffer.bytes.items;
-    } in
     let was = rw (← c.self.view_is) at h in
-    let begun = begun_longer start _ w packed before c.args.samples.now c.args.segment.now c.push.new.self
+    let begun = begun_longer start _ _ packed before c.args.samples.now c.args.segment.now c.push.new.self
     was c.samples_have_32_bits.ensures c.push.ensures.form
     (c.in_ok-push.ensures.taken before was.runs was.is_open) in
     let a = c.in_ok-self-inside.ensures.appends (longer_by before c.args.samples.now) begun.runs begun.is_open in
-    begun_more start _ _ w packed
+    begun_more start _ _ _ packed
     (longer_by before c.args.samples.now) c.push.new.self c.encode_runs.new.self c.encode_runs.new.out.items _
     c.in_ok-self-inside.field-0 c.encode_runs.ensures.form begun a.some c.in_ok-flush_full.ensures.passes
     c.in_ok-flush_full.ensures.calm
