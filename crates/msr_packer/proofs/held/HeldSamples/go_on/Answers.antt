@@ -1,5 +1,7 @@
-use Rattle.std.proofs.Common.{◌≤◌, arith, length, refl}
-use Rattle.msr_packer.specs.HeldSamples.{frontier_of, start_of}
+use Rattle.std.proofs.Common.{◌≡◌, ◌≤◌, ℕ, ℤ, List, [], Option, Some, None, IsNone, arith, length, refl}
+use Rattle.std.specs.Prelude.{slice_range}
+use Rattle.msr_packer.specs.HeldSamples.{frontier_of, piece_of, start_of}
+use Rattle.msr_packer.specs.declared.held.RunToCut.{RunToCut}
 use Rattle.msr_packer.proofs.Holding.{next_stepped, shows_next, start_before, window_next}
 use Rattle.msr_packer.proofs.ToldSizes.{sized_cut}
 use Rattle.msr_words.specs.Fit.{records_of}
@@ -68,3 +70,15 @@ returns-clause-sizes c = λ next step.
           held.sizes.next.count _ held.sizes.next.places.items held.sizes.next.words.items _
           (rw c.frontier_of.ensures refl) g.whole g.cut next.next);
     }
+
+none_shown : (items : List ℤ) (offset next : ℕ) (current : Option RunToCut) → next ≤ frontier_of current
+    → IsNone (piece_of offset current next) → slice_range items (start_of current) next ≡ []
+none_shown items offset next None within none = let zero : next ≡ 0 = omega arith in rw zero refl
+none_shown items offset next (Some run) within none = cc
+
+pub returns-clause-none : goal.returns-clause-none
+returns-clause-none c = λ none.
+    let before = c.requires.next.step.before in
+    let frontier = c.requires.next.frontier in
+    rw c.start_of-self.ensures (none_shown c.args.self.now.samples.items c.args.self.now.offset c.args.step.start
+    c.args.self.now.current (omega arith) (rw c.piece_of-piece.ensures at none))
