@@ -42,10 +42,8 @@ returns c = λ records samples runs separators s.
       canonical = rw (
         c.both.ensures,
         map-append (λ (p : Piece). p.run) first last,
-        map-append
-            (λ (p : Piece). p.separator) first last,
-        ← append_assoc runs (runs_of first)
-            (runs_of last),
+        map-append (λ (p : Piece). p.separator) first last,
+        ← append_assoc runs (runs_of first) (runs_of last),
         ← append_assoc separators (separators_of first) (separators_of last),
       )
           (rw (g.form, q.of_form) at canonical);
