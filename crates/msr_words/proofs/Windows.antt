@@ -42,8 +42,7 @@ module _ (samples : List ℤ) (first i : ℕ) (sizes : List ℕ) (kept : List �
           (rw (get_or-set_same sizes i size 0 room, get_or-set_same kept i difference (pos 0) room') here)
       | inr other ↦ rw (
         get_or-set_other sizes i k size 0 other,
-        get_or-set_other kept i k difference
-            (pos 0) other,
+        get_or-set_other kept i k difference (pos 0) other,
       ) (is.each k (omega (arith, other)))
     ];
   }

@@ -90,8 +90,7 @@ returns-clause-chosen c =
           rw (
             w.groups-is,
             w.in_ok-push-2.ensures.items,
-            items_push c.loop-difference.groups.items
-                c.loop-difference.group,
+            items_push c.loop-difference.groups.items c.loop-difference.group,
           ) last
       | else-not-is_empty w ↦
           let last = greedy_none c.args.words c.loop-difference.most ds c.loop-difference.group.items

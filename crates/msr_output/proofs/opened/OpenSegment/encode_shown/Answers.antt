@@ -38,8 +38,7 @@ returns c = λ segment separator key_is start_is shown.
     rw (
       to_z-of_z first_fits,
       c.sample_before.ensures ∙ shows.before_run,
-      c.run_samples.ensures
-          ∙ shows.run,
+      c.run_samples.ensures ∙ shows.run,
     ) at c.encode_run.ensures.appended in
     rw (← c.self.view_is) (on_ok c.encode_run.result
     (λ a. record_of_run (bytes_of own.form.length) c.args.number segment c.args.run c.unwrap-first.result _ _

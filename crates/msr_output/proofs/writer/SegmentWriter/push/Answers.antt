@@ -61,24 +61,20 @@ returns-clause-written g c = λ start packed before h.
 pub returns-in_err-self-inside-clause-same : goal.returns-in_err-self-inside-clause-same
 returns-in_err-self-inside-clause-same g c = (
   c.encode_runs.ensures.form ∙ c.push.ensures.form,
-  c.encode_runs.ensures.key
-      ∙ c.push.ensures.key,
+  c.encode_runs.ensures.key ∙ c.push.ensures.key,
   c.encode_runs.ensures.start ∙ c.push.ensures.start,
 )
 
 pub returns-in_err-flush_full-clause-same : goal.returns-in_err-flush_full-clause-same
 returns-in_err-flush_full-clause-same g c = (
-  c.encode_runs.ensures.form
-      ∙ c.push.ensures.form,
+  c.encode_runs.ensures.form ∙ c.push.ensures.form,
   c.encode_runs.ensures.key ∙ c.push.ensures.key,
-  c.encode_runs.ensures.start
-      ∙ c.push.ensures.start,
+  c.encode_runs.ensures.start ∙ c.push.ensures.start,
 )
 
 pub returns-clause-same : goal.returns-clause-same
 returns-clause-same g c = (
   c.encode_runs.ensures.form ∙ c.push.ensures.form,
-  c.encode_runs.ensures.key
-      ∙ c.push.ensures.key,
+  c.encode_runs.ensures.key ∙ c.push.ensures.key,
   c.encode_runs.ensures.start ∙ c.push.ensures.start,
 )
