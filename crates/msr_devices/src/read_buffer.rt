@@ -96,8 +96,7 @@ impl ReadBuffer {
     }
 }
 
-/// Makes the memory long enough for `want` bytes, if it is not: at least twice as long, so that few
-/// bytes are moved.
+/// Makes the memory long enough for `want` bytes, if it is not: at least twice as long, so that few bytes are moved.
 fn grow(memory: &mut Vec<u8>, want: usize) -> Result<(), AllocError>
     ensures keeps { take (length memory.old.items) memory.new.items ≡ memory.old.items }
     ensures longer { OnOk result (want ≤ length memory.new.items) }

@@ -79,10 +79,9 @@ fn next_word(
     }
 }
 
-/// Fills the area, of whole frames, with the words of the run's differences, big-endian: the groups
-/// of the division that is written, and as constants the first and the last sample. Gives the number
-/// of groups, or none if the next differences do not tell the size of each. Inlined where the
-/// sizing is a literal, it is not tested for each word.
+/// Fills the area, of whole frames, with the words of the run's differences, big-endian: the groups of the division
+/// that is written, and as constants the first and the last sample. Gives the number of groups, or none if the next
+/// differences do not tell the size of each. Inlined where the sizing is a literal, it is not tested for each word.
 #[inline(always)]
 pub(crate) fn fill_frames(
     sizing: Sizing,

@@ -164,8 +164,7 @@ pub(crate) fn steim1_word(
     word_outside(before, run, at, usize::from(sizes[at]))
 }
 
-/// Gives the size of the difference `ahead` places after the one at `at`, or the greatest size if
-/// none is left there.
+/// Gives the size of the difference `ahead` places after the one at `at`, or the greatest size if none is left there.
 fn size_ahead(before: Option<i32>, run: &[i32], at: usize, ahead: usize) -> u64
     requires few { ahead ≤ 4 }
     requires within { at < length run.now }

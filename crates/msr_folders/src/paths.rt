@@ -30,8 +30,7 @@ pub fn ended(alloc: Global, path: &str, ending: &str) -> Result<String, AllocErr
     format!(in alloc; "{path}{ending}")
 }
 
-/// The path, from the archive's folder, of an entry of the folder with this path, which is empty for the archive's
-/// own.
+/// The path, from the archive's folder, of an entry of the folder with this path, which is empty for the archive's own.
 pub(crate) fn entry_path(alloc: Global, folder: &str, name: &str) -> Result<String, AllocError>
     ensures { IfOk result (λ text. string_bytes text ≡ below folder.now name.now) }
 {

@@ -7,8 +7,7 @@ use indexmap::IndexMap;
 use std::alloc::{AllocError, Global};
 use std::marker::Model;
 
-/// The number of the adds of a name, and the two sums of what was added. Each stops at the greatest
-/// number of 64 bits.
+/// The number of the adds of a name, and the two sums of what was added. Each stops at the greatest number of 64 bits.
 #[derive(Clone, Copy)]
 pub struct Total {
     pub files: u64,

@@ -50,8 +50,7 @@ impl BlockPacker {
     }
 
     /// Takes more samples. First it forgets those that no step needs any more, if they are at least as many as those
-    /// that it needs, so that in all no more samples are moved than pushed. If memory is refused, no sample was
-    /// taken.
+    /// that it needs, so that in all no more samples are moved than pushed. If memory is refused, no sample was taken.
     pub fn push_all(&mut self, samples: &[i32]) -> Result<(), AllocError>
         requires { pushed self.old + length samples.now < 2 ^ 64 }
         ensures taken { (records : Records) (before : List ℤ) (runs : List Run) (separators : List ℕ)

@@ -7,11 +7,12 @@ ghost use Rattle.msr_plain.specs.Plain.{CarriesPlain};
 
 use crate::{Width, read_number};
 use msr_base::Order;
+use std::alloc::AllocError;
 use std::marker::Model;
 
 /// The samples of an area, read from its bytes one by one. Contracts see the list of those that are left.
 /// A clone takes no memory.
-#[derive(Clone, Debug, Drop)]
+#[derive(Debug, Drop)]
 pub struct PlainSamples<'a> {
     width: Width,
     order: Order,
@@ -29,6 +30,18 @@ impl<'a> Model for PlainSamples<'a> {
     ghost view = { λ samples. numbers_in samples.width samples.order samples.bytes.now samples.left };
 
     ghost invariant = { λ samples. size_of samples.width * samples.left ≤ length samples.bytes.now };
+}
+
+impl<'a> Clone for PlainSamples<'a> {
+    ghost use Rattle.std.specs.Prelude.{◌≡◌, ⊤};
+
+    ghost is_clone = { λ samples copy. copy ≡ samples };
+
+    ghost is_infallible = { λ _. ⊤ };
+
+    fn clone(&self) -> Result<PlainSamples<'a>, AllocError> {
+        Ok(PlainSamples { ..*self })
+    }
 }
 
 impl<'a> Iterator for PlainSamples<'a> {

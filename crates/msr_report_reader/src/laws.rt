@@ -13,8 +13,7 @@ pub fn one_report()
     ensures { OneReport }
 {}
 
-/// The text of a report has no line at fault, so it is read as that report if no source fails and no memory is
-/// refused.
+/// The text of a report has no line at fault, so it is read as that report if no source fails and no memory is refused.
 pub fn text_is_read_back()
     ensures no_fault { NoLineAtFault }
     ensures back { TextIsReadBack }

@@ -164,8 +164,7 @@ pub(crate) fn area_of<'a>(opened: &Opened, rest: &'a [u8]) -> &'a [u8]
     &rest[opened.header.data_at as usize..opened.length as usize]
 }
 
-/// The key of a record with samples, and the instant of the first, if the first and the last are in
-/// time.
+/// The key of a record with samples, and the instant of the first, if the first and the last are in time.
 pub(crate) fn place_in_time(header: &Header, rate: Rate) -> Result<(Key, i64), FaultKind>
     requires factor { rate.factor ≡ header.now.factor }
     requires multiplier { rate.multiplier ≡ header.now.multiplier }

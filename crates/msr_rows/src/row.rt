@@ -6,9 +6,8 @@ use msr_time::Rate;
 /// What a record says of its channel and of all its samples, apart from their times and values
 /// (SEED 2.4, fixed section of data header; blockette 1001).
 ///
-/// A key that was read is in normal form: if the correction is not 0, activity bit 1 is set and
-/// the start of the row has the correction in it. Keys are equal when all their fields are, byte
-/// for byte.
+/// A key that was read is in normal form: if the correction is not 0, activity bit 1 is set and the start of the row
+/// has the correction in it. Keys are equal when all their fields are, byte for byte.
 #[derive(Clone, Copy, Debug, PartialEq, Eq)]
 pub struct Key {
     /// The network.

@@ -10,8 +10,7 @@ pub enum Step {
     Joins,
 }
 
-/// The row joins, and its last sample, counted from the segment's start, is outside the years 1900
-/// to 2100.
+/// The row joins, and its last sample, counted from the segment's start, is outside the years 1900 to 2100.
 #[derive(Clone, Copy, Debug, PartialEq, Eq)]
 pub struct OutOfRange;
 
@@ -62,8 +61,7 @@ impl Follow {
         self.current
     }
 
-    /// Says of the next row, which begins at that instant and has that many samples, whether it
-    /// begins a segment.
+    /// Says of the next row, which begins at that instant and has that many samples, whether it begins a segment.
     pub fn step(&mut self, key: &Key, start: i64, count: u16) -> Result<Step, OutOfRange>
         requires count { 1 ≤ count }
         requires start { IsInstant start }

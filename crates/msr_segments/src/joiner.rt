@@ -21,8 +21,7 @@ pub struct Segment {
 /// Why a row was refused.
 #[derive(Clone, Copy, Debug, PartialEq, Eq)]
 pub enum JoinKind {
-    /// The row joins, and its last sample, counted from the segment's start, is outside the years
-    /// 1900 to 2100.
+    /// The row joins, and its last sample, counted from the segment's start, is outside the years 1900 to 2100.
     TimeRange,
     /// The row joins, and there is no memory for its samples after those of the segment.
     Memory,

@@ -11,14 +11,12 @@ pub fn rows_have_one_division()
     ensures segments { HasOneListOfSegments }
 {}
 
-/// Segments that are cut into rows are the segments of these rows, for every tolerance of at least
-/// a microsecond.
+/// Segments that are cut into rows are the segments of these rows, for every tolerance of at least a microsecond.
 pub fn cuts_keep_segments()
     ensures { KeepsSegments }
 {}
 
-/// How a writer cuts segments row by row: a row begins a segment, or goes on where the last one
-/// ends.
+/// How a writer cuts segments row by row: a row begins a segment, or goes on where the last one ends.
 pub fn cuts_grow_by_rows()
     ensures none { AreCuts [] [] }
     ensures begins { CutsBegin }

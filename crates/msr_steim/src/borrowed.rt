@@ -11,6 +11,7 @@ use crate::carried::check_area;
 use crate::word::{difference_at, layout_for};
 use msr_base::Order;
 use msr_kinds::Version;
+use std::alloc::AllocError;
 use std::marker::Model;
 
 /// The fields of `word` that are left: `count` fields of `width` bits each, in its lowest bits.
@@ -23,7 +24,7 @@ struct Fields {
 
 /// The samples of an area, read from its words one by one. Contracts see those that are left, and whether
 /// the last of all is the reverse constant. A clone takes no memory.
-#[derive(Clone, Debug, Drop)]
+#[derive(Debug, Drop)]
 pub struct SteimSamples<'a> {
     version: Version,
     order: Order,
@@ -87,8 +88,7 @@ fn fields_at(version: Version, order: Order, area: &[u8], number: usize) -> Opti
     })
 }
 
-/// The first fields from a word on, and the number of the word after theirs. Undefined words are passed
-/// over.
+/// The first fields from a word on, and the number of the word after theirs. Undefined words are passed over.
 fn next_fields(version: Version, order: Order, area: &[u8], from: usize) -> Option<(Fields, usize)>
     requires { length area.now ≤ 1048576 }
     ensures some { IfSome result (λ next. differences_from version order area.now from
@@ -121,6 +121,18 @@ pub(crate) fn before_first(version: Version, order: Order, area: &[u8]) -> i32
             first.wrapping_sub(difference_at(fields.word, fields.count - 1, fields.width))
         }
         None => first,
+    }
+}
+
+impl<'a> Clone for SteimSamples<'a> {
+    ghost use Rattle.std.specs.Prelude.{◌≡◌, ⊤};
+
+    ghost is_clone = { λ samples copy. copy ≡ samples };
+
+    ghost is_infallible = { λ _. ⊤ };
+
+    fn clone(&self) -> Result<SteimSamples<'a>, AllocError> {
+        Ok(SteimSamples { ..*self })
     }
 }
 

@@ -36,9 +36,8 @@ pub(crate) fn settings_of(options: Options) -> Settings
     }
 }
 
-/// Reads all records of the source, joins their rows into segments, and writes each segment again in the fewest
-/// records of the length and the kinds that are asked for, while its samples come. It holds no segment, and a line for
-/// each.
+/// Reads all records of the source, joins their rows into segments, and writes each segment again in the fewest records
+/// of the length and the kinds that are asked for, while its samples come. It holds no segment, and a line for each.
 pub fn repack<R: Source, W: Sink>(
     alloc: Global,
     source: &mut R,

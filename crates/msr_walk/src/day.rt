@@ -68,8 +68,7 @@ impl DayFiles {
         self.records.keep(rt)
     }
 
-    /// Reads the records and the report again that were written, and holds one against the other, if that is asked
-    /// for.
+    /// Reads the records and the report again that were written, and holds one against the other, if that is asked for.
     fn hold<R: Files>(&self, rt: &R, alloc: Global, check: bool) -> Result<(), DayFault>
         ensures { IsShownIfAsked check result }
     {

@@ -96,8 +96,7 @@ impl Window {
         }
     }
 
-    /// Takes the differences of the samples from `first` on, always `PLACES` of them, so that the
-    /// loop is unrolled.
+    /// Takes the differences of the samples from `first` on, always `PLACES` of them, so that the loop is unrolled.
     #[inline(always)]
     fn take(&mut self, samples: &[i32], first: usize)
         requires some { 0 < first }
