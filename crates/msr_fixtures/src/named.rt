@@ -3,36 +3,43 @@
 use crate::edit::put;
 use msr_base::Order;
 
-/// Where the numbers of a field stand, each with how many bytes it has; a text has none of its own.
+/// The fields: where the numbers of each stand, and how many bytes each number has; a text has none of its own.
+const FIELDS: &[(&str, &[(usize, usize)])] = &[
+    ("sequence", &[(0, 0)]),
+    ("quality", &[(6, 0)]),
+    ("station", &[(8, 0)]),
+    ("location", &[(13, 0)]),
+    ("channel", &[(15, 0)]),
+    ("network", &[(18, 0)]),
+    ("day", &[(20, 2), (22, 2)]),
+    ("clock", &[(24, 1), (25, 1), (26, 1), (28, 2)]),
+    ("samples", &[(30, 2)]),
+    ("rate", &[(32, 2), (34, 2)]),
+    ("activity", &[(36, 1)]),
+    ("clocking", &[(37, 1)]),
+    ("flags", &[(38, 1)]),
+    ("correction", &[(40, 4)]),
+    ("data", &[(44, 2)]),
+    ("first", &[(46, 2)]),
+    ("after1000", &[(50, 2)]),
+    ("encoding", &[(52, 1)]),
+    ("order", &[(53, 1)]),
+    ("exponent", &[(54, 1)]),
+    ("second", &[(56, 2)]),
+    ("after1001", &[(58, 2)]),
+    ("timing", &[(60, 1)]),
+    ("micros", &[(61, 1)]),
+    ("frames", &[(63, 1)]),
+];
+
+/// Where the numbers of that field stand.
 fn places_of(name: &str) -> &'static [(usize, usize)] {
-    match name {
-        "sequence" => &[(0, 0)],
-        "quality" => &[(6, 0)],
-        "station" => &[(8, 0)],
-        "location" => &[(13, 0)],
-        "channel" => &[(15, 0)],
-        "network" => &[(18, 0)],
-        "day" => &[(20, 2), (22, 2)],
-        "clock" => &[(24, 1), (25, 1), (26, 1), (28, 2)],
-        "samples" => &[(30, 2)],
-        "rate" => &[(32, 2), (34, 2)],
-        "activity" => &[(36, 1)],
-        "clocking" => &[(37, 1)],
-        "flags" => &[(38, 1)],
-        "correction" => &[(40, 4)],
-        "data" => &[(44, 2)],
-        "first" => &[(46, 2)],
-        "after1000" => &[(50, 2)],
-        "encoding" => &[(52, 1)],
-        "order" => &[(53, 1)],
-        "exponent" => &[(54, 1)],
-        "second" => &[(56, 2)],
-        "after1001" => &[(58, 2)],
-        "timing" => &[(60, 1)],
-        "micros" => &[(61, 1)],
-        "frames" => &[(63, 1)],
-        _ => &[],
+    for (field, places) in FIELDS {
+        if *field == name {
+            return places;
+        }
     }
+    &[]
 }
 
 /// Writes a text; a `_` stands for a space.
