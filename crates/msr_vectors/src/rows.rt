@@ -5,14 +5,22 @@ use crate::{areas, filling, fitting, growing, inputs, packing, records, reports,
 use msr_words::Length;
 use std::io;
 
-/// Answers a row of times, of words or of areas.
-fn answer_format(name: &str, line: &mut Line<'_>) {
+/// Answers a row of times, or another.
+fn answer_times(name: &str, line: &mut Line<'_>) {
     match name {
         "time" => times::time(line),
         "instant" => times::instant(line),
         "period" => times::period(line),
         "nominal" => times::nominal(line),
         "near" => times::near(line),
+        "path" => times::path(line),
+        _ => answer_areas(name, line),
+    }
+}
+
+/// Answers a row of areas and of words, or another.
+fn answer_areas(name: &str, line: &mut Line<'_>) {
+    match name {
         "samples" => areas::grown(line),
         "plain" => areas::plain(line),
         "steim" => areas::steim(line),
@@ -25,7 +33,7 @@ fn answer_format(name: &str, line: &mut Line<'_>) {
     }
 }
 
-/// Answers a row of what fits a record.
+/// Answers a row of what fits a record, or another.
 fn answer_fitting(name: &str, line: &mut Line<'_>) {
     match name {
         "taken" => fitting::taken(line),
@@ -36,15 +44,25 @@ fn answer_fitting(name: &str, line: &mut Line<'_>) {
         "fits" => fitting::fits(line),
         "run" => fitting::run(line),
         "difference" => fitting::difference_at(line),
-        "word_size" => fitting::word_size(line),
-        "groups" => fitting::divided(line),
-        "count" => fitting::counted(line),
-        _ => line.is_bad = true,
+        _ => answer_groups(name, line),
     }
 }
 
-/// Answers a row.
-fn answer(name: &str, line: &mut Line<'_>) {
+/// Answers a row of groups or of packings, or another.
+fn answer_groups(name: &str, line: &mut Line<'_>) {
+    match name {
+        "word_size" => fitting::word_size(line),
+        "groups" => fitting::divided(line),
+        "count" => fitting::counted(line),
+        "pack" => packing::packed(line),
+        "separates" => packing::separated(line),
+        "least" => packing::is_least(line),
+        _ => answer_records(name, line),
+    }
+}
+
+/// Answers a row of records, or another.
+fn answer_records(name: &str, line: &mut Line<'_>) {
     match name {
         "header" => records::header(line),
         "record" => records::decoded(line),
@@ -52,21 +70,31 @@ fn answer(name: &str, line: &mut Line<'_>) {
         "area1" => filling::steim1(line),
         "area2" => filling::steim2(line),
         "told" => filling::by_told_words(line),
-        "pack" => packing::packed(line),
-        "separates" => packing::separated(line),
-        "least" => packing::is_least(line),
-        "path" => times::path(line),
+        _ => answer_inputs(name, line),
+    }
+}
+
+/// Answers a row of inputs or of reports, or another.
+fn answer_inputs(name: &str, line: &mut Line<'_>) {
+    match name {
         "join" => inputs::joined(line),
         "input" => inputs::read(line),
         "compare" => inputs::compared(line),
+        "report" => reports::read(line),
+        "retold" => reports::written(line),
+        "laws" => reports::laws(line),
+        _ => answer_tools(name, line),
+    }
+}
+
+/// Answers a row of tools.
+fn answer_tools(name: &str, line: &mut Line<'_>) {
+    match name {
         "tool" => tools::called(line),
         "options" => tools::options(line),
         "fault" => tools::fault(line),
         "memory" => tools::memory(line),
-        "report" => reports::read(line),
-        "retold" => reports::written(line),
-        "laws" => reports::laws(line),
-        _ => answer_format(name, line),
+        _ => line.is_bad = true,
     }
 }
 
@@ -80,6 +108,6 @@ pub fn tell(rt: &HostRuntime, text: &str) -> io::Result<()> {
     if growing::tell(rt, name, &mut line)? {
         return Ok(());
     }
-    answer(name, &mut line);
+    answer_times(name, &mut line);
     println!(rt; "{}", line.told())
 }
