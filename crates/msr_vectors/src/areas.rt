@@ -6,7 +6,7 @@ ghost use Rattle.msr_steim.specs.Word.{AreGroups};
 use crate::line::Line;
 use crate::lists::Hexadecimal;
 use msr_base::{Order, SampleVec};
-use msr_plain::{PlainFault, PlainSamples, decode_plain, decode_plain_into, plain_samples};
+use msr_plain::{PlainFault, PlainSamples, Width, decode_plain, decode_plain_into, plain_samples};
 use msr_steim::{
     Group, SteimFault, SteimSamples, Version, decode_steim, decode_steim_into, fill_steim,
     group_width, is_group, read_word, steim_samples, write_word,
@@ -47,20 +47,42 @@ const BEFORE: i32 = 7;
 
 /// `plain WIDTH ORDER COUNT AREA`: so many samples of an area of integers, or why it has not as many.
 pub fn plain(line: &mut Line<'_>) {
-    let (width, order, count) = (line.width(), line.order(), line.number());
+    let of = (line.width(), line.order(), line.number());
     let area = line.bytes();
-    let mut out = line.repeated(BEFORE, count);
-    let into = decode_plain_into(width, order, &area, &mut out);
-    match plain_samples(width, order, &area, count) {
+    let mut out = line.repeated(BEFORE, of.2);
+    let into = decode_plain_into(of.0, of.1, &area, &mut out);
+    agree_plain(line, of, &area, &out, into.is_ok());
+    put_plain(line, of, &area, &out, into);
+}
+
+/// Notes whether samples are shown as they were decoded into the slice; or none, if that was refused.
+fn agree_plain(
+    line: &mut Line<'_>,
+    of: (Width, Order, u16),
+    area: &[u8],
+    out: &[i32],
+    is_decoded: bool,
+) {
+    match plain_samples(of.0, of.1, area, of.2) {
         Some(viewed) => {
-            line.agree(into.is_ok());
-            agree_viewed(line, viewed, &out);
+            line.agree(is_decoded);
+            agree_viewed(line, viewed, out);
         }
-        None => line.agree(into.is_err() && are_all_before(&out)),
+        None => line.agree(!is_decoded && are_all_before(out)),
     }
-    match decode_plain(line.alloc, width, order, &area, count) {
+}
+
+/// What is decoded in memory of its own, and whether it was decoded so into the slice.
+fn put_plain(
+    line: &mut Line<'_>,
+    of: (Width, Order, u16),
+    area: &[u8],
+    out: &[i32],
+    into: Result<(), PlainFault>,
+) {
+    match decode_plain(line.alloc, of.0, of.1, area, of.2) {
         Ok(found) => {
-            line.agree(into.is_ok() && out.as_slice() == found.as_slice());
+            line.agree(into.is_ok() && out == found.as_slice());
             line.put(format_args!("{:?}", found.as_slice()));
         }
         Err(PlainFault::Memory) => line.is_bad = true,
@@ -101,11 +123,13 @@ pub fn steim(line: &mut Line<'_>) {
         return line.bad(());
     }
     let into = decode_steim_into(version, order, &area, &mut out);
-    put_steim(line, (version, order, count), &area, &out, into);
+    let of = (version, order, count);
+    agree_steim(line, of, &area, &out, into);
+    put_steim(line, of, &area, &out, into);
 }
 
-/// What is decoded in memory of its own, and whether it was decoded so into the slice, and is shown so.
-fn put_steim(
+/// Notes whether samples are shown as they were decoded into the slice, or refused so.
+fn agree_steim(
     line: &mut Line<'_>,
     of: (Version, Order, u16),
     area: &[u8],
@@ -122,6 +146,19 @@ fn put_steim(
         }
         Err(fault) => line.agree(into == Err(fault)),
     }
+}
+
+/// What is decoded in memory of its own, and whether it was decoded so into the slice.
+fn put_steim(
+    line: &mut Line<'_>,
+    of: (Version, Order, u16),
+    area: &[u8],
+    out: &[i32],
+    into: Result<bool, SteimFault>,
+)
+    requires some { 1 ≤ of.2 }
+    requires small { length area.now ≤ 1_048_576 }
+{
     match decode_steim(line.alloc, of.0, of.1, area, of.2) {
         Ok(found) => {
             let (samples, agrees) = (found.samples.as_slice(), found.reverse_agrees);
