@@ -47,19 +47,18 @@ fn change(line: &mut Line<'_>, order: Order, record: &mut Vec<u8>) {
 
 /// Adds the record of that name, and tells the order of its header's numbers.
 fn add_base(line: &mut Line<'_>, out: &mut Vec<u8>, name: &str) -> Order {
-    match name {
-        "plain" => line.extend(out, &record(&[])),
-        "steim" => line.extend(out, &steim_record(&[])),
-        "int32" => line.extend(out, &int32_record(&[])),
-        "little" => line.extend(out, &little_record(&[])),
-        "-" => {}
-        _ => line.is_bad = true,
-    }
-    if name == "little" {
-        Order::Little
-    } else {
-        Order::Big
-    }
+    let (order, base) = match name {
+        "plain" => (Order::Big, record(&[])),
+        "steim" => (Order::Big, steim_record(&[])),
+        "int32" => (Order::Big, int32_record(&[])),
+        "little" => (Order::Little, little_record(&[])),
+        _ => {
+            line.is_bad |= name != "-";
+            return Order::Big;
+        }
+    };
+    line.extend(out, &base);
+    order
 }
 
 /// A record and what is changed of it; `-` stands for no bytes.
