@@ -4,7 +4,13 @@ use crate::line::Line;
 use msr_fixtures::next_of;
 use std::fmt;
 
-/// Noise, half of it below 0: how many numbers, from which seed, their height, another height, and how many numbers each
+/// A number of noise of that height, half of it below 0.
+fn of_height(number: u64, height: u64) -> i64 {
+    let above = ((number >> 33) % height.max(1)).cast_signed();
+    above.wrapping_sub((height / 2).cast_signed())
+}
+
+/// Noise: how many numbers, from which seed, their height, another height, and how many numbers each
 /// of these lasts.
 fn add_noise(line: &mut Line<'_>, numbers: &mut Vec<i64>, of: &[i64]) {
     let [count, seed, calm, loud, stretch] = of else {
@@ -16,9 +22,7 @@ fn add_noise(line: &mut Line<'_>, numbers: &mut Vec<i64>, of: &[i64]) {
         number = next_of(number);
         let is_loud = place / stretch % 2 == 1;
         let height = if is_loud { *loud } else { *calm };
-        let height = height.cast_unsigned();
-        let above = ((number >> 33) % height.max(1)).cast_signed();
-        line.push(numbers, above.wrapping_sub((height / 2).cast_signed()));
+        line.push(numbers, of_height(number, height.cast_unsigned()));
     }
 }
 
