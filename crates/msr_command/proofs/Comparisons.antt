@@ -1,5 +1,5 @@
 -- How a comparison ends: answered, stopped, or before it begins.
-use Rattle.std.proofs.Common.{◌≡◌, ℕ, List, [], codes, take, drop, refl, subst, inl, inr, append-nil, Result, Ok, Err}
+use Rattle.std.proofs.Common.{◌≡◌, ℕ, List, [], take, drop, refl, subst, inl, inr, append-nil, Result, Ok, Err}
 use Rattle.std.proofs.lemmas.List.{take-append-drop}
 use Rattle.msr_devices.specs.Device.{Device, HasLeft, Takes}
 use Rattle.msr_devices.proofs.Chaining.{left_of, takes_append, takes_none}
@@ -10,12 +10,12 @@ use Rattle.msr_input.specs.declared.settings.Settings.{Settings}
 use Rattle.msr_tool.specs.declared.fault.ToolFault.{ToolFault}
 use Rattle.msr_tool.specs.declared.fault.ToolFault.TheVariants as fault
 use Rattle.msr_options.specs.Choice.{Choice}
-use Rattle.msr_command.specs.declared.comparing.Names.{Names}
+use Rattle.msr_options.specs.declared.task.Comparing.{Comparing}
 use Rattle.msr_command.specs.declared.done.Done.{Done}
 use Rattle.msr_command.specs.declared.task_fault.TaskFault.{TaskFault}
 use Rattle.msr_command.specs.declared.task_fault.TaskFault.TheVariants.{Tool}
 use Rattle.msr_command.specs.Comparing.{TellsComparison, compare_settings, comparison_lines, stop_of}
-use Rattle.msr_command.specs.Ends.{Compares, ComparesNamed, CompareEnds, IsOneStandard, IsOtherStandard, IsUnread, OverTwo}
+use Rattle.msr_command.specs.Ends.{Compares, ComparesNamed, CompareEnds, IsUnread, OverTwo}
 
 -- what was tried before prints nothing
 pub two_after : (known_one known_other : Type 0) (says : (first second printed : List ℕ) → Type 0)
@@ -46,51 +46,24 @@ two_none known_one known_other says one other out0 out none ends = record {
 }
 
 -- an input cannot be opened, or is the output
-pub compare_unread : (choice : Choice) (names : Names) (standard out : Device) (stop : TaskFault) → IsUnread stop →
-    ComparesNamed choice names standard out out (Err stop)
-compare_unread choice names standard out stop is =
-    two_none (IsOneStandard names) (IsOtherStandard names) (CompareEnds choice names (Err stop)) standard standard out out
+pub compare_unread : (known_one known_other : Type 0) (choice : Choice) (asked : Comparing) (one other out : Device)
+    (stop : TaskFault) → IsUnread stop
+    → OverTwo known_one known_other (CompareEnds choice asked (Err stop)) one other out out
+compare_unread known_one known_other choice asked one other out stop is =
+    two_none known_one known_other (CompareEnds choice asked (Err stop)) one other out out
     (takes_none out) (λ first second. inr (inl (inl is), refl))
 
--- what a comparison of two sources did is that of the files with these names
-
--- the first one is standard input
-pub compared_one : (choice : Choice) (names : Names) (standard other out0 out : Device) (result : Result Done TaskFault) →
-    IsOneStandard names → Compares choice names standard other out0 out result → ComparesNamed choice names standard out0 out result
-compared_one choice names standard other out0 out result is does = record {
+-- what was done over two sources, where less is known of them
+pub two_known : {known_one known_other known_first known_second : Type 0}
+    {says : (first second printed : List ℕ) → Type 0} {one other source input out0 out : Device}
+    (does : OverTwo known_one known_other says one other out0 out) → (known_first → HasLeft source does.first)
+    → (known_second → HasLeft input does.second) → OverTwo known_first known_second says source input out0 out
+two_known does left_one left_other = record {
   first = does.first;
   second = does.second;
   printed = does.printed;
-  left_one = λ known. does.left_one tt;
-  left_other = λ known. absurd (known.0 is);
-  prints = does.prints;
-  ends = does.ends;
-}
-
--- the other one is
-pub compared_other : (choice : Choice) (names : Names) (one standard out0 out : Device) (result : Result Done TaskFault) →
-    (IsOneStandard names → ⊥) → Compares choice names one standard out0 out result
-    → ComparesNamed choice names standard out0 out result
-compared_other choice names one standard out0 out result no_one does = record {
-  first = does.first;
-  second = does.second;
-  printed = does.printed;
-  left_one = λ known. absurd (no_one known);
-  left_other = λ known. does.left_other tt;
-  prints = does.prints;
-  ends = does.ends;
-}
-
--- neither is
-pub compared_files : (choice : Choice) (names : Names) (standard one other out0 out : Device) (result : Result Done TaskFault) →
-    (IsOneStandard names → ⊥) → (names.other.now ≡ codes "-" → ⊥) → Compares choice names one other out0 out result
-    → ComparesNamed choice names standard out0 out result
-compared_files choice names standard one other out0 out result no_one no_other does = record {
-  first = does.first;
-  second = does.second;
-  printed = does.printed;
-  left_one = λ known. absurd (no_one known);
-  left_other = λ known. absurd (no_other known.1);
+  left_one = left_one;
+  left_other = left_other;
   prints = does.prints;
   ends = does.ends;
 }
@@ -104,10 +77,10 @@ as_asked choice settings first second answer same answers =
     subst P same answers
 
 -- an input is at fault
-pub compare_stops : (choice : Choice) (names : Names) (one other out : Device) (first second : List ℕ) (why : CompareFault) →
+pub compare_stops : (choice : Choice) (asked : Comparing) (one other out : Device) (first second : List ℕ) (why : CompareFault) →
     HasLeft one first → HasLeft other second → CompareAnswers (compare_settings choice) first second (Err why) →
-    Compares choice names one other out out (Err (stop_of names why))
-compare_stops choice names one other out first second why left_one left_other answer = record {
+    Compares choice asked one other out out (Err (stop_of asked why))
+compare_stops choice asked one other out first second why left_one left_other answer = record {
   first = first;
   second = second;
   printed = [];
@@ -118,17 +91,17 @@ compare_stops choice names one other out first second why left_one left_other an
 }
 
 -- the answer is not printed, or not whole
-pub compare_untold : (choice : Choice) (names : Names) (one other out0 out : Device) (first second : List ℕ) (comparison : Comparison)
+pub compare_untold : (choice : Choice) (asked : Comparing) (one other out0 out : Device) (first second : List ℕ) (comparison : Comparison)
     (why : ToolFault) → HasLeft one first → HasLeft other second →
     CompareAnswers (compare_settings choice) first second (Ok comparison) →
-    TellsComparison comparison out0 out (Err why) → Compares choice names one other out0 out (Err (Tool why))
-compare_untold choice names one other out0 out first second comparison (fault.Input found) left_one left_other answer tells =
+    TellsComparison comparison out0 out (Err why) → Compares choice asked one other out0 out (Err (Tool why))
+compare_untold choice asked one other out0 out first second comparison (fault.Input found) left_one left_other answer tells =
     absurd tells
-compare_untold choice names one other out0 out first second comparison (fault.Report line) left_one left_other answer tells =
+compare_untold choice asked one other out0 out first second comparison (fault.Report line) left_one left_other answer tells =
     absurd tells
-compare_untold choice names one other out0 out first second comparison fault.Read left_one left_other answer tells =
+compare_untold choice asked one other out0 out first second comparison fault.Read left_one left_other answer tells =
     absurd tells
-compare_untold choice names one other out0 out first second comparison fault.Write left_one left_other answer tells = record {
+compare_untold choice asked one other out0 out first second comparison fault.Write left_one left_other answer tells = record {
   first = first;
   second = second;
   printed = take tells.0 (comparison_lines comparison);
@@ -141,7 +114,7 @@ compare_untold choice names one other out0 out first second comparison fault.Wri
     answered = record { answer = answer; lines = take-append-drop tells.0 (comparison_lines comparison) };
   });
 }
-compare_untold choice names one other out0 out first second comparison fault.Memory left_one left_other answer tells = record {
+compare_untold choice asked one other out0 out first second comparison fault.Memory left_one left_other answer tells = record {
   first = first;
   second = second;
   printed = [];
@@ -152,9 +125,9 @@ compare_untold choice names one other out0 out first second comparison fault.Mem
 }
 
 -- what was printed is not stored
-pub compare_unsettled : (choice : Choice) (names : Names) (standard out0 out : Device) (done : Done) →
-    ComparesNamed choice names standard out0 out (Ok done) → ComparesNamed choice names standard out0 out (Err (Tool fault.Write))
-compare_unsettled choice names standard out0 out done does = record {
+pub compare_unsettled : (choice : Choice) (asked : Comparing) (standard out0 out : Device) (done : Done) →
+    ComparesNamed choice asked standard out0 out (Ok done) → ComparesNamed choice asked standard out0 out (Err (Tool fault.Write))
+compare_unsettled choice asked standard out0 out done does = record {
   first = does.first;
   second = does.second;
   printed = does.printed;

@@ -27,7 +27,6 @@ use Rattle.msr_options.specs.declared.task.ListForm.{ListForm}
 use Rattle.msr_options.specs.declared.task.Task.{Task}
 use Rattle.msr_options.specs.declared.task.Task.TheVariants.{Repack, List as Listing, Check, Compare, Archive, Verify, Feed}
 use Rattle.msr_command.specs.Turns.{AreTurns}
-use Rattle.msr_command.specs.Comparing.{names_of}
 use Rattle.msr_command.proofs.Comparisons.{compare_unsettled, two_after, two_none}
 use Rattle.msr_command.specs.Ends.{Checks, Does, EndsClosed, Feeds, FeedAnswers, FeedEnds, FeedsTo, IsUncreated, IsUnread, ListEnds, Lists, ListsNamed, IsOverlapOrMemory, Over, RepackEnds, Repacks, RepacksNamed, VerifiesArchive, WalksArchive, done_of_archive, done_of_verifying}
 
@@ -255,18 +254,9 @@ repack_unstored choice done input printed ends = inl (record {
   answers = inr (record { report = ends.2.report; rest = []; reported = rw append-nil ends.2.reported });
 })
 
-pub repack_unsettled : (choice : Choice) (source records0 records out0 out : Device) (report : Report) →
-    Reports choice source records0 records out0 out (Ok report) → Repacks choice source out0 out (Err (Tool fault.Write))
-repack_unsettled choice source records0 records out0 out report does = record {
-  input = does.input;
-  printed = does.told;
-  left = λ is. does.left;
-  prints = does.told_all;
-  ends = inl (record {
-    written = does.written;
-    answers = inr (record { report = report; rest = []; reported = rw append-nil does.answers });
-  });
-}
+pub repack_unsettled : (choice : Choice) (source out0 out : Device) (done : Done) → Repacks choice source out0 out (Ok done) →
+    Repacks choice source out0 out (Err (Tool fault.Write))
+repack_unsettled choice source out0 out done does = over_said _ _ _ source out0 out (repack_unstored choice done) does
 
 feed_unstored : (choice : Choice) (input printed : List ℕ) → FeedAnswers choice (Ok tt) input printed →
     FeedAnswers choice (Err fault.Write) input printed
@@ -311,7 +301,7 @@ task_unsettled (Listing asked) standard out0 out done does =
     over_said _ _ _ standard out0 out (list_unstored asked.form asked.options done) does
 task_unsettled (Check asked) standard out0 out done does = check_unsettled out0 out done does
 task_unsettled (Compare asked) standard out0 out done does =
-    compare_unsettled asked.options (names_of asked) standard out0 out done does
+    compare_unsettled asked.options asked standard out0 out done does
 task_unsettled (Archive asked) standard out0 out done does =
     let P : List ℕ → Type 0 = λ text. IsWalk asked.days text does.ends.walk.0 in
     record {

@@ -12,13 +12,8 @@ use Rattle.msr_compare.specs.declared.fault.CompareFault.TheVariants.{One, Other
 use Rattle.msr_tool.specs.declared.fault.ToolFault.{ToolFault}
 use Rattle.msr_tool.specs.declared.fault.ToolFault.TheVariants as fault
 use Rattle.msr_options.specs.declared.task.Comparing.{Comparing}
-use Rattle.msr_command.specs.declared.comparing.Names.{Names}
 use Rattle.msr_command.specs.declared.task_fault.TaskFault.{TaskFault}
 use Rattle.msr_command.specs.declared.task_fault.TaskFault.TheVariants.{Input, Tool}
-
--- the names of both inputs that a comparison is asked for
-abbrev pub names_of : Comparing → Names
-names_of asked = record { one = asked.one; other = asked.other }
 
 -- both inputs are read with the tolerance of the options, and never strictly
 abbrev pub compare_settings : Choice → Settings
@@ -38,13 +33,13 @@ TellsComparison comparison out0 out (Err fault.Write) = (n : ℕ) × Takes out0 
 TellsComparison comparison out0 out (Err fault.Memory) = Takes out0 out []
 
 -- what the task ends with at this fault of one of its inputs; memory that was refused has no name
-abbrev pub stop_of : Names → CompareFault → TaskFault
-stop_of names (One (read.Input found)) = Input names.one (fault.Input found)
-stop_of names (One read.Read) = Input names.one fault.Read
-stop_of names (One read.Memory) = Tool fault.Memory
-stop_of names (Other (read.Input found)) = Input names.other (fault.Input found)
-stop_of names (Other read.Read) = Input names.other fault.Read
-stop_of names (Other read.Memory) = Tool fault.Memory
+abbrev pub stop_of : Comparing → CompareFault → TaskFault
+stop_of asked (One (read.Input found)) = Input asked.one (fault.Input found)
+stop_of asked (One read.Read) = Input asked.one fault.Read
+stop_of asked (One read.Memory) = Tool fault.Memory
+stop_of asked (Other (read.Input found)) = Input asked.other (fault.Input found)
+stop_of asked (Other read.Read) = Input asked.other fault.Read
+stop_of asked (Other read.Memory) = Tool fault.Memory
 
 -- The inputs have this answer, and it was printed.
 pub record IsAnswered (choice : Choice) (first second printed : List ℕ) (comparison : Comparison) : Type 0 where
@@ -58,10 +53,10 @@ pub record IsAnsweredInPart (choice : Choice) (first second printed : List ℕ) 
   pub answered : IsAnswered choice first second (printed ++ rest) comparison
 
 -- One of the inputs stops the task so, by its name.
-pub record IsAtFault (choice : Choice) (names : Names) (first second : List ℕ) (stop : TaskFault) : Type 0 where
+pub record IsAtFault (choice : Choice) (asked : Comparing) (first second : List ℕ) (stop : TaskFault) : Type 0 where
   pub fault : CompareFault
   pub answer : CompareAnswers (compare_settings choice) first second (Err fault)
-  pub stops : stop ≡ stop_of names fault
+  pub stops : stop ≡ stop_of asked fault
 
 -- what a fault says that no input has
 abbrev pub StopsComparison : Choice → (first second printed : List ℕ) → ToolFault → Type 0

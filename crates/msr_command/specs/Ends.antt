@@ -22,8 +22,8 @@ use Rattle.msr_command.specs.declared.done.Done.{Done}
 use Rattle.msr_command.specs.declared.done.Done.TheVariants.{Written, Repacked, Checked, Compared, Walked}
 use Rattle.msr_command.specs.declared.task_fault.TaskFault.{TaskFault}
 use Rattle.msr_command.specs.declared.task_fault.TaskFault.TheVariants.{CannotOpen, SameFile, SameOutput, Overlap, Closed, Tool}
-use Rattle.msr_command.specs.declared.comparing.Names.{Names}
-use Rattle.msr_command.specs.Comparing.{IsAnswered, IsAtFault, StopsComparison, names_of}
+use Rattle.msr_options.specs.declared.task.Comparing.{Comparing}
+use Rattle.msr_command.specs.Comparing.{IsAnswered, IsAtFault, StopsComparison}
 use Rattle.msr_command.specs.Turns.{AreTurns}
 use Rattle.msr_options.specs.declared.hint.Unopened.{Unopened}
 use Rattle.msr_options.specs.declared.task.ListForm.{ListForm}
@@ -190,28 +190,33 @@ pub record OverTwo (known_one known_other : Type 0) (says : (first second printe
   pub prints : Takes out0 out printed
   pub ends : says first second printed
 
-abbrev pub CompareEnds : Choice → Names → Result Done TaskFault → (first second printed : List ℕ) → Type 0
-CompareEnds choice names result first second printed =
+abbrev pub CompareEnds : Choice → Comparing → Result Done TaskFault → (first second printed : List ℕ) → Type 0
+CompareEnds choice asked result first second printed =
     Ends (IsDoneBy Compared (IsAnswered choice first second printed))
-    (λ stop. IsUnread stop ⊎ IsAtFault choice names first second stop) (StopsComparison choice first second printed)
+    (λ stop. IsUnread stop ⊎ IsAtFault choice asked first second stop) (StopsComparison choice first second printed)
     printed result
 
 -- Comparing two sources.
-abbrev pub Compares : Choice → Names → (one other out0 out : Device) → Result Done TaskFault → Type 0
-Compares choice names one other out0 out result = OverTwo ⊤ ⊤ (CompareEnds choice names result) one other out0 out
+abbrev pub Compares : Choice → Comparing → (one other out0 out : Device) → Result Done TaskFault → Type 0
+Compares choice asked one other out0 out result = OverTwo ⊤ ⊤ (CompareEnds choice asked result) one other out0 out
 
 -- the first name is that of standard input
-abbrev pub IsOneStandard : Names → Type 0
-IsOneStandard names = names.one.now ≡ codes "-"
+abbrev pub IsOneStandard : Comparing → Type 0
+IsOneStandard asked = asked.one.now ≡ codes "-"
 
 -- the other one is; a command line has not both
-abbrev pub IsOtherStandard : Names → Type 0
-IsOtherStandard names = ¬ (IsOneStandard names) × (names.other.now ≡ codes "-")
+abbrev pub IsOtherStandard : Comparing → Type 0
+IsOtherStandard asked = ¬ (IsOneStandard asked) × (asked.other.now ≡ codes "-")
+
+-- Comparing a source with the file of the other name, which may be standard input.
+abbrev pub ComparesWith : Choice → Comparing → (one standard out0 out : Device) → Result Done TaskFault → Type 0
+ComparesWith choice asked one standard out0 out result =
+    OverTwo ⊤ (asked.other.now ≡ codes "-") (CompareEnds choice asked result) one standard out0 out
 
 -- Comparing the files of two names, of which one may be standard input.
-abbrev pub ComparesNamed : Choice → Names → (standard out0 out : Device) → Result Done TaskFault → Type 0
-ComparesNamed choice names standard out0 out result =
-    OverTwo (IsOneStandard names) (IsOtherStandard names) (CompareEnds choice names result) standard standard out0 out
+abbrev pub ComparesNamed : Choice → Comparing → (standard out0 out : Device) → Result Done TaskFault → Type 0
+ComparesNamed choice asked standard out0 out result =
+    OverTwo (IsOneStandard asked) (IsOtherStandard asked) (CompareEnds choice asked result) standard standard out0 out
 
 -- what a walk through an archive ends with, or through a part of it, and whether the whole has to have a day
 abbrev pub done_of_walk : Option Unopened → (is_whole wants_day : Bool) → WalkFound → Done
@@ -278,7 +283,7 @@ Does (Listing asked) standard out0 out result =
     ListsNamed asked.form asked.options asked.input.now standard out0 out result
 Does (Check asked) standard out0 out result = Checks out0 out result
 Does (Compare asked) standard out0 out result =
-    ComparesNamed asked.options (names_of asked) standard out0 out result
+    ComparesNamed asked.options asked standard out0 out result
 Does (Archive asked) standard out0 out result = WalksArchive asked.days out0 out result
 Does (Verify asked) standard out0 out result = VerifiesArchive out0 out result
 Does (Feed asked) standard out0 out result = Feeds asked.options standard out0 out result

@@ -27,8 +27,7 @@ fn opened<'a, T>(name: &'a str, answer: io::Result<T>) -> Result<T, TaskFault<'a
     answer.map_err(|error| TaskFault::CannotOpen(name, error))
 }
 
-/// Opens the file with this name, also if it is `-`, to be read, unless standard output is redirected to it; and tells
-/// which file it is.
+/// Opens the file with this name, even `-`, to be read, unless standard output goes to it, and tells which it is.
 pub(crate) fn open_file<'a, R: Files>(
     rt: &R,
     name: &'a str,
@@ -107,8 +106,7 @@ pub(crate) fn create_report<'a, R: Files>(rt: &R, name: &'a str) -> Result<R::Fi
     create_output(rt, name, standard_input(rt)?)
 }
 
-/// Waits until the system has stored what was printed, if standard output is redirected to a regular file that can
-/// be opened once more.
+/// Waits until what was printed is stored, if standard output is redirected to a regular file that opens once more.
 pub(crate) fn settle_standard_output<R: Files>(rt: &R) -> Result<(), ToolFault>
     ensures { IfErr result (λ fault. fault ≡ ToolFault.Write) }
 {

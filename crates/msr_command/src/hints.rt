@@ -7,8 +7,7 @@ use msr_options::{Hint, Task, hint_of_file, hint_of_folder, hint_of_report};
 use msr_tool::ToolFault;
 use std::rt::Files;
 
-/// The names of the files that a task reads, records and a report. Standard input has none: what it gave is gone. Of two
-/// inputs the fault names the one.
+/// The names of what a task reads, records and a report. Standard input has none. Of two inputs a fault names the one.
 #[derive(Clone, Copy)]
 pub(crate) struct FilesRead<'a> {
     pub records: Option<&'a str>,

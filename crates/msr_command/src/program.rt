@@ -14,8 +14,7 @@ use msr_devices::{Sink, Source, write_all};
 use msr_options::{Ending, Errors, Hint, NoTask, Task, complain, write_complaint, write_hint};
 use msr_walk::LockFile;
 use std::alloc::Global;
-use std::io;
-use std::io::Write;
+use std::io::{self, Write};
 use std::rt::Files;
 
 /// Prints the line of a task's fault.

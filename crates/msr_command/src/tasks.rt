@@ -1,5 +1,4 @@
-//! The tasks of the program, over the system's files, and over any source and sink in the place of standard input and
-//! output.
+//! The tasks of the program, over the system's files, and any source and sink in place of standard input and output.
 ghost use Rattle.std.specs.Prelude.{IfErr};
 ghost use Rattle.msr_devices.specs.Device.{CanCountCall};
 ghost use Rattle.msr_command.specs.Ends.{Checks, Does, EndsClosed, Feeds, FeedsTo, IsOverlapOrMemory, Lists, ListsNamed, OpensOutput, Repacks, RepacksNamed, VerifiesArchive, WalksArchive};
@@ -21,11 +20,10 @@ use msr_verify::verify;
 use msr_walk::{LockFile, walk};
 use std::alloc::Global;
 use std::fs::OpenFile;
-use std::io;
+use std::io::{self, Write};
 use std::rt::Files;
 
-/// Does what was asked for: reads files, and `input` if a name is `-`; writes files, and to `output` what is to be
-/// printed.
+/// Does what was asked for: reads files, and `input` if a name is `-`; writes files, and prints to `output`.
 pub(crate) fn do_task<'a, R: Files, I: Source, O: Sink>(
     rt: &R,
     alloc: Global,
@@ -68,15 +66,14 @@ where
         Task::Repack(asked) => repack_file(rt, alloc, asked, input, output),
         Task::List(asked) => list_file(rt, alloc, asked, input, output),
         Task::Check(asked) => check_files(rt, alloc, asked, output),
-        Task::Compare(asked) => compare_files(rt, alloc, asked, input, output),
+        Task::Compare(asked) => compare_files(rt, alloc, &asked, input, output),
         Task::Archive(asked) => repack_archive(rt, alloc, asked, output),
         Task::Verify(asked) => verify_archive(rt, alloc, asked, output),
         Task::Feed(asked) => feed_input(rt, alloc, asked, input, output),
     }
 }
 
-/// Nothing can be printed if standard output is closed, and a file that is made would stand in its place and get
-/// the text.
+/// If standard output is closed nothing can be printed, and a file that is made would get the text in its place.
 fn require_open<'a, O: Sink>(output: &mut O) -> Result<(), TaskFault<'a>>
     requires { CanCountCall (O.device output.old) }
     ensures { OpensOutput (O.device output.old) (O.device output.new) result }
@@ -142,23 +139,29 @@ fn repack_from<'a, R: Files, I: Source, O: Sink>(
     ensures { Repacks options (I.device source.old) (O.device output.old) (O.device output.new) result }
 {
     let Some(name) = to else {
-        let mut nowhere = FromWrite::new(io::sink());
-        let report = repack_and_report(alloc, source, &mut nowhere, output, options)?;
-        return Ok(Done::Repacked {
-            in_turns: is_in_turns(&report),
-        });
+        return repack_to(alloc, options, source, io::sink(), output);
     };
     let mut file = create_output(rt, name, input)?;
-    let report = repack_and_report(
-        alloc,
-        source,
-        &mut FromWrite::new(&mut file),
-        output,
-        options,
-    )?;
+    let done = repack_to(alloc, options, source, &mut file, output)?;
     if settle(&file).is_err() {
         return Err(TaskFault::Tool(ToolFault::Write));
     }
+    Ok(done)
+}
+
+/// Repacks the source to that writer, and tells whether its channels seem to come in turns.
+fn repack_to<'a, I: Source, W: Write + Drop, O: Sink>(
+    alloc: Global,
+    options: Options,
+    source: &mut I,
+    to: W,
+    output: &mut O,
+) -> Result<Done, TaskFault<'a>>
+    requires source { CanCountCall (I.device source.old) }
+    requires output { CanCountCall (O.device output.old) }
+    ensures { Repacks options (I.device source.old) (O.device output.old) (O.device output.new) result }
+{
+    let report = repack_and_report(alloc, source, &mut FromWrite::new(to), output, options)?;
     Ok(Done::Repacked {
         in_turns: is_in_turns(&report),
     })
