@@ -69,13 +69,10 @@ pub(crate) fn fields_from(
 fn form_of(size: usize) -> Steim2Form
     requires some { 1 ≤ size }
     requires most { size ≤ 7 }
-    ensures width { group_width Two size ≡ Some result.width }
-    ensures positive { 0 < result.width }
-    ensures within { size * result.width ≤ 32 }
-    ensures code { result.code ≡ group_code Two size }
-    ensures small { result.code < 4 }
-    ensures top { result.top ≡ group_top Two size }
-    ensures room { result.top * 2 ^ 30 + 2 ^ (size * result.width) ≤ 2 ^ 32 }
+    ensures form { (group_width Two size ≡ Some result.width) × (result.code ≡ group_code Two size)
+        × (result.top ≡ group_top Two size) }
+    ensures room { (0 < result.width) × (size * result.width ≤ 32) × (result.code < 4)
+        × (result.top * 2 ^ 30 + 2 ^ (size * result.width) ≤ 2 ^ 32) }
 {
     let (code, top, width) = match size {
         1 => (2, 1, 30),
@@ -117,8 +114,7 @@ pub(crate) fn fields_seen(window: &Window, place: usize, size: usize, width: u32
 #[inline(always)]
 fn formed(window: &Window, place: usize, size: usize) -> SteimWord
     requires room { place + 7 ≤ 64 }
-    requires full { 1 ≤ size }
-    requires most { size ≤ 7 }
+    requires size { (1 ≤ size) × (size ≤ 7) }
     ensures size { result.size ≡ size }
     ensures code { result.code ≡ group_code Two result.size }
     ensures small { result.code < 4 }

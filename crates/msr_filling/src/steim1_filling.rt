@@ -30,12 +30,9 @@ struct Steim1Form {
 fn form_of(size: usize) -> Steim1Form
     requires some { 1 ≤ size }
     requires most { size ≤ 4 }
-    ensures width { group_width One size ≡ Some result.width }
-    ensures positive { 0 < result.width }
-    ensures code { result.code ≡ group_code One size }
-    ensures small { result.code < 4 }
-    ensures left { result.left ≡ padding_of One size * result.width }
-    ensures within { size * result.width + result.left ≤ 32 }
+    ensures form { (group_width One size ≡ Some result.width) × (result.code ≡ group_code One size)
+        × (result.left ≡ padding_of One size * result.width) }
+    ensures room { (0 < result.width) × (size * result.width + result.left ≤ 32) × (result.code < 4) }
 {
     let (code, width, left) = match size {
         1 => (3, 32, 0),
@@ -50,8 +47,7 @@ fn form_of(size: usize) -> Steim1Form
 #[inline(always)]
 fn formed(window: &Window, place: usize, size: usize) -> SteimWord
     requires room { place + 7 ≤ 64 }
-    requires full { 1 ≤ size }
-    requires most { size ≤ 4 }
+    requires size { (1 ≤ size) × (size ≤ 4) }
     ensures coded { IsCoded One size result }
     ensures word { (ds : List ℤ) → Shows window.now ds place → IsGroup One (take size ds)
         → result.word ≡ group_word One (take size ds) }
@@ -78,8 +74,7 @@ fn chosen(first: u32, second: u32, is_second: u32) -> u32
 /// The word of a group of this size, of that of one difference and that of two.
 #[inline(always)]
 fn of_two(one: SteimWord, two: SteimWord, size: usize) -> SteimWord
-    requires full { 1 ≤ size }
-    requires most { size ≤ 2 }
+    requires size { (1 ≤ size) × (size ≤ 2) }
     ensures coded { IsCoded One size result }
     ensures one { size ≡ 1 → result.word ≡ one.word }
     ensures two { size ≡ 2 → result.word ≡ two.word }
@@ -97,8 +92,7 @@ fn of_two(one: SteimWord, two: SteimWord, size: usize) -> SteimWord
 #[inline(always)]
 fn pair_seen(window: &Window, place: usize, size: usize) -> SteimWord
     requires room { place + 7 ≤ 64 }
-    requires full { 1 ≤ size }
-    requires most { size ≤ 2 }
+    requires size { (1 ≤ size) × (size ≤ 2) }
     ensures coded { IsCoded One size result }
     ensures word { (ds : List ℤ) → Shows window.now ds place → IsGroup One (take size ds)
         → result.word ≡ group_word One (take size ds) }
@@ -112,8 +106,7 @@ fn pair_seen(window: &Window, place: usize, size: usize) -> SteimWord
 #[inline(always)]
 fn word_seen(window: &Window, place: usize, size: usize) -> SteimWord
     requires room { place + 7 ≤ 64 }
-    requires full { 1 ≤ size }
-    requires most { size ≤ 4 }
+    requires size { (1 ≤ size) × (size ≤ 4) }
     ensures coded { IsCoded One size result }
     ensures word { (ds : List ℤ) → Shows window.now ds place → IsGroup One (take size ds)
         → result.word ≡ group_word One (take size ds) }
@@ -127,8 +120,7 @@ fn word_seen(window: &Window, place: usize, size: usize) -> SteimWord
 
 /// The word of this group, of differences taken one after another.
 fn word_outside(before: Option<i32>, run: &[i32], at: usize, size: usize) -> SteimWord
-    requires full { 1 ≤ size }
-    requires most { size ≤ 4 }
+    requires size { (1 ≤ size) × (size ≤ 4) }
     requires room { at + size ≤ length run.now }
     requires group { IsGroup One (take size (drop at (differences before run.now))) }
     ensures coded { IsCoded One size result }
@@ -293,10 +285,8 @@ fn fields_at(run: &[i32], at: usize, size: usize, width: u32) -> u32
 /// The word of this group of the differences from `at` on, with a literal as size, so that its form is known.
 #[inline(always)]
 fn formed_inside(run: &[i32], at: usize, size: usize) -> SteimWord
-    requires later { 0 < at }
-    requires full { 1 ≤ size }
-    requires most { size ≤ 4 }
-    requires room { at + size ≤ length run.now }
+    requires size { (1 ≤ size) × (size ≤ 4) }
+    requires room { (0 < at) × (at + size ≤ length run.now) }
     ensures coded { IsCoded One size result }
     ensures word { (before : Option ℤ) → IsGroup One (take size (drop at (differences before run.now)))
         → result.word ≡ group_word One (take size (drop at (differences before run.now))) }
@@ -313,10 +303,8 @@ fn formed_inside(run: &[i32], at: usize, size: usize) -> SteimWord
 /// The word of a group of two or one of the differences from `at` on, as `pair_seen`.
 #[inline(always)]
 fn pair_inside(run: &[i32], at: usize, size: usize) -> SteimWord
-    requires later { 0 < at }
-    requires full { 1 ≤ size }
-    requires most { size ≤ 2 }
-    requires room { at + 2 ≤ length run.now }
+    requires size { (1 ≤ size) × (size ≤ 2) }
+    requires room { (0 < at) × (at + 2 ≤ length run.now) }
     ensures coded { IsCoded One size result }
     ensures word { (before : Option ℤ) → IsGroup One (take size (drop at (differences before run.now)))
         → result.word ≡ group_word One (take size (drop at (differences before run.now))) }
@@ -329,10 +317,8 @@ fn pair_inside(run: &[i32], at: usize, size: usize) -> SteimWord
 /// The word of this group of the differences from `at` on, none of which is the run's first.
 #[inline(always)]
 fn word_inside(run: &[i32], at: usize, size: usize) -> SteimWord
-    requires later { 0 < at }
-    requires full { 1 ≤ size }
-    requires most { size ≤ 4 }
-    requires room { at + 4 ≤ length run.now }
+    requires size { (1 ≤ size) × (size ≤ 4) }
+    requires room { (0 < at) × (at + 4 ≤ length run.now) }
     ensures coded { IsCoded One size result }
     ensures word { (before : Option ℤ) → IsGroup One (take size (drop at (differences before run.now)))
         → result.word ≡ group_word One (take size (drop at (differences before run.now))) }

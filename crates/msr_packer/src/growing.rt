@@ -1,7 +1,7 @@
 //! A run that all samples so far fit, with its tracker: while the tracker does not refuse, the step from the frontier
 //! is not decided, and need not be looked for.
 
-ghost use Rattle.std.specs.Prelude.{◌≡◌, ℕ, ◌+◌, ◌≤◌, [], length, IfSome, IsNone};
+ghost use Rattle.std.specs.Prelude.{◌≡◌, ℕ, ◌+◌, ◌≤◌, [], length, IfSome, IsNone, MatchOption};
 ghost use Rattle.msr_kinds.specs.Lengths.{bytes_of};
 ghost use Rattle.msr_words.specs.Fit.{Fits, FitsIn, IsRun, Records, records_of};
 ghost use Rattle.msr_words.specs.Segment.{run_points};
@@ -24,15 +24,13 @@ pub(crate) enum Tracker {
 /// The tracker after the samples from one on, if it takes them all.
 fn all_taken<C: Codec + Drop>(mut tracker: C, samples: &[i32], from: usize) -> Option<C>
     requires { from ≤ length samples.now }
-    ensures all { (records : Records) (start : ℕ) → start ≤ from
+    ensures { (records : Records) (start : ℕ) → start ≤ from
         → C.follows records (run_points samples.now start from) tracker
         → Fits C.kind records.bytes (run_points samples.now start from)
-        → IfSome result (λ t. C.follows records (run_points samples.now start (length samples.now)) t
+        → MatchOption result
+        (Fits C.kind records.bytes (run_points samples.now start (length samples.now)) → ⊥)
+        (λ t. C.follows records (run_points samples.now start (length samples.now)) t
         × Fits C.kind records.bytes (run_points samples.now start (length samples.now))) }
-    ensures none { (records : Records) (start : ℕ) → start ≤ from
-        → C.follows records (run_points samples.now start from) tracker
-        → Fits C.kind records.bytes (run_points samples.now start from)
-        → IsNone result → Fits C.kind records.bytes (run_points samples.now start (length samples.now)) → ⊥ }
 {
     for at in from..samples.len() {
         if !tracker.push(samples[at], difference(samples, at)) {
@@ -60,11 +58,10 @@ impl Tracker {
     /// The tracker after the samples from one on, if it takes them all.
     fn after(&self, samples: &[i32], from: usize) -> Option<Tracker>
         requires { from ≤ length samples.now }
-        ensures all { (records : Records) (start : ℕ) → start ≤ from → IsTracked records samples.now start from self.now
-            → IfSome result (IsTracked records samples.now start (length samples.now)) }
-        ensures none { (records : Records) (start : ℕ) → start ≤ from → IsTracked records samples.now start from self.now
-            → IsNone result → Fits (kind_of_tracker self.now) records.bytes
-            (run_points samples.now start (length samples.now)) → ⊥ }
+        ensures { (records : Records) (start : ℕ) → start ≤ from → IsTracked records samples.now start from self.now
+            → MatchOption result
+            (Fits (kind_of_tracker self.now) records.bytes (run_points samples.now start (length samples.now)) → ⊥)
+            (IsTracked records samples.now start (length samples.now)) }
     {
         match self {
             Tracker::Steim2(tracker) => Some(Tracker::Steim2(all_taken(*tracker, samples, from)?)),

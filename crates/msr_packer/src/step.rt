@@ -275,8 +275,7 @@ fn with_wide_integers(
 /// too many of the differences up to there are of more than 10 bits for a record of differences.
 fn integers_alone(samples: &[i32], form: Form, frontier: usize) -> Option<StepWithEnds>
     requires { frontier ≤ length samples.now }
-    ensures step { IfSome result (IsFound (records_of form) samples.now frontier) }
-    ensures groups { IfSome result (λ found. found.ends.groups ≡ 0) }
+    ensures { IfSome result (λ found. IsFound (records_of form) samples.now frontier found × (found.ends.groups ≡ 0)) }
 {
     if !form.kinds.contains(Kind::Int16) {
         return None;
@@ -316,8 +315,7 @@ fn steim1_without_steim2(
     requires within { frontier ≤ length samples.now }
     requires chosen { IsChosen form.kinds FirstSteim }
     requires by_steim1 { IsSteim1Step (records_of form) samples.now frontier by_steim1 }
-    ensures step { IfSome result (IsFound (records_of form) samples.now frontier) }
-    ensures groups { IfSome result (λ found. found.ends.groups ≡ 0) }
+    ensures { IfSome result (λ found. IsFound (records_of form) samples.now frontier found × (found.ends.groups ≡ 0)) }
 {
     let most = 2 * form.length.data_words();
     if by_steim1.end - frontier <= most as usize / 2 + 2 {
@@ -363,8 +361,8 @@ pub(crate) fn next_step(
     words: &mut [u32],
 ) -> StepWithEnds
     requires { frontier ≤ length samples.now }
-    ensures step { IsFound (records_of form) samples.now frontier result }
-    ensures sizes { HaveSizes samples.now frontier result.ends.steim2 result.ends.groups sizes.new words.new }
+    ensures { IsFound (records_of form) samples.now frontier result
+        × HaveSizes samples.now frontier result.ends.steim2 result.ends.groups sizes.new words.new }
 {
     if likely == Kind::Int16 {
         match integers_alone(samples, form, frontier) {
@@ -413,8 +411,8 @@ pub(crate) fn step_from(
 ) -> StepWithEnds
     requires within { frontier ≤ length samples.now }
     requires known { IfSome known (IsSteim1Step (records_of form) samples.now frontier) }
-    ensures step { IsFound (records_of form) samples.now frontier result }
-    ensures sizes { HaveSizes samples.now frontier result.ends.steim2 result.ends.groups sizes.new words.new }
+    ensures { IsFound (records_of form) samples.now frontier result
+        × HaveSizes samples.now frontier result.ends.steim2 result.ends.groups sizes.new words.new }
 {
     let reach = steim2_end(samples, form, frontier, sizes, words);
     let int16 = integers_end(samples, form, frontier, reach.end, Kind::Int16, 16);

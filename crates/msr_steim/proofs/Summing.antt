@@ -1,6 +1,6 @@
 -- The sums that are written for one word.
 use Rattle.std.proofs.Common.{◌≡◌, ◌<◌, ◌≤◌, ℕ, zero, suc, ◌+◌, ◌-◌, ◌*◌, ◌/◌, ◌%◌, ◌^◌, ℤ, pos, negsuc, ◌+ℤ◌, List, [], ◌∷◌, ◌++◌, length, take, get_or, refl, sym, ap, ◌∙◌, subst, arith, w32, SFits, Some, length-append, lit<, inl, inr, min, ⊎_elim}
-use Rattle.std.specs.Prelude.{IfSome, IsSomeAnd, Option, None, slice_index_or}
+use Rattle.std.specs.Prelude.{IfSome, IsSomeAnd, MatchOption, Option, None, slice_index_or}
 use Rattle.std.specs.Int.{int_wrap}
 use Rattle.std.proofs.Math.Seq.{get_or-append_seam, take-append-add}
 use Rattle.std.proofs.Math.Nat.{pow-zero, mod-lt}
@@ -10,7 +10,7 @@ use Rattle.msr_steim.specs.declared.sums.Progress.{Progress}
 use Rattle.msr_kinds.specs.declared.storage.Version.{Version}
 use Rattle.msr_kinds.specs.declared.storage.Version.TheVariants.{Two}
 use Rattle.msr_steim.specs.Area.{sums_after}
-use Rattle.msr_steim.specs.Sums.{IsGroupWritten, IsInnerWritten, IsWritten}
+use Rattle.msr_steim.specs.Sums.{IsGroupWritten, IsInnerWritten, IsWritten, ReachesEnd}
 use Rattle.msr_steim.specs.Word.{AreFields, FitsBits, Holds, layout_of, numbers_in}
 use Rattle.msr_steim.specs.declared.word.WordLayout.{WordLayout}
 use Rattle.msr_steim.proofs.OneList.{bits_of_fields}
@@ -121,26 +121,42 @@ divided_by version code word key e small key_is =
 
 -- and a place is left after it, if it was written whole
 pub inner_group_written : (version : Version) (code word : ℕ) (at : Progress) (old new : List ℤ) (count width : ℕ)
-    (result : Option Progress)
+    (next : Progress)
     → layout_of version code (word / 2 ^ 30) ≡ Some (record { count = count; width = width }) → 0 < count → 0 < width
-    → IfSome result (IsGroupWritten word count width at old new)
-    → IfSome result (IsInnerWritten version code word at old new)
-inner_group_written version code word at old new count width None layout some positive written = tt
-inner_group_written version code word at old new count width (Some next) layout some positive written = record {
+    → IsGroupWritten word count width at old new next → IsInnerWritten version code word at old new next
+inner_group_written version code word at old new count width next layout some positive written = record {
   written = group_written version code word at old new next count width layout positive
       (omega (arith, written.room)) written.samples written.last;
   room = written.room;
   on = inr (omega (arith, written.place));
 }
 
+-- or it has no room
+pub inner_group_done : (version : Version) (code word : ℕ) (at : Progress) (old new : List ℤ) (count width : ℕ)
+    (result : Option Progress)
+    → layout_of version code (word / 2 ^ 30) ≡ Some (record { count = count; width = width }) → 0 < count → 0 < width
+    → MatchOption result ((length old ≤ at.place + count) × (new ≡ old)) (IsGroupWritten word count width at old new)
+    → MatchOption result (ReachesEnd version code word at.place (length old) × (new ≡ old))
+    (IsInnerWritten version code word at old new)
+inner_group_done version code word at old new count width None layout some positive (far, kept) = (
+  record {
+    reaches = λ group holds.
+        omega (arith, far, (subst (λ d. IsSomeAnd d (AreFields word group)) layout holds).count);
+  },
+  kept,
+)
+inner_group_done version code word at old new count width (Some next) layout some positive written =
+    inner_group_written version code word at old new count width next layout some positive written
+
 -- the same of Steim-2
-pub steim2_group_written : (version : Version) (code word key : ℕ) (at : Progress) (old new : List ℤ) (count width : ℕ)
+pub steim2_group_done : (version : Version) (code word key : ℕ) (at : Progress) (old new : List ℤ) (count width : ℕ)
     (result : Option Progress) → version ≡ Two → word < 4294967296 → 4 * code + word / 1073741824 ≡ key
     → layout_of Two (key / 4) (key % 4) ≡ Some (record { count = count; width = width }) → 0 < count → 0 < width
-    → IfSome result (IsGroupWritten word count width at old new)
-    → IfSome result (IsInnerWritten version code word at old new)
-steim2_group_written version code word key at old new count width result e small key_is layout =
-    inner_group_written version code word at old new count width result (divided_by version code word key e small key_is ∙ layout)
+    → MatchOption result ((length old ≤ at.place + count) × (new ≡ old)) (IsGroupWritten word count width at old new)
+    → MatchOption result (ReachesEnd version code word at.place (length old) × (new ≡ old))
+    (IsInnerWritten version code word at old new)
+steim2_group_done version code word key at old new count width result e small key_is layout =
+    inner_group_done version code word at old new count width result (divided_by version code word key e small key_is ∙ layout)
 
 -- a word with no fields holds nothing
 pub holds_none : (version : Version) (code word : ℕ)
@@ -184,5 +200,5 @@ pub laid_out_written : (version : Version) (code word : ℕ) (at : Progress) (ol
 laid_out_written version code word at old new next None layout_is many written = absurd many
 laid_out_written version code word at old new next (Some layout) layout_is many written =
     let some : 0 < layout.count = omega (arith, many) in
-    inner_group_written version code word at old new layout.count layout.width (Some next) layout_is some
+    inner_group_written version code word at old new layout.count layout.width next layout_is some
     (bits_of_fields version code (word / 2 ^ 30) layout layout_is some) written

@@ -133,8 +133,7 @@ pub(crate) enum Reading {
 /// read by jumps. From one word in seven of another code on, the jump is dearer; four of the 28 are enough. Four words of
 /// code 1 follow one another often enough if half of all have it.
 pub(crate) fn reading_for(version: Version, order: Order, area: &[u8]) -> Reading
-    ensures lanes { result ≡ Reading.ByLanes → order ≡ Order.Big }
-    ensures fours { result ≡ Reading.ByFours → order ≡ Order.Big }
+    ensures { result ≢ Reading.ByJumps → order ≡ Order.Big }
 {
     if order == Order::Little || area.len() < 64 {
         return Reading::ByJumps;
@@ -189,9 +188,7 @@ fn decode_words<const MIXED: bool, const FOURS: bool>(
     area: &[u8],
     out: &mut [i32],
 ) -> Result<bool, SteimFault>
-    requires some { 1 ≤ length out.old }
-    requires small { length area.now ≤ 1048576 }
-    requires fours { IsTrue FOURS → order ≡ Order.Big }
+    requires { (1 ≤ length out.old) × (length area.now ≤ 1048576) × (IsTrue FOURS → order ≡ Order.Big) }
     ensures samples { OnOk result (CarriesSteim version order area.now out.new) }
     ensures reverse { IfOk result (λ agrees. IsTrue agrees ↔ ReverseAgrees order area.now out.new) }
     ensures fault { IfErr result (HasFault version order area.now (length out.old)) }

@@ -24,9 +24,7 @@ fn check_words<const MIXED: bool, const FOURS: bool>(
     area: &[u8],
     count: u16,
 ) -> Result<bool, SteimFault>
-    requires some { 1 ≤ count }
-    requires small { length area.now ≤ 1048576 }
-    requires fours { IsTrue FOURS → order ≡ Order.Big }
+    requires { (1 ≤ count) × (length area.now ≤ 1048576) × (IsTrue FOURS → order ≡ Order.Big) }
     ensures samples { IfOk result (HasSamples version order area.now count) }
     ensures fault { IfErr result (HasFault version order area.now count) }
 {

@@ -1,6 +1,6 @@
 //! Writes the samples of words into a slice that the caller has.
 
-ghost use Rattle.std.specs.Prelude.{◌≡◌, ◌<◌, ◌≤◌, ◌+◌, ◌-◌, ◌*◌, ◌/◌, ◌%◌, ◌^◌, pos, IfSome, IsNone, length, slice_index_or, take};
+ghost use Rattle.std.specs.Prelude.{◌≡◌, ◌<◌, ◌≤◌, ◌+◌, ◌-◌, ◌*◌, ◌/◌, ◌%◌, ◌^◌, pos, IfSome, IsNone, MatchOption, length, slice_index_or, take};
 ghost use Rattle.msr_steim.specs.Area.{sums_after};
 ghost use Rattle.msr_steim.specs.Sums.{IsGroupWritten, IsInnerWritten, IsWritten, ReachesEnd};
 ghost use Rattle.msr_steim.specs.Word.{IsUndefinedWord, numbers_in, signed_of};
@@ -40,13 +40,11 @@ fn write_sums(word: u32, count: u32, width: u32, before: i32, out: &mut [i32]) -
 /// Writes the samples of a word that is laid out so, if a place is left after them. Else nothing is written.
 #[inline(always)]
 fn write_group(word: u32, count: u32, width: u32, at: Progress, out: &mut [i32]) -> Option<Progress>
-    requires some { 0 < count }
-    requires positive { 0 < width }
-    requires within { count * width ≤ 32 }
+    requires layout { (0 < count) × (0 < width) × (count * width ≤ 32) }
     requires room { at.place < length out.old }
-    ensures some { IfSome result (IsGroupWritten word count width at out.old out.new) }
-    ensures none { IsNone result → length out.old ≤ at.place + count }
-    ensures kept { IsNone result → out.new ≡ out.old }
+    ensures { MatchOption result
+        ((length out.old ≤ at.place + count) × (out.new ≡ out.old))
+        (IsGroupWritten word count width at out.old out.new) }
 {
     let end = at.place + count as usize;
     if end >= out.len() {
@@ -68,9 +66,9 @@ pub(crate) fn write_inner_word(
 ) -> Option<Progress>
     requires code { code < 4 }
     requires room { at.place < length out.old }
-    ensures some { IfSome result (IsInnerWritten version code word at out.old out.new) }
-    ensures none { IsNone result → ReachesEnd version code word at.place (length out.old) }
-    ensures kept { IsNone result → out.new ≡ out.old }
+    ensures { MatchOption result
+        (ReachesEnd version code word at.place (length out.old) × (out.new ≡ out.old))
+        (IsInnerWritten version code word at out.old out.new) }
 {
     match version {
         Version::One => match code {
@@ -144,8 +142,7 @@ fn write_without_jump(
 ) -> Option<Progress>
     requires code { code < 4 }
     requires room { at.place < length out.old }
-    ensures some { IfSome result (IsInnerWritten version code word at out.old out.new) }
-    ensures kept { IsNone result → out.new ≡ out.old }
+    ensures { MatchOption result (out.new ≡ out.old) (IsInnerWritten version code word at out.old out.new) }
 {
     match version {
         Version::One => {
@@ -176,9 +173,9 @@ pub(crate) fn write_next_word<const MIXED: bool>(
 ) -> Option<Progress>
     requires code { code < 4 }
     requires room { at.place < length out.old }
-    ensures some { IfSome result (IsInnerWritten version code word at out.old out.new) }
-    ensures none { IsNone result → ReachesEnd version code word at.place (length out.old) }
-    ensures kept { IsNone result → out.new ≡ out.old }
+    ensures { MatchOption result
+        (ReachesEnd version code word at.place (length out.old) × (out.new ≡ out.old))
+        (IsInnerWritten version code word at out.old out.new) }
 {
     if MIXED {
         if let Some(next) = write_without_jump(version, code, word, at, out) {

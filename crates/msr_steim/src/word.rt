@@ -97,13 +97,10 @@ pub fn read_word(version: Version, code: u8, word: u32) -> Result<Group, BadCode
 
 /// How a group of `count` differences is written.
 pub(crate) fn layout_of_group(version: Version, count: usize) -> Option<GroupLayout>
-    ensures some { IsSome result ↔ IsSome (group_width version count) }
-    ensures width { IfSome result (λ layout. group_width version count ≡ Some layout.width) }
-    ensures layout { IfSome result (IsLayoutFor version count) }
-    ensures code { MatchOption result
-        (group_code version count ≡ 0)
-        (λ layout. group_code version count ≡ layout.code) }
-    ensures top { IfSome result (λ layout. group_top version count ≡ layout.top) }
+    ensures { MatchOption result
+        ((group_width version count ≡ None) × (group_code version count ≡ 0))
+        (λ layout. IsLayoutFor version count layout × (group_width version count ≡ Some layout.width)
+        × (group_code version count ≡ layout.code) × (group_top version count ≡ layout.top)) }
 {
     let (code, top, width, padding) = match (version, count) {
         (Version::One, 1) => (3, 0, 32, 0),

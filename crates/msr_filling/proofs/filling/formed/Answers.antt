@@ -9,9 +9,9 @@ pub returns-clause-word : goal.returns-clause-word
 returns-clause-word c ds seen longest =
     let ys = take c.args.size ds in
     let long = length-take-le c.args.size ds longest.within in
-    let is = longest.group (omega (arith, c.requires.full)) in
+    let is = longest.group (omega (arith, c.requires.size.0)) in
     let same = c.fields_seen-fields.ensures.same ds seen
-    (group_bits Two ys c.args.size c.form_of-form.result.width long c.form_of-form.ensures.width is) in
+    (group_bits Two ys c.args.size c.form_of-form.result.width long c.form_of-form.ensures.form.0 is) in
     added_word_is ys c.args.size c.form_of-form.result.width c.form_of-form.result.top c.fields_seen-fields.result long
-    c.form_of-form.ensures.positive c.form_of-form.ensures.width is c.form_of-form.ensures.top same
-    c.form_of-form.ensures.room
+    c.form_of-form.ensures.room.0 c.form_of-form.ensures.form.0 is c.form_of-form.ensures.form.2 same
+    c.form_of-form.ensures.room.3

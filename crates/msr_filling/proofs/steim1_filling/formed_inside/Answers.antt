@@ -11,8 +11,8 @@ use Rattle.msr_filling.proofs.steim1_filling.formed_inside.Goals as goal
 pub overflow_shl-result : goal.overflow_shl-result
 overflow_shl-result c =
     let some : 1 * c.form_of-form.result.width ≤ c.args.size * c.form_of-form.result.width =
-    mul-le-mul_right c.form_of-form.result.width c.requires.full in
-    omega (arith, c.form_of-form.ensures.within, c.form_of-form.ensures.positive)
+    mul-le-mul_right c.form_of-form.result.width c.requires.size.0 in
+    omega (arith, c.form_of-form.ensures.room.1, c.form_of-form.ensures.room.0)
 
 pub returns-clause-word : goal.returns-clause-word
 returns-clause-word c before is =
@@ -24,6 +24,6 @@ returns-clause-word c before is =
     let ys = take c.args.size ds in
     let long = length-take-le c.args.size ds within in
     let same = c.fields_at-fields.ensures.same before
-    (group_bits One ys c.args.size c.form_of-form.result.width long c.form_of-form.ensures.width is) in
+    (group_bits One ys c.args.size c.form_of-form.result.width long c.form_of-form.ensures.form.0 is) in
     shifted_word_is ys c.args.size c.form_of-form.result.width c.form_of-form.result.left c.fields_at-fields.result long
-    c.form_of-form.ensures.width c.form_of-form.ensures.left same c.form_of-form.ensures.positive is c.form_of-form.ensures.within
+    c.form_of-form.ensures.form.0 c.form_of-form.ensures.form.2 same c.form_of-form.ensures.room.0 is c.form_of-form.ensures.room.1

@@ -47,17 +47,11 @@ bounds-sizes-at-2 c =
     let less : c.args.at < length c.args.sizes.now = omega (arith, c.requires.within) in
     search (rules, less)
 
-pub word_seen-requires-clause-full : goal.word_seen-requires-clause-full
-word_seen-requires-clause-full c = (here c).some
+pub word_seen-requires-clause-size : goal.word_seen-requires-clause-size
+word_seen-requires-clause-size c = ((here c).some, (here c).most)
 
-pub word_seen-requires-clause-most : goal.word_seen-requires-clause-most
-word_seen-requires-clause-most c = (here c).most
-
-pub word_outside-requires-clause-full : goal.word_outside-requires-clause-full
-word_outside-requires-clause-full c = (there c).some
-
-pub word_outside-requires-clause-most : goal.word_outside-requires-clause-most
-word_outside-requires-clause-most c = (there c).most
+pub word_outside-requires-clause-size : goal.word_outside-requires-clause-size
+word_outside-requires-clause-size c = ((there c).some, (there c).most)
 
 pub word_outside-requires-clause-room : goal.word_outside-requires-clause-room
 word_outside-requires-clause-room c = (there c).room

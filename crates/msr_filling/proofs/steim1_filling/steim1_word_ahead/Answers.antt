@@ -25,11 +25,8 @@ returns-in_err-size-clause-none c untold =
     ((c.in_err-size.ensures.none (drop c.args.at (differences c.args.before c.args.run.now))
     (c.in-Some.ensures.shown c.args.before)).0 refl).four
 
-pub word_seen-requires-clause-full : goal.word_seen-requires-clause-full
-word_seen-requires-clause-full c = (here c).some
-
-pub word_seen-requires-clause-most : goal.word_seen-requires-clause-most
-word_seen-requires-clause-most c = (here c).most
+pub word_seen-requires-clause-size : goal.word_seen-requires-clause-size
+word_seen-requires-clause-size c = ((here c).some, (here c).most)
 
 pub returns-in-Some-clause-next : goal.returns-in-Some-clause-next
 returns-in-Some-clause-next c =

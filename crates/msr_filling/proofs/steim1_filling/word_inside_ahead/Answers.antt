@@ -3,14 +3,11 @@ use Rattle.std.proofs.Common.{arith, ◌<◌, length}
 use Rattle.msr_filling.proofs.Steim1Next.{size_there, word_there}
 use Rattle.msr_filling.proofs.steim1_filling.word_inside_ahead.Goals as goal
 
-pub word_inside-requires-clause-full : goal.word_inside-requires-clause-full
-word_inside-requires-clause-full c = c.in_ok-size.ensures.few.0
-
-pub word_inside-requires-clause-most : goal.word_inside-requires-clause-most
-word_inside-requires-clause-most c = c.in_ok-size.ensures.few.1
+pub word_inside-requires-clause-size : goal.word_inside-requires-clause-size
+word_inside-requires-clause-size c = c.in_ok-size.ensures.few
 
 pub word_inside-requires-clause-room : goal.word_inside-requires-clause-room
-word_inside-requires-clause-room c = omega (arith, c.requires.room, c.in_ok-size.ensures.few.1)
+word_inside-requires-clause-room c = (c.requires.later, omega (arith, c.requires.room))
 
 pub returns-clause-next : goal.returns-clause-next
 returns-clause-next c before fits =

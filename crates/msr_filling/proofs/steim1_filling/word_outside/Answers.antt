@@ -15,13 +15,13 @@ fields_from-fields-requires-clause-fit c =
     let m = length-differences c.args.before c.args.run.now in
     let room = c.requires.room in
     group_bits One (take c.args.size xs) c.args.size c.form_of-form.result.width
-    (length-take-le c.args.size xs (omega arith)) c.form_of-form.ensures.width c.requires.group
+    (length-take-le c.args.size xs (omega arith)) c.form_of-form.ensures.form.0 c.requires.group
 
 pub overflow_shl-result : goal.overflow_shl-result
 overflow_shl-result c =
     let some : 1 * c.form_of-form.result.width ≤ c.args.size * c.form_of-form.result.width =
-    mul-le-mul_right c.form_of-form.result.width c.requires.full in
-    omega (arith, c.form_of-form.ensures.within, c.form_of-form.ensures.positive)
+    mul-le-mul_right c.form_of-form.result.width c.requires.size.0 in
+    omega (arith, c.form_of-form.ensures.room.1, c.form_of-form.ensures.room.0)
 
 pub returns-clause-word : goal.returns-clause-word
 returns-clause-word c =
@@ -31,5 +31,5 @@ returns-clause-word c =
     let room = c.requires.room in
     shifted_word_is (take c.args.size xs) c.args.size c.form_of-form.result.width c.form_of-form.result.left
     c.fields_from-fields.result (length-take-le c.args.size xs
-    (omega arith)) c.form_of-form.ensures.width c.form_of-form.ensures.left
-    c.fields_from-fields.ensures.same c.form_of-form.ensures.positive c.requires.group c.form_of-form.ensures.within
+    (omega arith)) c.form_of-form.ensures.form.0 c.form_of-form.ensures.form.2
+    c.fields_from-fields.ensures.same c.form_of-form.ensures.room.0 c.requires.group c.form_of-form.ensures.room.1

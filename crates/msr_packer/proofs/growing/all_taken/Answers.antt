@@ -5,8 +5,8 @@ use Rattle.msr_words.specs.Segment.{run_points}
 use Rattle.msr_words.proofs.Runs.{run_points_more, prefix_run}
 use Rattle.msr_packer.proofs.growing.all_taken.Goals as goal
 
-pub returns-then-not-push-clause-none : goal.returns-then-not-push-clause-none
-returns-then-not-push-clause-none g c = λ records start le follows fits none all.
+pub returns-then-not-push : goal.returns-then-not-push
+returns-then-not-push g c = λ records start le follows fits all.
     let in' : c.loop-at.at < length c.args.samples.now = omega arith in
     let far : start ≤ c.loop-at.at = omega arith in
     let more = run_points_more c.args.samples.now start c.loop-at.at far in' in

@@ -88,10 +88,10 @@ with_wide_integers-requires-2-clause-ends c =
     c.steim2_end-reach.result.end (inl refl)
     (λ e near run. c.integers_end-int16.ensures.past c.args.frontier e (omega arith) run) _ refl refl refl
 
-pub returns-then-steim1_is_short-clause-sizes : goal.returns-then-steim1_is_short-clause-sizes
-returns-then-steim1_is_short-clause-sizes c =
-    rw (c.with_wide_integers.ensures.steim2, c.with_wide_integers.ensures.groups) c.steim2_end-reach.ensures.sizes
+pub returns-then-steim1_is_short : goal.returns-then-steim1_is_short
+returns-then-steim1_is_short c =
+    let of = c.with_wide_integers.ensures in (of.step, rw (of.steim2, of.groups) c.steim2_end-reach.ensures.sizes)
 
-pub returns-clause-sizes : goal.returns-clause-sizes
-returns-clause-sizes c =
-    rw (c.with_wide_integers-2.ensures.steim2, c.with_wide_integers-2.ensures.groups) c.steim2_end-reach.ensures.sizes
+pub returns : goal.returns
+returns c =
+    let of = c.with_wide_integers-2.ensures in (of.step, rw (of.steim2, of.groups) c.steim2_end-reach.ensures.sizes)

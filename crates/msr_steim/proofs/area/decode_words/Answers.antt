@@ -41,7 +41,7 @@ write_sixteen-at-requires-clause-within g c =
     let area = c.args.area.now in
     (ones_within order area c.loop-frame.frame c.loop-slot.slot c.loop-slot.codes
     (record {
-      big = c.requires.fours (ap not (ne_eqb g.row.FOURS 0 c.if-this-ne0.true));
+      big = c.requires.2 (ap not (ne_eqb g.row.FOURS 0 c.if-this-ne0.true));
       fits = c.type_inv.area;
       within = c.loop-frame-test.true;
       some = held.some;
@@ -63,7 +63,7 @@ loop-slot-preserved-then-at-out g c =
     let old = c.loop-slot.out in
     let new = c.write_sixteen-at.new.out in
     let are : AreOnes order area frame slot codes = record {
-      big = c.requires.fours (ap not (ne_eqb g.row.FOURS 0 c.if-this-ne0.true));
+      big = c.requires.2 (ap not (ne_eqb g.row.FOURS 0 c.if-this-ne0.true));
       fits = c.type_inv.area;
       within = c.loop-frame-test.true;
       some = held.some;
@@ -132,10 +132,10 @@ returns-in-Some-write_last_word-clause-samples g c =
     let old = c.loop-slot.out in
     let new = c.write_last_word.new.out in
     let next = c.in-Some-write_last_word.field-0 in
-    let same : c.write_next_word.new.out ≡ old = c.in_default.ensures.kept refl in
+    let same : c.write_next_word.new.out ≡ old = c.in_default.ensures.1 in
     let written : IsWritten c.args.version code word at old new next =
     subst (λ out. IsWritten c.args.version code word at out new next) same c.in-Some-write_last_word.ensures.some in
-    let ends : ReachesEnd c.args.version code word at.place (length old) = c.in_default.ensures.none refl in
+    let ends : ReachesEnd c.args.version code word at.place (length old) = c.in_default.ensures.0 in
     let size : length new ≡ length old = c.write_last_word.auto.out ∙ ap length same in
     step_enough c.args.version order area number code word at at next old new held.reached begin written code_is
     word_is within size (end_reached c.args.version code word at next old new ends written held.reached.room size)
@@ -161,7 +161,7 @@ loop-slot-preserved g c =
     code_is word_is in
     let next = c.in-Some.next in
     let new = c.write_next_word.new.out in
-    let inner = c.in-Some.ensures.some in
+    let inner = c.in-Some.ensures in
     let unlike : next.place ≢ length new = λ e. omega (arith, e, inner.room, c.write_next_word.auto.out) in
     let next_number : number + 1 ≡ 16 * frame + (slot + 1) = omega arith in
     record {

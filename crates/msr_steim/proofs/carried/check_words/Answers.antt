@@ -15,7 +15,7 @@ pub loop-frame-init : goal.loop-frame-init
 loop-frame-init g c =
     let last = c.before_first-last.result in
     let fits : SFits w32 last = search rules in
-    let begins = none_passed c.args.version c.args.order c.args.area.now c.args.count last c.requires.some
+    let begins = none_passed c.args.version c.args.order c.args.area.now c.args.count last c.requires.0
     c.before_first-last.ensures in
     subst (λ left. ArePassed c.args.version c.args.order c.args.area.now 0 c.args.count left
     (to_z w32 (of_z w32 last))) (sym c.from-left.ensures)
@@ -55,7 +55,7 @@ write_sixteen-last-requires-clause-within g c =
     let slot = c.loop-slot.slot in
     let codes = c.loop-slot.codes in
     let are : AreOnes order area frame slot codes = record {
-      big = c.requires.fours (ap not (ne_eqb g.row.FOURS 0 c.if-this-ne0.true));
+      big = c.requires.2 (ap not (ne_eqb g.row.FOURS 0 c.if-this-ne0.true));
       fits = c.type_inv.area;
       within = c.loop-frame-test.true;
       some = held.some;
@@ -82,7 +82,7 @@ loop-slot-preserved-then-left-gt16 g c =
     let left = c.loop-slot.left - 16 in
     let fits : SFits w32 next.last = search rules in
     let are : AreOnes order area frame slot codes = record {
-      big = c.requires.fours (ap not (ne_eqb g.row.FOURS 0 c.if-this-ne0.true));
+      big = c.requires.2 (ap not (ne_eqb g.row.FOURS 0 c.if-this-ne0.true));
       fits = c.type_inv.area;
       within = c.loop-frame-test.true;
       some = held.some;
@@ -120,7 +120,7 @@ returns-in_default-clause-fault g c =
     let undefined : IsUndefined c.args.version order area number =
     undefined_so c.args.version order area number code word code_is c.arranged_word_at-word.ensures
     (undefined_alone c.args.version code word (length c.loop-slot.samples) (omega (arith, c.arranged_word_at-word.array_long))
-    (c.in_default.ensures.none refl)) in
+    (c.in_default.ensures.0)) in
     undefined_before c.args.version order area c.args.count number
     (constant order area 1) held.passed.samples held.passed.read within undefined
 
@@ -139,7 +139,7 @@ returns-then-next-left-clause-samples g c =
     let old = c.loop-slot.samples in
     let new = c.write_next_word.new.out in
     let fits : SFits w32 c.constant_at.result = search rules in
-    let looked = looked_at version order area frame slot codes word at next old new c.in-Some.ensures.some refl
+    let looked = looked_at version order area frame slot codes word at next old new c.in-Some.ensures refl
     c.write_next_word.auto.out held.some c.loop-slot-test.true held.late c.loop-frame-test.true held.codes
     c.arranged_word_at-word.ensures in
     passed_enough version order area (16 * frame + slot) c.args.count c.loop-slot.left
@@ -165,7 +165,7 @@ loop-slot-preserved g c =
     let new = c.write_next_word.new.out in
     let left = c.loop-slot.left - next.place in
     let fits : SFits w32 next.last = search rules in
-    let looked = looked_at version order area frame slot codes word at next old new c.in-Some.ensures.some refl
+    let looked = looked_at version order area frame slot codes word at next old new c.in-Some.ensures refl
     c.write_next_word.auto.out held.some c.loop-slot-test.true held.late c.loop-frame-test.true held.codes
     c.arranged_word_at-word.ensures in
     let on : ArePassed version order area (16 * frame + slot + 1) c.args.count left next.last =

@@ -20,8 +20,8 @@ Last c = to_z w32 (of_z w32 c.write_sums-last.result) ≡ get_or (put_mid c.args
 last_is : (c : goal.After-out-1) → Last c
 last_is c = grind (arith, common_steps)
 
-pub returns-clause-some : goal.returns-clause-some
-returns-clause-some c =
+pub returns : goal.returns
+returns c =
     let out = c.args.out.now in
     let place = c.args.at.place in
     let ds = numbers_in c.args.word c.args.width c.args.count in

@@ -5,11 +5,11 @@ use Rattle.msr_packer.proofs.growing.GrowingRun.decide.Goals as goal
 
 pub returns-then-found-samples-clause-decided : goal.returns-then-found-samples-clause-decided
 returns-then-found-samples-clause-decided c = record {
-  step = c.next_step-found.ensures.step;
+  step = c.next_step-found.ensures.0;
   before_last = omega arith;
   past = growing_reaches (records_of c.args.form) c.args.samples.now c.args.frontier c.args.from
       c.next_step-found.result.step.end c.next_step-found.result.step.start c.args.self.now c.requires.within
-      c.requires.growing c.next_step-found.ensures.step.step;
+      c.requires.growing c.next_step-found.ensures.0.step;
 }
 
 pub returns-in-Some-clause-open : goal.returns-in-Some-clause-open
@@ -20,13 +20,13 @@ returns-in-Some-clause-open c = λ e.
       before = before;
       near = c.requires.growing.near;
       past = omega arith;
-      tracked = c.in-Some.ensures.all (records_of c.args.form) c.args.self.now.start (omega arith)
+      tracked = c.in-Some.ensures (records_of c.args.form) c.args.self.now.start (omega arith)
           c.requires.growing.tracked;
     }
 
 pub returns-clause-open : goal.returns-clause-open
 returns-clause-open c = λ e.
-    let step = c.next_step-found.ensures.step.step in
+    let step = c.next_step-found.ensures.0.step in
     let within = step.reached.1 in
     let past = c.requires.growing.past in
     let same : c.next_step-found.result.step.end ≡ length c.args.samples.now = omega arith in
@@ -40,7 +40,7 @@ next_step-found-requires c = let past = c.requires.growing.past in omega arith
 -- the run to the end of the step is one to the last sample
 pub of-requires : goal.of-requires
 of-requires c =
-    let run = c.next_step-found.ensures.step.kind in
+    let run = c.next_step-found.ensures.0.kind in
     let within = run.1 in
     let same : c.next_step-found.result.step.end ≡ length c.args.samples.now = omega arith in
     subst (IsRun (FitsIn c.next_step-found.result.step.kind (records_of c.args.form)) c.args.samples.now

@@ -13,7 +13,7 @@ returns-in-Some c =
       before = omega arith;
       near = omega arith;
       past = omega arith;
-      tracked = c.in-Some.ensures.all (records_of c.args.form) c.args.frontier (omega arith)
+      tracked = c.in-Some.ensures (records_of c.args.form) c.args.frontier (omega arith)
           (begun (records_of c.args.form) c.args.form.length.least c.args.samples.now c.args.frontier
           c.new-begun.result chosen c.new-begun.ensures.follows);
     }

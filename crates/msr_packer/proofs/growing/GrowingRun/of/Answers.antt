@@ -1,4 +1,4 @@
-use Rattle.std.proofs.Common.{arith, refl}
+use Rattle.std.proofs.Common.{arith}
 use Rattle.msr_kinds.specs.Kinds.{IsChosen}
 use Rattle.msr_packer.specs.Growing.{kind_of_tracker}
 use Rattle.msr_packer.proofs.Streaming.{begun}
@@ -10,7 +10,7 @@ returns-in-Some-clause-tracked c =
     let order = c.requires.0 in
     let chosen : IsChosen c.args.form.kinds (kind_of_tracker c.new-begun.result) =
     rw c.new-begun.ensures.kind c.requires.2.0 in
-    c.in-Some.ensures.all (records_of c.args.form) c.args.start (omega arith)
+    c.in-Some.ensures (records_of c.args.form) c.args.start (omega arith)
     (begun (records_of c.args.form) c.args.form.length.least c.args.samples.now c.args.start c.new-begun.result chosen
     c.new-begun.ensures.follows)
 
@@ -19,7 +19,7 @@ returns-in-None-clause-tracked c =
     let order = c.requires.0 in
     let chosen : IsChosen c.args.form.kinds (kind_of_tracker c.new-begun.result) =
     rw c.new-begun.ensures.kind c.requires.2.0 in
-    absurd (c.in-None.ensures.none (records_of c.args.form) c.args.start (omega arith)
+    absurd (c.in-None.ensures (records_of c.args.form) c.args.start (omega arith)
     (begun (records_of c.args.form) c.args.form.length.least c.args.samples.now c.args.start c.new-begun.result chosen
-    c.new-begun.ensures.follows) refl
+    c.new-begun.ensures.follows)
     (rw c.new-begun.ensures.kind c.requires.2.1))
