@@ -1,30 +1,27 @@
 -- By the arms: the code and the top two bits say how the word is laid out.
-use Rattle.std.proofs.Common.{◌≡◌, ◌+◌, ◌*◌, ◌/◌, refl, arith, lit<, rules}
+use Rattle.std.proofs.Common.{◌/◌, refl, arith, lit<, rules}
 use Rattle.msr_kinds.specs.declared.storage.Version.TheVariants.{One}
 use Rattle.msr_steim.proofs.Summing.{divided, divided_by, inner_group_done, inner_none_written, steim2_group_done}
 use Rattle.msr_steim.proofs.sums.write_inner_word.Goals as goal
 
 pub returns-in-1 : goal.returns-in-1
 returns-in-1 c =
-    let code_is : c.args.code ≡ 1 = omega arith in
     inner_group_done c.args.version c.args.code c.args.word c.args.at c.args.out.now c.write_group.new.out 4 8
     c.write_group.result (divided c.args.version One c.args.code (c.args.word / 1073741824) 1
-    (c.args.word / 1073741824) c.in-One.is code_is refl) (lit< tt) (lit< tt) c.write_group.ensures
+    (c.args.word / 1073741824) c.in-One.is (omega arith) refl) (lit< tt) (lit< tt) c.write_group.ensures
 
 pub returns-in-2 : goal.returns-in-2
 returns-in-2 c =
-    let code_is : c.args.code ≡ 2 = omega arith in
     inner_group_done c.args.version c.args.code c.args.word c.args.at c.args.out.now c.write_group-in-2.new.out
     2 16 c.write_group-in-2.result (divided c.args.version One c.args.code (c.args.word / 1073741824) 2
-    (c.args.word / 1073741824) c.in-One.is code_is refl) (lit< tt) (lit< tt) c.write_group-in-2.ensures
+    (c.args.word / 1073741824) c.in-One.is (omega arith) refl) (lit< tt) (lit< tt) c.write_group-in-2.ensures
 
 pub returns-in_default : goal.returns-in_default
 returns-in_default c =
-    let code_is : c.args.code ≡ 3 = omega arith in
     inner_group_done c.args.version c.args.code c.args.word c.args.at c.args.out.now
     c.write_group-in_default.new.out 1 32 c.write_group-in_default.result
     (divided c.args.version One c.args.code (c.args.word / 1073741824) 3
-    (c.args.word / 1073741824) c.in-One.is code_is refl) (lit< tt) (lit< tt) c.write_group-in_default.ensures
+    (c.args.word / 1073741824) c.in-One.is (omega arith) refl) (lit< tt) (lit< tt) c.write_group-in_default.ensures
 
 pub returns-in-0-2 : goal.returns-in-0-2
 returns-in-0-2 c =
