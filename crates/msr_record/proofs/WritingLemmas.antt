@@ -1,9 +1,9 @@
 -- What is written is read back as its row.
-use Rattle.std.proofs.Common.{◌≡◌, ◌≢◌, ℕ, ◌+◌, ◌-◌, ◌/◌, ◌%◌, ◌^◌, ◌<◌, ◌≤◌, true, false, ℤ, pos, ◌+ℤ◌, List, [], ◌++◌, length, take, drop, refl, sym, ap, ◌∙◌, arith, append_assoc, Option, Some, None, Ok, IsTrue, length-append}
+use Rattle.std.proofs.Common.{◌≡◌, ◌≢◌, ℕ, ◌+◌, ◌-◌, ◌/◌, ◌%◌, ◌^◌, ◌<◌, ◌≤◌, true, false, ℤ, pos, ◌+ℤ◌, List, [], ◌++◌, length, take, drop, refl, sym, ap, ◌∙◌, arith, append_assoc, Option, Some, None, Ok, IsTrue, length-append, replicate}
 use Rattle.std.specs.Prelude.{slice_range}
 use Rattle.std.specs.List.{list_all}
 use Rattle.std.proofs.lemmas.Bool.{le-leb}
-use Rattle.std.proofs.lemmas.List.{append-nil, drop_all, drop_at, length-drop, length-take-le, take_all, take_at}
+use Rattle.std.proofs.lemmas.List.{append-nil, drop_all, drop_at, length-drop, length-replicate, length-take-le, take_all, take_at}
 use borrow.Rule.Slice.PartMut.{put_mid}
 use Rattle.std.proofs.Math.Pow.{pow_mono}
 use Rattle.std.proofs.Math.Seq.{drop-append_seam, take-append_seam}
@@ -204,6 +204,18 @@ new_part old zeros items now part end len filled same size new_size long =
     drop_all (length (put_mid end (length now - end) now part)) items (omega arith) in
     ap (λ (x : List ℕ). take len (put_mid end (length now - end) now part ++ x)) nothing
     ∙ ap (take len) (append-nil (put_mid end (length now - end) now part)) ∙ kept
+
+-- what stands in it if the new part took the place of zeros
+pub filled_part : (old items now part : List ℕ) (end n old_len len : ℕ) → end ≡ old_len → old_len ≡ length old
+    → items ≡ take (end + n) old ++ replicate (end + n - old_len) 0 → now ≡ items → length part ≡ n → len ≡ length items
+    → take len (put_mid end (length now - end) now part
+    ++ drop (length (put_mid end (length now - end) now part)) items) ≡ old ++ part
+filled_part old items now part end n old_len len at all resized same size long =
+    let zeros : List ℕ = replicate (end + n - old_len) 0 in
+    let many : length zeros ≡ end + n - old_len = length-replicate (end + n - old_len) 0 in
+    let kept : take (end + n) old ≡ old = take_all (end + n) old (omega arith) in
+    new_part old zeros items now part end len (resized ∙ ap (λ (x : List ℕ). x ++ zeros) kept) same
+    (omega arith) (omega (arith, many)) long
 
 -- a record that stands after others
 pub appended_behind : (old new part : List ℕ) (key : Key) (start : ℤ) (sequence : ℕ) (before : Option ℤ)
