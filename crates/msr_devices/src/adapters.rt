@@ -10,7 +10,7 @@ use std::io::{ErrorKind, Read, Write};
 use std::marker::Model;
 
 /// Counts an interruption, or else a failure, which ends a row of interruptions.
-fn count_error(error: &io::Error, failures: &mut u64, interruptions: &mut u64)
+pub(crate) fn count_error(error: &io::Error, failures: &mut u64, interruptions: &mut u64)
     requires { (failures.old < 2 ^ 64 - 1) × (interruptions.old < 2 ^ 64 - 1) }
     ensures interrupted { error_kind error.now ≡ ErrorKind.Interrupted
         → (failures.new ≡ failures.old) × (interruptions.new ≡ interruptions.old + 1) }

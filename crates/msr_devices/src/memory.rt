@@ -2,6 +2,7 @@
 ghost use Rattle.std.specs.Prelude.{◌≡◌, ◌-◌, ◌<◌, ◌≤◌, length, drop, Some};
 ghost use Rattle.msr_devices.specs.Device.{unused};
 
+use crate::adapters::count_error;
 use crate::device::{Sink, Source};
 use std::io;
 use std::io::ErrorKind;
@@ -16,14 +17,6 @@ pub struct Behavior {
     pub interruptions: u32,
     /// The one call that fails, counted from 0 among those that are not interrupted.
     pub fails_at: Option<u64>,
-}
-
-/// What a test device does at a call.
-#[derive(Clone, Copy)]
-enum Turn {
-    Interrupted,
-    Fails,
-    Succeeds,
 }
 
 /// A behavior, and how far it has gone.
@@ -41,20 +34,21 @@ impl Script {
         }
     }
 
-    fn next_turn(&mut self) -> Turn {
+    /// The error of the next call, if it does not succeed.
+    fn next_error(&mut self) -> Option<ErrorKind> {
         if self.behavior.fails_at == Some(0) {
             self.behavior.fails_at = None;
-            return Turn::Fails;
+            return Some(ErrorKind::Other);
         }
         if self.waited < self.behavior.interruptions {
             self.waited += 1;
-            return Turn::Interrupted;
+            return Some(ErrorKind::Interrupted);
         }
         self.waited = 0;
         if let Some(n) = self.behavior.fails_at {
             self.behavior.fails_at = n.checked_sub(1);
         }
-        Turn::Succeeds
+        None
     }
 
     /// How many of `len` bytes one call moves.
@@ -111,17 +105,10 @@ impl Source for TestSource<'_> {
     ghost device = { λ source. source };
 
     fn read(&mut self, buf: &mut [u8]) -> io::Result<usize> {
-        match self.script.next_turn() {
-            Turn::Interrupted => {
-                self.interruptions += 1;
-                return Err(ErrorKind::Interrupted.into());
-            }
-            Turn::Fails => {
-                self.failures += 1;
-                self.interruptions = 0;
-                return Err(ErrorKind::Other.into());
-            }
-            Turn::Succeeds => {}
+        if let Some(kind) = self.script.next_error() {
+            let error = kind.into();
+            count_error(&error, &mut self.failures, &mut self.interruptions);
+            return Err(error);
         }
         let n = self
             .script
@@ -197,23 +184,15 @@ impl Sink for TestSink {
     ghost device = { λ sink. sink };
 
     fn write(&mut self, buf: &[u8]) -> io::Result<usize> {
-        match self.script.next_turn() {
-            Turn::Interrupted => {
-                self.interruptions += 1;
-                return Err(ErrorKind::Interrupted.into());
-            }
-            Turn::Fails => {
+        if let Some(kind) = self.script.next_error() {
+            if self.accepts_nothing && kind != ErrorKind::Interrupted {
                 self.interruptions = 0;
-                if self.accepts_nothing {
-                    if !buf.is_empty() {
-                        self.failures += 1;
-                    }
-                    return Ok(0);
-                }
-                self.failures += 1;
-                return Err(ErrorKind::Other.into());
+                self.failures += u64::from(!buf.is_empty());
+                return Ok(0);
             }
-            Turn::Succeeds => {}
+            let error = kind.into();
+            count_error(&error, &mut self.failures, &mut self.interruptions);
+            return Err(error);
         }
         self.interruptions = 0;
         let n = self.script.share_of(buf.len());
