@@ -1,27 +1,23 @@
 -- A row that is not in time, and that the first bytes decide.
 use Rattle.std.proofs.Common.{rules}
 use Rattle.std.proofs.lemmas.Result.{err_from_is_err_and}
-use Rattle.msr_rows.specs.Records.{first_bytes}
 use Rattle.msr_rows.proofs.FirstBytes.{first_same, record_same, refusal_same}
 use Rattle.msr_rows.proofs.RowLemmas.{out_of_range}
 use Rattle.msr_rows.proofs.reading.decode_record_in.Goals as goal
 
 pub returns-in_err-opened-clause-refused_in_first : goal.returns-in_err-opened-clause-refused_in_first
 returns-in_err-opened-clause-refused_in_first c =
-    let bytes = c.args.rest.now in
-    refusal_same c.from_residual.result bytes (first_bytes bytes)
-    (first_same bytes c.open_record.ensures.first_bytes) (search rules)
+    refusal_same c.from_residual.result c.args.rest.now _
+    (first_same _ c.open_record.ensures.first_bytes) (search rules)
 
 pub returns-in_default-clause-found_in_first : goal.returns-in_default-clause-found_in_first
 returns-in_default-clause-found_in_first c =
-    let bytes = c.args.rest.now in
-    record_same bytes (first_bytes bytes) _ (first_same bytes c.open_record.ensures.first_bytes) (search rules)
+    record_same c.args.rest.now _ _ (first_same _ c.open_record.ensures.first_bytes) (search rules)
 
 pub returns-in_err-decoded-clause-refused_in_first : goal.returns-in_err-decoded-clause-refused_in_first
 returns-in_err-decoded-clause-refused_in_first c =
-    let bytes = c.args.rest.now in
-    refusal_same c.from_residual-in_err-decoded.result bytes (first_bytes bytes)
-    (first_same bytes c.open_record.ensures.first_bytes) (search rules)
+    refusal_same c.from_residual-in_err-decoded.result c.args.rest.now _
+    (first_same _ c.open_record.ensures.first_bytes) (search rules)
 
 pub returns-in_err-key-clause-refused : goal.returns-in_err-key-clause-refused
 returns-in_err-key-clause-refused c =
@@ -35,11 +31,9 @@ returns-in_err-key-clause-refused c =
 
 pub returns-in_err-key-clause-refused_in_first : goal.returns-in_err-key-clause-refused_in_first
 returns-in_err-key-clause-refused_in_first c =
-    let bytes = c.args.rest.now in
-    refusal_same c.from_residual-in_err-key.result bytes (first_bytes bytes)
-    (first_same bytes c.open_record.ensures.first_bytes) (returns-in_err-key-clause-refused c)
+    refusal_same c.from_residual-in_err-key.result c.args.rest.now _
+    (first_same _ c.open_record.ensures.first_bytes) (returns-in_err-key-clause-refused c)
 
 pub returns-clause-found_in_first : goal.returns-clause-found_in_first
 returns-clause-found_in_first c =
-    let bytes = c.args.rest.now in
-    record_same bytes (first_bytes bytes) _ (first_same bytes c.open_record.ensures.first_bytes) (search rules)
+    record_same c.args.rest.now _ _ (first_same _ c.open_record.ensures.first_bytes) (search rules)

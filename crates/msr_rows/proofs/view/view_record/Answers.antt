@@ -1,28 +1,25 @@
 -- A row that is not in time, and that the first bytes decide.
 use Rattle.std.proofs.Common.{rules}
 use Rattle.std.proofs.lemmas.Result.{IfErr-weaker, err_from_is_err_and}
-use Rattle.msr_rows.specs.Records.{IsRefused, first_bytes}
+use Rattle.msr_rows.specs.Records.{IsRefused}
 use Rattle.msr_rows.proofs.FirstBytes.{first_same, record_same, refused_same}
 use Rattle.msr_rows.proofs.RowLemmas.{out_of_range}
 use Rattle.msr_rows.proofs.view.view_record.Goals as goal
 
 pub returns-in_err-opened-clause-refused_in_first : goal.returns-in_err-opened-clause-refused_in_first
 returns-in_err-opened-clause-refused_in_first c =
-    let bytes = c.args.rest.now in
-    IfErr-weaker c.from_residual.result (IsRefused bytes) (IsRefused (first_bytes bytes))
-    (λ fault p. refused_same bytes (first_bytes bytes) fault (first_same bytes c.open_record.ensures.first_bytes) p)
+    IfErr-weaker c.from_residual.result (IsRefused c.args.rest.now) _
+    (λ fault p. refused_same _ _ fault (first_same _ c.open_record.ensures.first_bytes) p)
     (search rules)
 
 pub returns-in_default-clause-found_in_first : goal.returns-in_default-clause-found_in_first
 returns-in_default-clause-found_in_first c =
-    let bytes = c.args.rest.now in
-    record_same bytes (first_bytes bytes) _ (first_same bytes c.open_record.ensures.first_bytes) (search rules)
+    record_same c.args.rest.now _ _ (first_same _ c.open_record.ensures.first_bytes) (search rules)
 
 pub returns-in_err-samples-clause-refused_in_first : goal.returns-in_err-samples-clause-refused_in_first
 returns-in_err-samples-clause-refused_in_first c =
-    let bytes = c.args.rest.now in
-    IfErr-weaker c.from_residual-in_err-samples.result (IsRefused bytes) (IsRefused (first_bytes bytes))
-    (λ fault p. refused_same bytes (first_bytes bytes) fault (first_same bytes c.open_record.ensures.first_bytes) p)
+    IfErr-weaker c.from_residual-in_err-samples.result (IsRefused c.args.rest.now) _
+    (λ fault p. refused_same _ _ fault (first_same _ c.open_record.ensures.first_bytes) p)
     (search rules)
 
 pub returns-in_err-key-clause-refused : goal.returns-in_err-key-clause-refused
@@ -37,12 +34,10 @@ returns-in_err-key-clause-refused c =
 
 pub returns-in_err-key-clause-refused_in_first : goal.returns-in_err-key-clause-refused_in_first
 returns-in_err-key-clause-refused_in_first c =
-    let bytes = c.args.rest.now in
-    IfErr-weaker c.from_residual-in_err-key.result (IsRefused bytes) (IsRefused (first_bytes bytes))
-    (λ fault p. refused_same bytes (first_bytes bytes) fault (first_same bytes c.open_record.ensures.first_bytes) p)
+    IfErr-weaker c.from_residual-in_err-key.result (IsRefused c.args.rest.now) _
+    (λ fault p. refused_same _ _ fault (first_same _ c.open_record.ensures.first_bytes) p)
     (returns-in_err-key-clause-refused c)
 
 pub returns-clause-found_in_first : goal.returns-clause-found_in_first
 returns-clause-found_in_first c =
-    let bytes = c.args.rest.now in
-    record_same bytes (first_bytes bytes) _ (first_same bytes c.open_record.ensures.first_bytes) (search rules)
+    record_same c.args.rest.now _ _ (first_same _ c.open_record.ensures.first_bytes) (search rules)
