@@ -1,6 +1,7 @@
 -- Sums of products for the times of samples, over plain numbers.
 use Rattle.std.proofs.Common.{◌≡◌, ℕ, ◌+◌, ◌*◌, ◌/◌, ◌^◌, ◌<◌, ◌≤◌, refl, arith, ap, ◌∙◌, false, ℤ, pos, negsuc, ◌+ℤ◌, ◌-ℤ◌, ◌*ℤ◌, FitsSigned, w64, to_z, of_z, to_z-of_z, unsigned_abs}
-use Rattle.std.proofs.Math.Nat.{mod-lt, div-add-mod'}
+use Rattle.std.proofs.Math.Nat.{mod-lt, div-add-mod', div-le_self}
+use Rattle.jiff.specs.Words.{IsWithin}
 use Rattle.std.proofs.lemmas.Int.{ints}
 use Rattle.std.specs.Int.{w128}
 use Rattle.std.proofs.lemmas.Nat.{mul-lt}
@@ -76,6 +77,19 @@ quotient_bounds x k h = let m = mod-lt x h in let e = div-add-mod' x k in omega 
 pub sum_from_bits : (t0 : ℤ) (q : ℕ) → FitsSigned w64 t0 → q < 2 ^ 120
     → to_z w128 (of_z w128 (to_z w128 (of_z w128 (to_z w64 (of_z w64 t0))) +ℤ to_z w128 q)) ≡ t0 +ℤ pos q
 sum_from_bits t0 q f h = omega (arith, ints)
+
+-- the rounded instant, as it is summed up
+pub rounded_sum : (t0 : ℤ) (n num den : ℕ) → FitsSigned w64 t0 → n < 2 ^ 64 → num < 2 ^ 50 → den < 2 ^ 30
+    → (let sum = to_z w128 (of_z w128 (to_z w64 (of_z w64 t0))) +ℤ to_z w128 ((2 * (n * num) + den) / (2 * den)) in
+    let instant = t0 +ℤ pos ((2 * (n * num) + den) / (2 * den)) in
+    FitsSigned w128 sum × (to_z w128 (of_z w128 sum) ≡ instant) × IsWithin (2 ^ 120) instant)
+rounded_sum t0 n num den fits few small low =
+    let span = span_bound n num few small in
+    let least = div-le_self (2 * (n * num) + den) (2 * den) in (
+      omega (arith, ints, fits),
+      sum_from_bits t0 ((2 * (n * num) + den) / (2 * den)) fits (omega arith),
+      omega (arith, signed_arith, fits),
+    )
 
 pub gap_from_bits : (t t0 : ℤ) (den span : ℕ) → FitsSigned w64 t → FitsSigned w64 t0 → den < 2 ^ 30
     → span < 2 ^ 114 → (let gap = to_z w128 (of_z w128
