@@ -1,7 +1,6 @@
-use Rattle.std.proofs.Common.{List, ℤ, ◌++◌, inl, inr, refl, sym, subst, ap, ◌∙◌, rules, FitsSigned, w64, to_z-of_z}
+use Rattle.std.proofs.Common.{List, ℤ, ◌++◌, inl, inr, refl, sym, ap, ◌∙◌, rules, FitsSigned, w64, to_z-of_z}
+use Rattle.std.proofs.lemmas.Bool.{false≢true}
 use Rattle.std.specs.Prelude.{None}
-use Rattle.msr_segments.specs.Spans.{Following, Overruns}
-use Rattle.msr_segments.specs.Segments.{row_span}
 use Rattle.msr_segments.specs.Joining.{following_of, joining_of}
 use Rattle.msr_segments.proofs.SpanLemmas.{moved_joins, moved_begins, counted_joins, following_same}
 use Rattle.msr_segments.proofs.StepLaws.{pushes_grow}
@@ -46,10 +45,8 @@ returns-in-Ok-extend_from_slice-clause-time_range c =
     let fits : FitsSigned w64 c.args.row.start = search rules in
     let same = ap following_of (sym c.self.view_is)
     ∙ following_same c.self.inside.follow c.self.inside.samples c.self.invariant in
-    let refused = rw (c.len.ensures, to_z-of_z fits) at c.in-Ok.ensures.out_of_range in (
-      λ e. absurd e,
-      λ o. let impossible = refused.1 (subst (λ (f : Following). Overruns f (row_span c.args.row)) same o) in cc,
-    )
+    let refused = rw (c.len.ensures, to_z-of_z fits) at c.in-Ok.ensures.out_of_range in
+    (λ e. absurd e, λ o. absurd (false≢true (refused.1 (rw same at o))))
 
 pub returns-in-Begins-clause-step : goal.returns-in-Begins-clause-step
 returns-in-Begins-clause-step c =
@@ -68,10 +65,8 @@ returns-in-Begins-clause-time_range c =
     let fits : FitsSigned w64 c.args.row.start = search rules in
     let same = ap following_of (sym c.self.view_is)
     ∙ following_same c.self.inside.follow c.self.inside.samples c.self.invariant in
-    let refused = rw (c.len.ensures, to_z-of_z fits) at c.in-Ok.ensures.out_of_range in (
-      λ e. absurd e,
-      λ o. let impossible = refused.1 (subst (λ (f : Following). Overruns f (row_span c.args.row)) same o) in cc,
-    )
+    let refused = rw (c.len.ensures, to_z-of_z fits) at c.in-Ok.ensures.out_of_range in
+    (λ e. absurd e, λ o. absurd (false≢true (refused.1 (rw same at o))))
 
 pub invariant_of-self : goal.invariant_of-self
 invariant_of-self c = λ span is. rw c.in_default-extend_from_slice.ensures.err (c.self.invariant span is)
@@ -82,7 +77,5 @@ returns-in_default-extend_from_slice-clause-time_range c =
     let fits : FitsSigned w64 c.args.row.start = search rules in
     let same = ap following_of (sym c.self.view_is)
     ∙ following_same c.self.inside.follow c.self.inside.samples c.self.invariant in
-    let refused = rw (c.len.ensures, to_z-of_z fits) at c.in-Ok.ensures.out_of_range in (
-      λ e. absurd cc,
-      λ o. let impossible = refused.1 (subst (λ (f : Following). Overruns f (row_span c.args.row)) same o) in cc,
-    )
+    let refused = rw (c.len.ensures, to_z-of_z fits) at c.in-Ok.ensures.out_of_range in
+    (λ e. absurd cc, λ o. absurd (false≢true (refused.1 (rw same at o))))
