@@ -66,13 +66,13 @@ fn rate(text: &[u8]) -> Option<(i16, i16, &[u8])>
     Some((factor, multiplier, text))
 }
 
-/// A space and two hexadecimal digits.
-fn spaced_byte(text: &[u8]) -> Option<(u8, &[u8])>
-    ensures found { IfSome result (λ x. text.now ≡ 32 ∷ (hex_text x.0 ++ x.1.now)) }
-    ensures only { (n : ℕ) (rest : List ℕ) → n < 256 → text.now ≡ 32 ∷ (hex_text n ++ rest)
+/// The two hexadecimal digits that stand after the word.
+fn byte_after<'a>(text: &'a [u8], word: &[u8]) -> Option<(u8, &'a [u8])>
+    ensures found { IfSome result (λ x. text.now ≡ word.now ++ (hex_text x.0 ++ x.1.now)) }
+    ensures only { (n : ℕ) (rest : List ℕ) → n < 256 → text.now ≡ word.now ++ (hex_text n ++ rest)
         → IsSomeAnd result (λ x. (x.0 ≡ n) × (x.1.now ≡ rest)) }
 {
-    hex_byte(after(text, b" ")?)
+    hex_byte(after(text, word)?)
 }
 
 /// The activity, clock and data quality flags.
@@ -82,10 +82,9 @@ fn flags(text: &[u8]) -> Option<(u8, u8, u8, &[u8])>
         → text.now ≡ flags_then key.activity key.clock key.data_quality rest
         → IsSomeAnd result (λ x. x.3.now ≡ rest) }
 {
-    let text = after(text, b" flags")?;
-    let (activity, text) = spaced_byte(text)?;
-    let (clock, text) = spaced_byte(text)?;
-    let (quality, text) = spaced_byte(text)?;
+    let (activity, text) = byte_after(text, b" flags ")?;
+    let (clock, text) = byte_after(text, b" ")?;
+    let (quality, text) = byte_after(text, b" ")?;
     Some((activity, clock, quality, text))
 }
 

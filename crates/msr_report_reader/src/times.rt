@@ -24,15 +24,16 @@ fn value_of(digits: &[u8]) -> Option<u32>
     Some(value)
 }
 
-/// Reads a number in `width` digits, and gives it with the text after it.
-fn padded(text: &[u8], width: usize) -> Option<(u32, &[u8])>
+/// The number in `width` digits that stands after the word.
+fn padded<'a>(text: &'a [u8], word: &[u8], width: usize) -> Option<(u32, &'a [u8])>
     requires some { 1 ≤ width }
     requires few { width ≤ 6 }
-    ensures found { IfSome result (λ x. text.now ≡ padded_decimal width x.0 ++ x.1.now) }
+    ensures found { IfSome result (λ x. text.now ≡ word.now ++ (padded_decimal width x.0 ++ x.1.now)) }
     ensures small { IfSome result (λ x. x.0 < 10 ^ width) }
-    ensures only { (n : ℕ) (rest : List ℕ) → n < 10 ^ width → text.now ≡ padded_decimal width n ++ rest
+    ensures only { (n : ℕ) (rest : List ℕ) → n < 10 ^ width → text.now ≡ word.now ++ (padded_decimal width n ++ rest)
         → IsSomeAnd result (λ x. (x.0 ≡ n) × (x.1.now ≡ rest)) }
 {
+    let text = after(text, word)?;
     if text.len() < width {
         return None;
     }
@@ -47,9 +48,8 @@ fn date(text: &[u8]) -> Option<(u16, u16, &[u8])>
     ensures only { (year day : ℕ) (rest : List ℕ) → year < 10 ^ 4 → day < 10 ^ 3 → text.now ≡ date_then year day rest
         → IsSomeAnd result (λ x. (x.0 ≡ year) × (x.1 ≡ day) × (x.2.now ≡ rest)) }
 {
-    let (year, text) = padded(text, 4)?;
-    let text = after(text, b",")?;
-    let (day, text) = padded(text, 3)?;
+    let (year, text) = padded(text, b"", 4)?;
+    let (day, text) = padded(text, b",", 3)?;
     Some((year as u16, day as u16, text))
 }
 
@@ -60,11 +60,9 @@ fn clock(text: &[u8]) -> Option<(u8, u8, u8, &[u8])>
         → text.now ≡ clock_then hour minute second rest
         → IsSomeAnd result (λ x. (x.0 ≡ hour) × (x.1 ≡ minute) × (x.2 ≡ second) × (x.3.now ≡ rest)) }
 {
-    let (hour, text) = padded(text, 2)?;
-    let text = after(text, b":")?;
-    let (minute, text) = padded(text, 2)?;
-    let text = after(text, b":")?;
-    let (second, text) = padded(text, 2)?;
+    let (hour, text) = padded(text, b"", 2)?;
+    let (minute, text) = padded(text, b":", 2)?;
+    let (second, text) = padded(text, b":", 2)?;
     Some((hour as u8, minute as u8, second as u8, text))
 }
 
@@ -79,8 +77,7 @@ fn fields(text: &[u8]) -> Option<(BTime, u8, &[u8])>
     let (year, day, text) = date(text)?;
     let text = after(text, b",")?;
     let (hour, minute, second, text) = clock(text)?;
-    let text = after(text, b".")?;
-    let (fraction, text) = padded(text, 6)?;
+    let (fraction, text) = padded(text, b".", 6)?;
     let time = BTime {
         year,
         day,
