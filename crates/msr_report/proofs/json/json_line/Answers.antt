@@ -39,3 +39,6 @@ iso_string-requires-2 c =
     let fits_last : FitsSigned w64 c.in-Some.last = search rules in
     let found = c.in-Some.ensures.found in
     rw (to_z-of_z fits_last, found.2.1) found.2.0
+
+pub overflow_sub-segment : goal.overflow_sub-segment
+overflow_sub-segment c = c.requires.some
