@@ -1,9 +1,11 @@
 -- Bytes of a name, one after another.
-use Rattle.std.proofs.Common.{◌≡◌, ◌∙◌, ap, arith, ℕ, ◌+◌, ◌<◌, List, [], ◌∷◌, ◌++◌, append_assoc, drop, length, refl, slice_index, sym, take}
-use Rattle.std.specs.Prelude.{slice_set}
+use Rattle.std.proofs.Common.{◌≡◌, ◌≢◌, ◌∙◌, ap, arith, ℕ, ◌+◌, ◌<◌, ◌==◌, Bool, true, false, List, [], ◌∷◌, ◌++◌, append_assoc, drop, length, refl, slice_index, sym, take}
+use Rattle.std.specs.Prelude.{cond, slice_set}
+use Rattle.std.specs.Char.{is_ascii_alphanumeric}
 use Rattle.std.proofs.lemmas.List.{drop_all, drop_more, length-set, take_all, take_more, take_more_set}
-use Rattle.msr_report.specs.Text.{byte_text, field_text}
+use Rattle.msr_report.specs.Text.{byte_text, field_text, hex_text}
 use Rattle.msr_report_reader.specs.Fields.{AreBytes}
+use Rattle.msr_report_reader.proofs.LineFeeds.{same_cons}
 
 -- The first bytes of a name were read, and the rest of the text follows. If the text is that of any name, they are its
 -- first ones.
@@ -74,3 +76,19 @@ only_read count at text bytes rest end read all more are whole =
           ∙ take_all at all (omega (arith, end, are.many)),
       same.1 ∙ ap (λ (l : List ℕ). field_text l ++ more) (drop_all at all (omega (arith, end, are.many))),
     )
+
+-- `%` begins only the text of a byte that is no letter, no digit and no space
+escaped_by : (b : ℕ) (letter space : Bool) (tail more : List ℕ) → is_ascii_alphanumeric b ≡ letter → (b == 32) ≡ space
+    → 37 ∷ tail ≡ cond letter (b ∷ []) (cond space (95 ∷ []) (37 ∷ hex_text b)) ++ more
+    → (tail ≡ hex_text b ++ more) × ((is_ascii_alphanumeric b ≡ false) × (b ≢ 32))
+escaped_by b true space tail more plain is_space is =
+    let same : 37 ≡ b = (same_cons 37 b tail more is).0 in
+    let wrong : false ≡ true = rw (sym same) at plain in absurd (cc wrong)
+escaped_by b false true tail more plain is_space is = absurd (omega (arith, (same_cons 37 95 tail more is).0))
+escaped_by b false false tail more plain is_space is =
+    let other : b ≢ 32 = λ e. let wrong : true ≡ false = rw e at is_space in cc wrong in
+    ((same_cons 37 37 tail (hex_text b ++ more) is).1, (plain, other))
+
+pub escaped : (b : ℕ) (tail more : List ℕ) → 37 ∷ tail ≡ byte_text b ++ more
+    → (tail ≡ hex_text b ++ more) × ((is_ascii_alphanumeric b ≡ false) × (b ≢ 32))
+escaped b tail more is = escaped_by b (is_ascii_alphanumeric b) (b == 32) tail more refl refl is

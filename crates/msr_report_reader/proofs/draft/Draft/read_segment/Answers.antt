@@ -1,4 +1,4 @@
-use Rattle.std.proofs.Common.{refl, rules, ◌||◌, Bool, List, ◌+◌, ◌*◌, ◌++◌, length}
+use Rattle.std.proofs.Common.{ap, arith, length-append, refl, rules, ◌||◌, Bool, List, ◌+◌, ◌*◌, ◌++◌, length}
 use Rattle.msr_report.specs.declared.report.SegmentLine.{SegmentLine}
 use Rattle.msr_report_reader.specs.Content.{lines_before}
 use Rattle.msr_report_reader.specs.declared.draft.Expected.TheVariants.{Segment}
@@ -29,3 +29,10 @@ returns c = λ expected.
     (λ x is. one_of c.may_begin.result c.may_begin-2.result (c.may_begin.ensures more x is))
     (λ x is. other_of c.may_begin.result c.may_begin-2.result (c.may_begin-2.ensures more x is)) enough c.in_default.ensures.only
     (rw c.as_slice.ensures.value at c.in_default-last_line.ensures.only))) c.refuse.ensures
+
+pub overflow_sub-result : goal.overflow_sub-result
+overflow_sub-result c = let same = simp length-append at (ap length c.in-Some.ensures.found.is) in omega (arith, same)
+
+pub overflow_sub-result-in-Some-last_line : goal.overflow_sub-result-in-Some-last_line
+overflow_sub-result-in-Some-last_line c =
+    let same = simp length-append at (ap length c.in-Some-last_line.ensures.found.is) in omega (arith, same)
