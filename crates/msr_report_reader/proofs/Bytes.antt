@@ -78,17 +78,12 @@ only_read count at text bytes rest end read all more are whole =
     )
 
 -- `%` begins only the text of a byte that is no letter, no digit and no space
-escaped_by : (b : ℕ) (letter space : Bool) (tail more : List ℕ) → is_ascii_alphanumeric b ≡ letter → (b == 32) ≡ space
+pub escaped : (b : ℕ) (letter space : Bool) (tail more : List ℕ) → is_ascii_alphanumeric b ≡ letter → (b == 32) ≡ space
     → 37 ∷ tail ≡ cond letter (b ∷ []) (cond space (95 ∷ []) (37 ∷ hex_text b)) ++ more
     → (tail ≡ hex_text b ++ more) × ((is_ascii_alphanumeric b ≡ false) × (b ≢ 32))
-escaped_by b true space tail more plain is_space is =
-    let same : 37 ≡ b = (same_cons 37 b tail more is).0 in
-    let wrong : false ≡ true = rw (sym same) at plain in absurd (cc wrong)
-escaped_by b false true tail more plain is_space is = absurd (omega (arith, (same_cons 37 95 tail more is).0))
-escaped_by b false false tail more plain is_space is =
+escaped b true space tail more plain is_space is =
+    let wrong : false ≡ true = rw (sym (same_cons 37 b tail more is).0) at plain in absurd (cc wrong)
+escaped b false true tail more plain is_space is = absurd (omega (arith, (same_cons 37 95 tail more is).0))
+escaped b false false tail more plain is_space is =
     let other : b ≢ 32 = λ e. let wrong : true ≡ false = rw e at is_space in cc wrong in
     ((same_cons 37 37 tail (hex_text b ++ more) is).1, (plain, other))
-
-pub escaped : (b : ℕ) (tail more : List ℕ) → 37 ∷ tail ≡ byte_text b ++ more
-    → (tail ≡ hex_text b ++ more) × ((is_ascii_alphanumeric b ≡ false) × (b ≢ 32))
-escaped b tail more is = escaped_by b (is_ascii_alphanumeric b) (b == 32) tail more refl refl is

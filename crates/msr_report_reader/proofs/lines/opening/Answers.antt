@@ -12,44 +12,33 @@ after_start samples records rest = codes " samples " ++ (decimal samples ++ afte
 
 pub returns-in_default-clause-only : goal.returns-in_default-clause-only
 returns-in_default-clause-only c key start samples records rest is_key fits_samples fits_records opening =
-    let more : List ℕ = opening.word ++ after_start samples records rest in
-    absurd (c.in_default.ensures.only key (codes " start " ++ more) is_key refl opening.is)
+    absurd (c.in_default.ensures.only key _ is_key refl opening.is)
 
 pub returns-in_err-text-clause-only : goal.returns-in_err-text-clause-only
 returns-in_err-text-clause-only c key start samples records rest is_key fits_samples fits_records opening =
-    let more : List ℕ = opening.word ++ after_start samples records rest in
-    absurd (c.in_err-text.ensures.only more
-    (c.in-Some.ensures.only key (codes " start " ++ more) is_key refl opening.is))
+    absurd (c.in_err-text.ensures.only _ (c.in-Some.ensures.only key _ is_key refl opening.is))
 
 pub returns-in_err-start-clause-only : goal.returns-in_err-start-clause-only
 returns-in_err-start-clause-only c key start samples records rest is_key fits_samples fits_records opening =
-    let more : List ℕ = opening.word ++ after_start samples records rest in
-    let first = c.in_ok-text.ensures.only more
-    (c.in-Some.ensures.only key (codes " start " ++ more) is_key refl opening.is) in
+    let first = c.in_ok-text.ensures.only _ (c.in-Some.ensures.only key _ is_key refl opening.is) in
     absurd (c.in_err-start.ensures.only start opening.word (after_start samples records rest) opening.time first)
 
 pub returns-in_err-samples-clause-only : goal.returns-in_err-samples-clause-only
 returns-in_err-samples-clause-only c key start samples records rest is_key fits_samples fits_records opening =
-    let more : List ℕ = opening.word ++ after_start samples records rest in
-    let first = c.in_ok-text.ensures.only more
-    (c.in-Some.ensures.only key (codes " start " ++ more) is_key refl opening.is) in
+    let first = c.in_ok-text.ensures.only _ (c.in-Some.ensures.only key _ is_key refl opening.is) in
     let second = c.in_ok-start.ensures.only start opening.word (after_start samples records rest) opening.time first in
     absurd (c.in_err-samples.ensures.only samples (after_samples records rest) fits_samples refl second.1)
 
 pub returns-in_err-records-clause-only : goal.returns-in_err-records-clause-only
 returns-in_err-records-clause-only c key start samples records rest is_key fits_samples fits_records opening =
-    let more : List ℕ = opening.word ++ after_start samples records rest in
-    let first = c.in_ok-text.ensures.only more
-    (c.in-Some.ensures.only key (codes " start " ++ more) is_key refl opening.is) in
+    let first = c.in_ok-text.ensures.only _ (c.in-Some.ensures.only key _ is_key refl opening.is) in
     let second = c.in_ok-start.ensures.only start opening.word (after_start samples records rest) opening.time first in
     let third = c.in_ok-samples.ensures.only samples (after_samples records rest) fits_samples refl second.1 in
     absurd (c.in_err-records.ensures.only records rest fits_records third.1)
 
 pub returns-clause-only : goal.returns-clause-only
 returns-clause-only c key start samples records rest is_key fits_samples fits_records opening =
-    let more : List ℕ = opening.word ++ after_start samples records rest in
-    let first = c.in_ok-text.ensures.only more
-    (c.in-Some.ensures.only key (codes " start " ++ more) is_key refl opening.is) in
+    let first = c.in_ok-text.ensures.only _ (c.in-Some.ensures.only key _ is_key refl opening.is) in
     let second = c.in_ok-start.ensures.only start opening.word (after_start samples records rest) opening.time first in
     let third = c.in_ok-samples.ensures.only samples (after_samples records rest) fits_samples refl second.1 in
     c.in_ok-records.ensures.only records rest fits_records third.1

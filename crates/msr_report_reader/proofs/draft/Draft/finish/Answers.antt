@@ -3,7 +3,6 @@ use Rattle.std.proofs.lemmas.Result.{err_from_is_err_and}
 use Rattle.msr_report.specs.declared.report.Report.{Report}
 use Rattle.msr_report_reader.specs.Reading.{IsReadFrom}
 use Rattle.msr_report_reader.proofs.Steps.{left_fault, left_whole, whole_report}
-use Rattle.msr_report_reader.proofs.StoppedSources.{taken_within}
 use Rattle.msr_report_reader.proofs.draft.Draft.finish.Goals as goal
 
 pub returns-in_err-count-clause-fault : goal.returns-in_err-count-clause-fault
@@ -27,7 +26,3 @@ returns-in-Whole-clause-found c = λ past follows.
     (left_whole c.reading.self (past ++ c.args.text.now) c.reading.rest.now left whole.none)
     (whole_report report c.in-Whole.first left.read refl refl refl refl
     (rw whole.same (whole.read left.read left.follows)))
-
-pub slice_bounds-rest-count : goal.slice_bounds-rest-count
-slice_bounds-rest-count c = taken_within c.reading.self c.step.new.self c.reading.rest.now c.in-Consumed.count
-    (rw c.in-Consumed.is at c.in_ok-count.ensures)
