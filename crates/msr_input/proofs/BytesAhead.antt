@@ -1,7 +1,7 @@
 -- Bytes that are read ahead, one read after another.
-use Rattle.std.proofs.Common.{inl, inr, ◌⊎◌, take, length-take, ◌≡◌, ℕ, ◌+◌, ◌<◌, ◌≤◌, Bool, true, false, List, [], ◌∷◌, ◌++◌, length, refl, sym, ap, ◌∙◌, arith, length-append}
-use Rattle.std.proofs.lemmas.List.{append-nil, take-append-le, take_all}
-use Rattle.std.proofs.lemmas.List.{take-take}
+use Rattle.std.proofs.Common.{inl, inr, ◌⊎◌, take, length-take, ◌≡◌, ℕ, ◌+◌, ◌-◌, ◌<◌, ◌≤◌, Bool, true, false, List, [], ◌∷◌, ◌++◌, length, refl, sym, ap, ◌∙◌, arith, length-append}
+use Rattle.std.proofs.lemmas.List.{append-nil, take-append-le, take_all, take-take}
+use Rattle.std.specs.Prelude.{if◌then◌else◌}
 use Rattle.std.proofs.lemmas.Bool.{cases_Bool, cases_lt, le-leb, lt-leb}
 use Rattle.msr_rows.specs.Records.{IsRecordOf}
 use Rattle.msr_rows.specs.declared.row.Record.{Record}
@@ -57,6 +57,13 @@ filled_more a b c w w' w'' m n first unended second =
       calm = λ still. calm_calm a b c (first.calm unended) (second.calm still);
       steady = steady_steady a b c first.steady second.steady;
     }
+
+-- one more byte, or the end, is nearer to the longest record
+pub nearer : (old new more : List ℕ) (was ended : Bool) → new ≡ old ++ more → was ≡ false → length old < 1_048_576
+    → (ended ≡ false → length old + 1 ≤ length new)
+    → (1_048_576 - length new) + (if ended then 0 else 1) < (1_048_576 - length old) + (if was then 0 else 1)
+nearer old new more was true whole unended short longer = rw (unended, whole, length-append old more) (omega arith)
+nearer old new more was false whole unended short longer = let least = longer refl in rw unended (omega arith)
 
 -- when a read failed there are no more bytes than before, or there was no memory for them
 unended_before : (before after : Bool) → (before ≡ true → after ≡ true) → after ≡ false

@@ -1,5 +1,5 @@
 //! The steps of reading: bytes ahead, a record, its row, its counts.
-ghost use Rattle.std.specs.Prelude.{◌≡◌, ◌≢◌, true, [], IfOk, IfErr, IfSome, IsErrOf, OnErr, MatchResult, MatchOption};
+ghost use Rattle.std.specs.Prelude.{◌≡◌, ◌≢◌, ◌<◌, true, [], IfOk, IfErr, IfSome, IsErrOf, OnErr, MatchResult, MatchOption};
 ghost use Rattle.msr_rows.specs.Records.{IsRefused};
 ghost use Rattle.msr_rows.specs.declared.row.Record.{Record as Found};
 ghost use Rattle.msr_devices.specs.Device.{CanCountCall, CountsFew};
@@ -28,7 +28,8 @@ const LONGEST: usize = 1_048_576;
 
 /// Whether more bytes after these might change why they are refused.
 fn may_change(kind: FaultKind, len: usize) -> bool
-    ensures { result ≡ may_change kind len }
+    ensures same { result ≡ may_change kind len }
+    ensures short { result ≡ true → len < 1_048_576 }
 {
     match kind {
         FaultKind::Header(_) => len < LONGEST,

@@ -1,7 +1,7 @@
 -- Records without a row are passed over, until one has a row.
 use Rattle.std.proofs.Common.{◌≡◌, ◌≤◌, ◌∙◌, arith, refl, subst, sym}
 use Rattle.std.proofs.lemmas.Result.{err_from_is_err_and}
-use Rattle.msr_devices.proofs.Chaining.{calm_same, steady_steady}
+use Rattle.msr_devices.proofs.Chaining.{calm_same, steady_steady, steady_then_few}
 use Rattle.msr_segments.specs.Spans.{IsInBounds}
 use Rattle.msr_input.specs.Records.{left_with}
 use Rattle.msr_input.specs.Rows.{ReadsNoRow, RowReading, StopsRows, row_settings}
@@ -112,6 +112,9 @@ pub returns-in-Some-next_outline-clause-in_bounds : goal.returns-in-Some-next_ou
 returns-in-Some-next_outline-clause-in_bounds g c =
     outline_bounds (IsInBounds c.take.new.self.following.current) c.in-Some.found.row c.in_ok-step.step
     c.in-Some-next_outline.next (sym c.next_outline.ensures ∙ c.in-Some-next_outline.is) c.in_ok-step.ensures.in_bounds
+
+pub returns-in-Some-next_outline-clause-few : goal.returns-in-Some-next_outline-clause-few
+returns-in-Some-next_outline-clause-few g c = steady_then_few _ _ _ c.records.invariant.steady c.next.ensures.few
 
 pub records-preserved : goal.records-preserved
 records-preserved g c =

@@ -35,8 +35,7 @@ returns-in_default-clause-exact g c =
     let at : RowReading = record { position = c.self.inside.records; following = c.self.inside.follow } in
     let end = rw c.in_default.is at c.in_ok-found.ensures.next in
     rw (← c.self.view_is) (λ start records answers has.
-    let filled = rows_come start (g.R.Source.device c.args.source.now)
-    (g.R.Source.device c.next.new.source) at c.next.new.self records answers has
+    let filled = rows_come start _ _ at c.next.new.self records answers has
     (c.in_ok-found.ensures.came start records has.came) in
     record { read = filled; none_wait = end.0; ended = end.1 })
 
@@ -45,8 +44,7 @@ returns-in_default-clause-read g c =
     let at : RowReading = record { position = c.self.inside.records; following = c.self.inside.follow } in
     let end = rw c.in_default.is at c.in_ok-found.ensures.next in
     rw (← c.self.view_is) (λ start records answers has.
-    let filled = rows_come start (g.R.Source.device c.args.source.now)
-    (g.R.Source.device c.next.new.source) at c.next.new.self records answers has
+    let filled = rows_come start _ _ at c.next.new.self records answers has
     (c.in_ok-found.ensures.came start records has.came) in
     record { none = record { after = records; rows = refl; read = filled }; none_wait = end.0; ended = end.1 })
 
@@ -70,8 +68,7 @@ returns-in_err-step-clause-read g c =
     let judged = (rw c.in-Some.is at c.in_ok-found.ensures.next).judged in
     let next = next_read c.next.new.self c.in-Some.found c.outline_of-outline.result judged c.outline_of-outline.ensures in
     rw (p.1, p.2, ← c.self.view_is) (λ start records answers has.
-    let filled = rows_come start (g.R.Source.device c.args.source.now)
-    (g.R.Source.device c.next.new.source) at c.next.new.self records answers has
+    let filled = rows_come start _ _ at c.next.new.self records answers has
     (c.in_ok-found.ensures.came start records has.came) in
     subst (λ (settings : Settings). StopsRows settings start (g.R.Source.device c.next.new.source) records why) same
     (c.in_err-step.ensures.read start
@@ -95,8 +92,7 @@ returns-clause-exact g c =
     let judged = (rw c.in-Some.is at c.in_ok-found.ensures.next).judged in
     let next = next_read c.next.new.self c.in-Some.found c.outline_of-outline.result judged c.outline_of-outline.ensures in
     rw (c.next_row-row.ensures, ← c.self.view_is) (λ start records answers has.
-    let filled = rows_come start (g.R.Source.device c.args.source.now)
-    (g.R.Source.device c.next.new.source) at c.next.new.self records answers has
+    let filled = rows_come start _ _ at c.next.new.self records answers has
     (c.in_ok-found.ensures.came start records has.came) in
     reads_one start (g.R.Source.device c.next.new.source) c.next.new.self c.self.inside.follow c.take.new.self records
     answers c.outline_of-outline.result c.in-Some.found c.in_ok-step.step next c.in_ok-step.ensures.step
@@ -109,8 +105,7 @@ returns-clause-read g c =
     let next = next_read c.next.new.self c.in-Some.found c.outline_of-outline.result judged
     c.outline_of-outline.ensures in
     rw (c.next_row-row.ensures, ← c.self.view_is) (λ start records answers has.
-    let filled = rows_come start (g.R.Source.device c.args.source.now)
-    (g.R.Source.device c.next.new.source) at c.next.new.self records answers has
+    let filled = rows_come start _ _ at c.next.new.self records answers has
     (c.in_ok-found.ensures.came start records has.came) in
     reads_on start (g.R.Source.device c.next.new.source) c.take.new.self records answers _
     (reads_one start (g.R.Source.device c.next.new.source) c.next.new.self c.self.inside.follow c.take.new.self records
