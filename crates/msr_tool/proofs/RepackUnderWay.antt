@@ -1,5 +1,5 @@
 -- The state of repacking between two rows.
-use Rattle.std.proofs.Common.{◌≡◌, ◌⊎◌, inl, inr, ℕ, ◌*◌, ◌^◌, ◌<◌, ◌≤◌, List, [], ◌∷◌, ◌++◌, ◌∙◌, length, map, All, refl, sym, subst, Ok, Err, Option, IfSome, arith}
+use Rattle.std.proofs.Common.{◌≡◌, ◌⊎◌, inl, inr, ℕ, ◌*◌, ◌^◌, ◌<◌, ◌≤◌, List, [], ◌∷◌, ◌++◌, ◌∙◌, length, map, All, refl, sym, subst, Ok, Err, IsErrOf, Option, IfSome, arith}
 use Rattle.std.proofs.Math.Nat.{mul-le-mul_right}
 use Rattle.std.proofs.lemmas.List.Elements.{All-cons, All-head, All-nil, All-tail}
 use Rattle.std.specs.Option.{option_to_list}
@@ -26,15 +26,14 @@ use Rattle.msr_output.specs.Output.{Packed, OutputKeepsSegments, OutputHasSize, 
 use Rattle.msr_output.specs.Decided.{IsDecidedOutput, IsEncoded}
 use Rattle.msr_options.specs.Choice.{Choice, form_chosen, size_of}
 use Rattle.msr_tool.specs.Settings.{settings_of}
-use Rattle.msr_tool.specs.Writing.{Lined, GoesOn, HasLined, LinesMore, LinesAll, StopsLining, current_with, ended_with}
+use Rattle.msr_tool.specs.Writing.{Lined, GoesOn, HasLined, LinesMore, LinesAll, current_with, ended_with}
 use Rattle.msr_tool.specs.Answer.{Answers, AreLinesOf}
 use Rattle.msr_tool.specs.Fault.{fault_of_reading}
 use Rattle.msr_tool.specs.KeepingUp.{HasKeptUp}
-use Rattle.msr_tool.specs.declared.fault.ToolFault.{ToolFault}
 use Rattle.msr_tool.specs.declared.fault.ToolFault.TheVariants as fault
 use Rattle.msr_tool.proofs.Lines.{calm_lined, lined_decided, records_of_lines}
-use Rattle.msr_tool.proofs.RowsSoFar.{RowsSoFar, RecordMore, rows_begun, rows_read}
-use Rattle.msr_tool.proofs.StoppedRepacks.{IsAnswered, write_failed}
+use Rattle.msr_tool.proofs.RowsSoFar.{RowsSoFar, RecordMore, rows_begun}
+use Rattle.msr_tool.proofs.StoppedRepacks.{IsAnswered}
 
 pub record UnderWay (choice : Choice) (source0 source sink0 sink : Device) (reading : RowReading)
     (so_far : Lined) : Type 0 where
@@ -162,18 +161,6 @@ done choice source0 sink0 sink segments lines counts report gave can wrote least
       },
     )
 
--- or it is not
-pub flush_stops : (choice : Choice) (source0 source sink0 sink sink' : Device) (reading : RowReading)
-    (so_far : Lined) (found : ToolFault) (u : UnderWay choice source0 source sink0 sink reading so_far)
-    → StopsLining so_far.writing.form sink0 sink'
-    (map segment_of_packed u.packed ++ option_to_list u.joining.current) found
-    → IsAnswered (Answers choice) source0 sink0 sink' (Err found)
-flush_stops choice source0 source sink0 sink sink' reading so_far found u stops =
-    let all = map segment_of_packed u.packed ++ option_to_list u.joining.current in
-    write_failed choice source0 sink0 sink' all found
-    (rows_read (settings_of choice) source0 source reading (map segment_of_packed u.packed) u.joining u.rows)
-    (subst (λ (f : Form). StopsLining f sink0 sink' all found) u.form stops)
-
 -- ---- when what is decided is written before each read
 
 -- the next record is at hand, or nothing waits to be written
@@ -215,7 +202,7 @@ kept_up_so choice source0 source source' sink0 sink reading reading' so_far u no
           (map segment_of_packed u.packed ++ option_to_list u.joining.current) wrote.bytes) u.form wrote.decided;
     }
 
-read_fault : (why : ReadFault) → fault_of_reading why ≡ fault.Read → why ≡ read.Read
+read_fault : (why : ReadFault) → IsErrOf {T = Report} (Err (fault_of_reading why)) fault.Read → why ≡ read.Read
 read_fault (read.Input other) e = absurd cc
 read_fault read.Read e = refl
 read_fault read.Memory e = absurd cc
@@ -223,7 +210,7 @@ read_fault read.Memory e = absurd cc
 -- when a read failed, nothing waited
 pub kept_up : (choice : Choice) (source0 source source' sink0 sink : Device) (reading reading' : RowReading)
     (so_far : Lined) (why : ReadFault) (u : UnderWay choice source0 source sink0 sink reading so_far)
-    → IsReady reading so_far → fault_of_reading why ≡ fault.Read
+    → IsReady reading so_far → IsErrOf {T = Report} (Err (fault_of_reading why)) fault.Read
     → StopsReading (settings_of choice) source0 source'
     (map segment_of_packed u.packed ++ option_to_list u.joining.current) why
     → (HoldsRecord reading.position.waiting → source' ≡ source)

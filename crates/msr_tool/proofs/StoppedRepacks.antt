@@ -99,18 +99,6 @@ write_tells_sink failed refused sink0 sink fault.Write h = ((λ e. h.1), (λ has
 write_tells_sink failed refused sink0 sink fault.Memory h =
     ((λ e. absurd cc), (λ has_failed. absurd (steady_sound sink0 sink h.1 has_failed)))
 
--- and the source did not
-pub write_tells_source : {T : Type 0} (failed refused : Type 0) (source0 source sink0 sink : Device)
-    (found : ToolFault) → IsSteady source0 source → StopsSink failed refused sink0 sink found
-    → IsErrOf {T = T} (Err found) fault.Read ↔ HasFailed source0 source
-write_tells_source failed refused source0 source sink0 sink (fault.Input other) steady h = absurd h
-write_tells_source failed refused source0 source sink0 sink (fault.Report line) steady h = absurd h
-write_tells_source failed refused source0 source sink0 sink fault.Read steady h = absurd h
-write_tells_source failed refused source0 source sink0 sink fault.Write steady h =
-    ((λ e. absurd cc), (λ has_failed. absurd (steady_sound source0 source steady has_failed)))
-write_tells_source failed refused source0 source sink0 sink fault.Memory steady h =
-    ((λ e. absurd cc), (λ has_failed. absurd (steady_sound source0 source steady has_failed)))
-
 -- and nothing is a fault of a read
 pub write_unread : {T P : Type 0} (failed refused : Type 0) (sink0 sink : Device) (found : ToolFault)
     → StopsSink failed refused sink0 sink found → IsErrOf {T = T} (Err found) fault.Read → P
@@ -120,11 +108,23 @@ write_unread failed refused sink0 sink fault.Read h e = absurd h
 write_unread failed refused sink0 sink fault.Write h e = absurd cc
 write_unread failed refused sink0 sink fault.Memory h e = absurd cc
 
+-- and the source did not
+pub write_tells_source : {T : Type 0} (failed refused : Type 0) (source0 source sink0 sink : Device)
+    (found : ToolFault) → IsSteady source0 source → StopsSink failed refused sink0 sink found
+    → IsErrOf {T = T} (Err found) fault.Read ↔ HasFailed source0 source
+write_tells_source failed refused source0 source sink0 sink found steady h = (
+  write_unread failed refused sink0 sink found h,
+  (λ has_failed. absurd (steady_sound source0 source steady has_failed)),
+)
+
 -- no device failed
+pub ok_unread : {T P : Type 0} (value : T) (found : ToolFault) → IsErrOf (Ok value) found → P
+ok_unread value found e = absurd cc
+
 pub ok_tells : {T : Type 0} (old new : Device) (value : T) (found : ToolFault) → IsSteady old new
     → IsErrOf (Ok value) found ↔ HasFailed old new
 ok_tells old new value found steady = (
-  (λ e. absurd cc),
+  ok_unread value found,
   (λ has_failed. absurd (steady_sound old new steady has_failed)),
 )
 

@@ -89,10 +89,9 @@ fn repack_with<R: Source, W: Sink>(
 ) -> Result<Report, ToolFault>
     requires source { CanCountCall (R.device source.old) }
     requires sink { CanCountCall (W.device sink.old) }
-    ensures does { ReadsAndWrites (Answers options) (R.device source.old) (R.device source.new)
-        (W.device sink.old) (W.device sink.new) result }
-    ensures kept_up { flush ≡ Flush.BeforeReads → IsErrOf result ToolFault.Read
-        → HasKeptUp options (R.device source.old) (R.device source.new) (W.device sink.old) (W.device sink.new) }
+    ensures { ReadsAndWrites (Answers options) (R.device source.old) (R.device source.new)
+        (W.device sink.old) (W.device sink.new) result × (flush ≡ Flush.BeforeReads → IsErrOf result ToolFault.Read
+        → HasKeptUp options (R.device source.old) (R.device source.new) (W.device sink.old) (W.device sink.new)) }
 {
     let mut reader = RowReader::new(alloc, settings_of(options));
     let form = options.form();

@@ -1,6 +1,7 @@
 use Rattle.std.proofs.Common.{◌++◌}
 use Rattle.std.proofs.lemmas.Result.{err_from_is_err_and}
 use Rattle.std.specs.Option.{option_to_list}
+use Rattle.msr_devices.proofs.Chaining.{steady_can_count}
 use Rattle.msr_tool.specs.Settings.{settings_of}
 use Rattle.msr_tool.proofs.Listed.{prefix_listed}
 use Rattle.msr_tool.proofs.RowsSoFar.{given_read, rows_end, rows_stop}
@@ -29,6 +30,9 @@ returns-in_err-next g c =
     let prefix = prefix_listed _ _ _ _ _ u.given (option_to_list u.joining.current) u.listed in
     rw (p.1, p.2) (read_ends _ (settings_of c.args.options) _ _ _ _ _ given why u.rows.has_read.came.steady
     c.next_outline.ensures.few u.listed.calm.steady stops (list_read_failed _ _ _ _ _ _ given why stops prefix))
+
+pub take-requires-clause-count : goal.take-requires-clause-count
+take-requires-clause-count g c = steady_can_count _ _ c.rows.invariant.listed.calm.steady c.requires.sink
 
 pub take-requires-clause-last : goal.take-requires-clause-last
 take-requires-clause-last g c = last_in_bounds _ _ _ _ _ _ _ _ c.rows.invariant

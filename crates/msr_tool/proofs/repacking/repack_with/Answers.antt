@@ -1,4 +1,4 @@
-use Rattle.std.proofs.Common.{◌≡◌, inl, inr, ◌++◌, [], None, map, refl, ap, arith, rules}
+use Rattle.std.proofs.Common.{inl, inr, ◌++◌, [], None, map, refl, ap, subst, arith, rules}
 use Rattle.std.proofs.lemmas.Result.{err_from_is_err_and}
 use Rattle.std.specs.Option.{option_to_list}
 use Rattle.msr_kinds.specs.Lengths.{bytes_of}
@@ -7,18 +7,16 @@ use Rattle.msr_segments.specs.Spans.{Following}
 use Rattle.msr_report_reader.specs.Content.{IsFirst}
 use Rattle.msr_report_reader.proofs.Ranges.{is_length}
 use Rattle.msr_devices.proofs.Chaining.{calm_same, steady_can_count}
-use Rattle.msr_input.specs.Reading.{StopsReading}
 use Rattle.msr_output.specs.Output.{segment_of_packed}
 use Rattle.msr_tool.specs.Settings.{settings_of}
-use Rattle.msr_tool.specs.Fault.{fault_of_reading}
-use Rattle.msr_tool.specs.declared.fault.ToolFault.TheVariants as fault
+use Rattle.msr_tool.specs.Writing.{StopsLining}
 use Rattle.msr_tool.proofs.Lines.{can_take_row, prefix_lined}
 use Rattle.msr_tool.proofs.RowsSoFar.{RecordMore, more_read, no_rows, record_more, rows_end, rows_read, rows_stop}
-use Rattle.msr_tool.proofs.StoppedRepacks.{all_ends, read_ends, read_failed, write_ends, write_failed, write_unread}
-use Rattle.msr_tool.proofs.RepackUnderWay.{UnderWay, done, flush_stops, flushed, kept_up, more}
+use Rattle.msr_tool.proofs.StoppedRepacks.{all_ends, ok_unread, read_ends, read_failed, write_ends, write_failed, write_unread}
+use Rattle.msr_tool.proofs.RepackUnderWay.{UnderWay, done, flushed, kept_up, more}
 use Rattle.msr_tool.proofs.repacking.repack_with.Given as given
 use Rattle.msr_tool.proofs.repacking.repack_with.Goals as goal
-use Rattle.msr_tool.proofs.repacking.repack_with.Goals.{After-must_flush, After-take, In_err-next}
+use Rattle.msr_tool.proofs.repacking.repack_with.Goals.{After-must_flush, After-take}
 
 pub records-init : goal.records-init
 records-init g c =
@@ -38,17 +36,6 @@ records-init g c =
       };
       ready = λ is_before_reads. inr c.new-writer.ensures.none_wait;
     }
-
--- why no record was read
-why_stopped : (g : given.Over) (c : In_err-next g)
-    → StopsReading (settings_of c.args.options) (g.R.Source.device c.args.source.now)
-    (g.R.Source.device c.next_record.new.source)
-    (map segment_of_packed c.records.invariant.under.packed
-    ++ option_to_list c.records.invariant.under.joining.current) c.in_err-next.field-0.0
-why_stopped g c =
-    let u = c.records.invariant.under in
-    rows_stop _ _ _ _ _ _ _ c.in_err-next.field-0.0 u.rows
-    (c.in_err-next.ensures.read _ u.rows.records u.rows.answers u.rows.has_read)
 
 -- one more record is read
 one_read : (g : given.Over) (c : After-take g)
@@ -77,29 +64,27 @@ one_taken g c m =
     (c.in_ok-take.ensures.written _ u.packed u.joining.current u.lined) c.in_ok-take.ensures.last
     (c.in_ok-take.ensures.encoded u.encoded) (rw c.in_ok-take.ensures.form u.form)
 
-pub returns-in_err-next-clause-does : goal.returns-in_err-next-clause-does
-returns-in_err-next-clause-does g c =
+pub returns-in_err-next : goal.returns-in_err-next
+returns-in_err-next g c =
     let p = err_from_is_err_and c.from_residual.result c.from_residual.ensures.1 in
     let u = c.records.invariant.under in
     let given = map segment_of_packed u.packed ++ option_to_list u.joining.current in
     let why = c.in_err-next.field-0.0 in
-    let stops = why_stopped g (goal.at.returns-in_err-next-clause-does g c).In_err-next in
+    let stops = rows_stop _ _ _ _ _ _ _ why u.rows
+    (c.in_err-next.ensures.read _ u.rows.records u.rows.answers u.rows.has_read) in
     let prefix = rw u.form at (prefix_lined _ _ c.records.writer u.packed u.joining.current u.goes_on u.lined) in
-    rw (p.1, p.2) (read_ends _ (settings_of c.args.options) _ _ _ _ _ given why u.rows.has_read.came.steady
-    c.next_record.ensures.few u.calm.steady stops (read_failed c.args.options _ _ _ _ given why stops prefix))
+    rw (p.1, p.2) (
+      read_ends _ (settings_of c.args.options) _ _ _ _ _ given why u.rows.has_read.came.steady
+          c.next_record.ensures.few u.calm.steady stops (read_failed c.args.options _ _ _ _ given why stops prefix),
+      λ is_before_reads e. kept_up _ _ _ _ _ _ _ c.next_record.new.self _ why u
+          (c.records.invariant.ready is_before_reads) e stops c.in_err-next.ensures.unread
+          (λ read. c.in_err-next.ensures.failed
+          (g.R.Source.device c.args.source.now) u.rows.records u.rows.answers u.rows.has_read
+          (rw read refl)) (λ read. c.in_err-next.ensures.awaited (rw read refl)),
+    )
 
-pub returns-in_err-next-clause-kept_up : goal.returns-in_err-next-clause-kept_up
-returns-in_err-next-clause-kept_up g c =
-    let p = err_from_is_err_and c.from_residual.result c.from_residual.ensures.1 in
-    let u = c.records.invariant.under in
-    let why = c.in_err-next.field-0.0 in
-    let stops = why_stopped g (goal.at.returns-in_err-next-clause-kept_up g c).In_err-next in
-    rw (p.1, p.2) (λ is_before_reads e.
-    let same : fault_of_reading why ≡ fault.Read = cc in
-    kept_up _ _ _ _ _ _ _ c.next_record.new.self _ why u (c.records.invariant.ready is_before_reads) same stops c.in_err-next.ensures.unread
-    (λ read. c.in_err-next.ensures.failed
-    (g.R.Source.device c.args.source.now) u.rows.records u.rows.answers u.rows.has_read
-    (rw read refl)) (λ read. c.in_err-next.ensures.awaited (rw read refl)))
+pub take-requires-clause-count : goal.take-requires-clause-count
+take-requires-clause-count g c = steady_can_count _ _ c.records.invariant.under.calm.steady c.requires.sink
 
 pub take-requires-clause-row : goal.take-requires-clause-row
 take-requires-clause-row g c =
@@ -110,43 +95,36 @@ take-requires-clause-row g c =
     c.next_record.new.self.following c.in-Some.next.row u.lined
     (ap (λ (f : Following). f.current) u.rows.stands) u.rows.in_bounds step row
 
-pub returns-in_err-take-clause-does : goal.returns-in_err-take-clause-does
-returns-in_err-take-clause-does g c =
+pub returns-in_err-take : goal.returns-in_err-take
+returns-in_err-take g c =
     let p = err_from_is_err_and c.from_residual-in_err-take.result c.from_residual-in_err-take.ensures.1 in
     let u = c.records.invariant.under in
-    let m = one_read g (goal.at.returns-in_err-take-clause-does g c).After-take in
+    let m = one_read g (goal.at.returns-in_err-take g c).After-take in
+    let why = c.in_err-take.field-0.0 in
     let stops = rw u.form at (c.in_err-take.ensures.written
     (g.W.Sink.device c.args.sink.now) u.packed u.joining.current u.lined) in
     let after = more_read _ _ _ _ _ u.joining c.in-Some.next.row m in
-    rw (p.1, p.2) (write_ends _ _ _ _ _ _ _ _ c.in_err-take.field-0.0 m.rows.has_read.came.steady u.calm.steady
-    c.take.ensures.few stops (write_failed c.args.options _ _ _ _ c.in_err-take.field-0.0 after stops))
+    rw (p.1, p.2) (
+      write_ends _ _ _ _ _ _ _ _ why m.rows.has_read.came.steady u.calm.steady c.take.ensures.few stops
+          (write_failed c.args.options _ _ _ _ why after stops),
+      λ is_before_reads. write_unread _ _ _ _ why stops,
+    )
 
-pub returns-in_err-take-clause-kept_up : goal.returns-in_err-take-clause-kept_up
-returns-in_err-take-clause-kept_up g c =
-    let p = err_from_is_err_and c.from_residual-in_err-take.result c.from_residual-in_err-take.ensures.1 in
-    let u = c.records.invariant.under in
-    rw (p.1, p.2) (λ kept_up. write_unread _ _ _ _ c.in_err-take.field-0.0
-    (c.in_err-take.ensures.written (g.W.Sink.device c.args.sink.now) u.packed u.joining.current u.lined))
-
-pub returns-in_err-flush-clause-does : goal.returns-in_err-flush-clause-does
-returns-in_err-flush-clause-does g c =
+pub returns-in_err-flush : goal.returns-in_err-flush
+returns-in_err-flush g c =
     let p = err_from_is_err_and c.from_residual-in_err-flush.result c.from_residual-in_err-flush.ensures.1 in
-    let at = goal.at.returns-in_err-flush-clause-does g c in
+    let at = goal.at.returns-in_err-flush g c in
     let taken = one_taken g at.After-must_flush (one_read g at.After-take) in
-    let stops = c.in_err-flush.ensures.written
-    (g.W.Sink.device c.args.sink.now) taken.packed taken.joining.current taken.lined in
-    rw (p.1, p.2) (write_ends _ _ _ _ _ _ _ _ c.in_err-flush.field-0.0 taken.rows.has_read.came.steady
-    taken.calm.steady c.flush.ensures.few stops
-    (flush_stops _ _ _ _ _ _ _ _ c.in_err-flush.field-0.0 taken stops))
-
-pub returns-in_err-flush-clause-kept_up : goal.returns-in_err-flush-clause-kept_up
-returns-in_err-flush-clause-kept_up g c =
-    let p = err_from_is_err_and c.from_residual-in_err-flush.result c.from_residual-in_err-flush.ensures.1 in
-    let at = goal.at.returns-in_err-flush-clause-kept_up g c in
-    let taken = one_taken g at.After-must_flush (one_read g at.After-take) in
-    rw (p.1, p.2) (λ kept_up. write_unread _ _ _ _ c.in_err-flush.field-0.0
-    (c.in_err-flush.ensures.written
-    (g.W.Sink.device c.args.sink.now) taken.packed taken.joining.current taken.lined))
+    let why = c.in_err-flush.field-0.0 in
+    let given = map segment_of_packed taken.packed ++ option_to_list taken.joining.current in
+    let stops = subst (λ (form : Form). StopsLining form (g.W.Sink.device c.args.sink.now)
+    (g.W.Sink.device c.flush.new.sink) given why) taken.form
+    (c.in_err-flush.ensures.written _ taken.packed taken.joining.current taken.lined) in
+    rw (p.1, p.2) (
+      write_ends _ _ _ _ _ _ _ _ why taken.rows.has_read.came.steady taken.calm.steady c.flush.ensures.few stops
+          (write_failed c.args.options _ _ _ _ why (rows_read _ _ _ _ _ taken.joining taken.rows) stops),
+      λ is_before_reads. write_unread _ _ _ _ why stops,
+    )
 
 pub flush-requires-clause-count : goal.flush-requires-clause-count
 flush-requires-clause-count g c =
@@ -172,27 +150,26 @@ records-preserved g c =
     let holds = rw c.give_back.ensures at c.must_flush.ensures.before_reads in
     rw c.give_back.ensures (record { under = taken; ready = λ is_before_reads. inl ((holds is_before_reads).0 c.if-must_flush.false) })
 
-pub returns-in_err-segments-clause-does : goal.returns-in_err-segments-clause-does
-returns-in_err-segments-clause-does g c =
+pub finish-requires-clause-count : goal.finish-requires-clause-count
+finish-requires-clause-count g c = steady_can_count _ _ c.records.invariant.under.calm.steady c.requires.sink
+
+pub returns-in_err-segments : goal.returns-in_err-segments
+returns-in_err-segments g c =
     let p = err_from_is_err_and c.from_residual-in_err-segments.result c.from_residual-in_err-segments.ensures.1 in
     let u = c.records.invariant.under in
     let end = rw c.in_default.is at (c.in_ok-next.ensures.read
     (g.R.Source.device c.args.source.now) u.rows.records u.rows.answers u.rows.has_read) in
+    let why = c.in_err-segments.field-0.0 in
     let stops = rw u.form at (c.in_err-segments.ensures.written
     (g.W.Sink.device c.args.sink.now) u.packed u.joining.current u.lined) in
-    rw (p.1, p.2) (write_ends _ _ _ _ _ _ _ _ c.in_err-segments.field-0.0 end.none.read.came.steady u.calm.steady
-    c.finish.ensures.few stops (write_failed c.args.options _ _ _ _ c.in_err-segments.field-0.0
-    (rows_read _ _ _ _ _ u.joining u.rows) stops))
+    rw (p.1, p.2) (
+      write_ends _ _ _ _ _ _ _ _ why end.none.read.came.steady u.calm.steady c.finish.ensures.few stops
+          (write_failed c.args.options _ _ _ _ why (rows_read _ _ _ _ _ u.joining u.rows) stops),
+      λ is_before_reads. write_unread _ _ _ _ why stops,
+    )
 
-pub returns-in_err-segments-clause-kept_up : goal.returns-in_err-segments-clause-kept_up
-returns-in_err-segments-clause-kept_up g c =
-    let p = err_from_is_err_and c.from_residual-in_err-segments.result c.from_residual-in_err-segments.ensures.1 in
-    let u = c.records.invariant.under in
-    rw (p.1, p.2) (λ kept_up. write_unread _ _ _ _ c.in_err-segments.field-0.0
-    (c.in_err-segments.ensures.written (g.W.Sink.device c.args.sink.now) u.packed u.joining.current u.lined))
-
-pub returns-clause-does : goal.returns-clause-does
-returns-clause-does g c =
+pub returns : goal.returns
+returns g c =
     let u = c.records.invariant.under in
     let end = rw c.in_default.is at (c.in_ok-next.ensures.read
     (g.R.Source.device c.args.source.now) u.rows.records u.rows.answers u.rows.has_read) in
@@ -207,11 +184,13 @@ returns-clause-does g c =
       read = search rules;
       empty = search rules;
       mismatched = search rules;
-    } in
-    all_ends _ _ _ _ _ _ end.none.read.came.steady wrote.written.calm.steady
-    (done c.args.options _ _ _ _ _ c.counts-counts.result _ gave u.rows.writable wrote
-    (rw c.tolerance.ensures.same at c.tolerance.ensures.in_range.0)
-    (rw c.tolerance.ensures.same at c.tolerance.ensures.in_range.1) (omega arith)
-    c.output_keeps_segments.ensures c.output_has_size.ensures
-    c.length.ensures.same (ap (λ (form : Form). form.kinds) c.form-form.ensures) c.tolerance.ensures.same refl refl
-    is_first)
+    } in (
+      all_ends _ _ _ _ _ _ end.none.read.came.steady wrote.written.calm.steady
+          (done c.args.options _ _ _ _ _ c.counts-counts.result _ gave u.rows.writable wrote
+          (rw c.tolerance.ensures.same at c.tolerance.ensures.in_range.0)
+          (rw c.tolerance.ensures.same at c.tolerance.ensures.in_range.1) (omega arith)
+          c.output_keeps_segments.ensures c.output_has_size.ensures
+          c.length.ensures.same (ap (λ (form : Form). form.kinds) c.form-form.ensures) c.tolerance.ensures.same refl refl
+          is_first),
+      λ is_before_reads. ok_unread _ _,
+    )

@@ -8,6 +8,11 @@ returns-in_err-fed-clause-answer g c =
     let p = err_from_is_err_and c.from_residual.result c.from_residual.ensures.1 in
     rw (p.1, p.2) (repack_stops c.args.options _ _ _ _ _ _ c.in_err-fed.ensures.does)
 
+pub returns-in_err-fed-clause-kept_up : goal.returns-in_err-fed-clause-kept_up
+returns-in_err-fed-clause-kept_up g c =
+    let p = err_from_is_err_and c.from_residual.result c.from_residual.ensures.1 in
+    rw (p.1, p.2) c.in_err-fed.ensures.kept_up
+
 pub returns-in_err-write_text-clause-answer : goal.returns-in_err-write_text-clause-answer
 returns-in_err-write_text-clause-answer g c =
     let p = err_from_is_err_and c.from_residual-in_err-write_text.result c.from_residual-in_err-write_text.ensures.1 in
