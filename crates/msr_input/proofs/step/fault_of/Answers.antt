@@ -1,4 +1,5 @@
-use Rattle.std.proofs.Common.{rules}
+use Rattle.std.proofs.Common.{rules, sym, ◌∙◌}
+use Rattle.std.proofs.lemmas.Bool.{true≢false}
 use Rattle.msr_input.proofs.Strict.{alone_agreed, alone_before, alone_lenient, alone_unsaid}
 use Rattle.msr_input.proofs.step.fault_of.Goals as goal
 
@@ -13,7 +14,7 @@ returns-then-not-strict-clause-refused c = λ other. rw c.if-not-strict.true
 pub returns-in_default-reverse_in-clause-refused : goal.returns-in_default-reverse_in-clause-refused
 returns-in_default-reverse_in-clause-refused c = λ other.
     alone_agreed c.args.strict c.args.bytes.now c.args.kind _ c.in_default-reverse_in.ensures.some
-    (λ e. let t = c.in_default-reverse_in.field-0-test in cc) (c.requires other)
+    (λ e. true≢false (sym c.in_default-reverse_in.field-0-test ∙ e)) (c.requires other)
 
 pub returns-in_default-reverse_in-2-clause-refused : goal.returns-in_default-reverse_in-2-clause-refused
 returns-in_default-reverse_in-2-clause-refused c = λ other.
