@@ -107,9 +107,9 @@ some_samples (one ∷ packed) writable =
     All-cons HasSome one packed (All-head IsWritable one.segment (map segment_of_packed packed) writable).some
     (some_samples packed (All-tail IsWritable one.segment (map segment_of_packed packed) writable))
 
-few_runs : (size runs bytes : ℕ) → 1 ≤ size → bytes ≡ size * runs → bytes < 2 ^ 64 → runs < 2 ^ 64
+few_runs : (size runs bytes : ℕ) → 256 ≤ size → bytes ≡ size * runs → bytes < 2 ^ 64 → runs < 2 ^ 64
 few_runs size runs bytes some are short =
-    let most : 1 * runs ≤ size * runs = mul-le-mul_right runs some in
+    let most : 256 * runs ≤ size * runs = mul-le-mul_right runs some in
     omega arith
 
 -- all was read and written
@@ -117,7 +117,7 @@ pub done : (choice : Choice) (source0 sink0 sink : Device) (segments : List Segm
     (counts : Counts) (report : Report) →
     GaveReadable source0 (settings_of choice) segments counts → All IsWritable segments
     → LinesAll (form_chosen choice) sink0 sink segments lines →
-    1 ≤ choice.tolerance → choice.tolerance ≤ 1_000_000 → 1 ≤ size_of choice → OutputKeepsSegments → OutputHasSize →
+    1 ≤ choice.tolerance → choice.tolerance ≤ 1_000_000 → 256 ≤ size_of choice → OutputKeepsSegments → OutputHasSize →
     report.length ≡ choice.record_length → report.kinds ≡ choice.kinds → report.tolerance ≡ choice.tolerance
     → report.counts ≡ counts
     → report.segments.items ≡ lines → IsFirst (bytes_of report.length) report.tolerance report.counts

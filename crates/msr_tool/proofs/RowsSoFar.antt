@@ -16,11 +16,10 @@ use Rattle.msr_devices.specs.Device.{Device}
 use Rattle.msr_base.specs.declared.counts.Counts.{Counts}
 use Rattle.msr_input.specs.Input.{HaveBegun, rows_of_records}
 use Rattle.msr_input.specs.Reading.{GaveReadable, IsWritable, StopsAfter, StopsReading}
-use Rattle.msr_input.specs.Rows.{RowReading, HasReadRows, ReadsNoRow, ReadsRecord, ReadsRow, ReadsToEnd, StepsTo, StopsRows, row_settings}
+use Rattle.msr_input.specs.Rows.{RowReading, HasReadRows, ReadsNoRow, ReadsRow, ReadsToEnd, StepsTo, StopsRows, row_settings}
 use Rattle.msr_input.specs.declared.settings.Settings.{Settings}
 use Rattle.msr_input.specs.declared.fault.ReadFault.{ReadFault}
 use Rattle.msr_input.specs.Steps.{CanJoin}
-use Rattle.msr_input.specs.declared.row_reader.NextRecord.{NextRecord}
 use Rattle.msr_input.specs.declared.row_reader.NextRow.{NextRow}
 use Rattle.msr_input.proofs.RecordsThatCame.{come_given}
 use Rattle.msr_input.proofs.Histories.{push_writable, stops_after}
@@ -126,7 +125,7 @@ pub record RecordMore (settings : Settings) (source0 source : Device) (reading :
   pub rows : RowsSoFar settings source0 source reading (given ++ option_to_list (ended_with next joining.current)) new
   pub current : new.current ≡ current_with next joining.current
 
-record_more_so : (settings : Settings) (source0 source source' : Device) (reading reading' : RowReading)
+pub record_more : (settings : Settings) (source0 source source' : Device) (reading reading' : RowReading)
     (given : List Segment) (joining : Joining) (next : Option NextRow)
     (u : RowsSoFar settings source0 source reading given joining)
     → MatchOption next (ReadsNoRow source0 source' reading' u.records u.answers)
@@ -135,7 +134,7 @@ record_more_so : (settings : Settings) (source0 source source' : Device) (readin
     → IfSome next (λ row. IsInBounds reading'.following.current)
     → IfSome next (λ found. CanJoin found.row × IsWritable (row_segment found.row))
     → RecordMore settings source0 source' reading' given joining next
-record_more_so settings source0 source source' reading reading' given joining None u reads step still bounds row =
+record_more settings source0 source source' reading reading' given joining None u reads step still bounds row =
     record {
       new = joining;
       rows = subst (λ (segments : List Segment). RowsSoFar settings source0 source' reading' segments joining)
@@ -151,22 +150,11 @@ record_more_so settings source0 source source' reading reading' given joining No
           });
       current = refl;
     }
-record_more_so settings source0 source source' reading reading' given joining
+record_more settings source0 source source' reading reading' given joining
     (Some next) u reads step still bounds row =
     let m = row_more settings source0 source source' reading reading' given joining next u reads step still bounds
     row.1 in
     record { new = m.new; rows = m.rows; current = m.current }
-
-pub record_more : (settings : Settings) (source0 source source' : Device) (reading reading' : RowReading)
-    (given : List Segment) (joining : Joining) (next : NextRecord)
-    (u : RowsSoFar settings source0 source reading given joining)
-    → ReadsRecord source0 source' reading' u.records u.answers next
-    → StepsTo reading.following next.row reading'.following → row_settings reading' ≡ row_settings reading
-    → IfSome next.row (λ row. IsInBounds reading'.following.current)
-    → IfSome next.row (λ found. CanJoin found.row × IsWritable (row_segment found.row))
-    → RecordMore settings source0 source' reading' given joining next.row
-record_more settings source0 source source' reading reading' given joining next u reads step still bounds row =
-    record_more_so settings source0 source source' reading reading' given joining next.row u reads step still bounds row
 
 -- all segments so far, with the one that has not ended
 begun_all : (settings : Settings) (source0 source : Device) (reading : RowReading) (given : List Segment)

@@ -66,6 +66,9 @@ rows-preserved g c =
     (c.in_ok-take.ensures.written _ u.given u.joining.current listed u.last)
     c.in_ok-take.ensures.last c.in_ok-take.ensures.few_wait
 
+pub finish-requires-clause-count : goal.finish-requires-clause-count
+finish-requires-clause-count g c = steady_can_count _ _ c.rows.invariant.listed.calm.steady c.requires.sink
+
 pub finish-requires-clause-last : goal.finish-requires-clause-last
 finish-requires-clause-last g c = last_in_bounds _ _ _ _ _ _ _ _ c.rows.invariant
 

@@ -1,4 +1,4 @@
-use Rattle.std.proofs.Common.{inl, inr, ◌++◌, [], None, map, refl, ap, subst, arith, rules}
+use Rattle.std.proofs.Common.{inl, inr, ◌++◌, [], None, map, refl, ap, subst, rules}
 use Rattle.std.proofs.lemmas.Result.{err_from_is_err_and}
 use Rattle.std.specs.Option.{option_to_list}
 use Rattle.msr_kinds.specs.Lengths.{bytes_of}
@@ -49,7 +49,7 @@ one_read g c =
     let step = rw c.in-Some.is at c.in_ok-next.ensures.step in
     let bounds = rw c.in-Some.is at c.in_ok-next.ensures.in_bounds in
     let row = rw c.in-Some.is at c.in_ok-next.ensures.row in
-    record_more _ _ _ _ _ _ _ _ c.in-Some.next u.rows reads step c.next_record.ensures.settings bounds row
+    record_more _ _ _ _ _ _ _ _ c.in-Some.next.row u.rows reads step c.next_record.ensures.settings bounds row
 
 -- and its samples are written
 one_taken : (g : given.Over) (c : After-must_flush g)
@@ -188,7 +188,7 @@ returns g c =
       all_ends _ _ _ _ _ _ end.none.read.came.steady wrote.written.calm.steady
           (done c.args.options _ _ _ _ _ c.counts-counts.result _ gave u.rows.writable wrote
           (rw c.tolerance.ensures.same at c.tolerance.ensures.in_range.0)
-          (rw c.tolerance.ensures.same at c.tolerance.ensures.in_range.1) (omega arith)
+          (rw c.tolerance.ensures.same at c.tolerance.ensures.in_range.1) c.length.ensures.least
           c.output_keeps_segments.ensures c.output_has_size.ensures
           c.length.ensures.same (ap (λ (form : Form). form.kinds) c.form-form.ensures) c.tolerance.ensures.same refl refl
           is_first),

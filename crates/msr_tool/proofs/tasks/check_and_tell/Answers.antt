@@ -1,6 +1,7 @@
 use Rattle.std.proofs.Common.{rules, ◌≡◌}
 use Rattle.std.proofs.lemmas.Result.{err_from_is_err_and}
 use Rattle.msr_tool.specs.Tasks.{verdict_line}
+use Rattle.msr_tool.proofs.StoppedRepacks.{ok_unread}
 use Rattle.msr_tool.proofs.StoppedTexts.{check_stops, line_refused, line_cut}
 use Rattle.msr_tool.proofs.tasks.check_and_tell.Goals as goal
 
@@ -23,3 +24,8 @@ returns-in_err-write_all-clause-answer g c =
     let part = c.in_err-write_all.ensures.part in
     let line : c.as_bytes.result.now ≡ verdict_line c.in_ok-verdict.verdict = search rules in
     rw (p.1, p.2) (line_cut _ _ _ _ a.0 a.1 c.as_bytes.result.now part.0 c.in_ok-verdict.verdict a.2 a.3 a.4 line part.1)
+
+pub returns-in_err-write_all-clause-read : goal.returns-in_err-write_all-clause-read
+returns-in_err-write_all-clause-read g c =
+    let p = err_from_is_err_and c.from_residual-in_err-write_all.result c.from_residual-in_err-write_all.ensures.1 in
+    rw (p.1, p.2) ((λ e. absurd cc), (λ failed. ok_unread _ _ (c.in_ok-verdict.ensures.read.1 failed)))
