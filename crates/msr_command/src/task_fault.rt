@@ -4,7 +4,7 @@ use msr_tool::ToolFault;
 use std::{fmt, io};
 
 /// Why a task ended before it was done.
-#[derive(Drop)]
+#[derive(Clone, Copy)]
 pub(crate) enum TaskFault<'a> {
     /// The file with this name could not be opened, or not be made, and why.
     CannotOpen(&'a str, io::Error),
@@ -28,15 +28,20 @@ impl fmt::Display for TaskFault<'_> {
     ghost output = { text_of };
 
     fn fmt<W: fmt::Write>(&self, f: &mut fmt::Formatter<W>) -> fmt::Result {
-        match self {
-            TaskFault::CannotOpen(name, _) => write!(f, "cannot open {}", Shown { path: *name }),
-            TaskFault::Input(name, fault) => write!(f, "{}: {fault}", Shown { path: *name }),
-            TaskFault::SameFile => f.write_str("the output is the input"),
-            TaskFault::SameOutput => f.write_str("two outputs are one file"),
-            TaskFault::Overlap => f.write_str("the folders overlap"),
-            TaskFault::Closed => f.write_str("write fault"),
-            TaskFault::Tool(fault) => write!(f, "{fault}"),
-        }
+        let text = match self {
+            TaskFault::CannotOpen(name, _) => {
+                return write!(f, "cannot open {}", Shown { path: *name });
+            }
+            TaskFault::Input(name, fault) => {
+                return write!(f, "{}: {fault}", Shown { path: *name });
+            }
+            TaskFault::Tool(fault) => return write!(f, "{fault}"),
+            TaskFault::SameFile => "the output is the input",
+            TaskFault::SameOutput => "two outputs are one file",
+            TaskFault::Overlap => "the folders overlap",
+            TaskFault::Closed => "write fault",
+        };
+        f.write_str(text)
     }
 }
 

@@ -27,7 +27,7 @@ use std::rt::Files;
 pub(crate) fn do_task<'a, R: Files, I: Source, O: Sink>(
     rt: &R,
     alloc: Global,
-    task: Task<'a>,
+    task: &Task<'a>,
     input: &mut I,
     output: &mut O,
 ) -> Result<Done, TaskFault<'a>>
@@ -35,14 +35,13 @@ where
     R::File: LockFile,
     requires input { CanCountCall (I.device input.old) }
     requires output { CanCountCall (O.device output.old) }
-    ensures { Does task.entry (I.device input.old) (O.device output.old) (O.device output.new) result }
+    ensures { Does task.now (I.device input.old) (O.device output.old) (O.device output.new) result }
 {
     let Ok(()) = require_open(output) else {
-        return Err(end_closed(rt, &task));
+        return Err(end_closed(rt, task));
     };
-    let feeds = matches!(task, Task::Feed(_));
     let done = do_open(rt, alloc, task, input, output)?;
-    if !feeds {
+    if !matches!(task, Task::Feed(_)) {
         settle_standard_output(rt)?;
     }
     Ok(done)
@@ -52,7 +51,7 @@ where
 fn do_open<'a, R: Files, I: Source, O: Sink>(
     rt: &R,
     alloc: Global,
-    task: Task<'a>,
+    task: &Task<'a>,
     input: &mut I,
     output: &mut O,
 ) -> Result<Done, TaskFault<'a>>
@@ -60,13 +59,13 @@ where
     R::File: LockFile,
     requires input { CanCountCall (I.device input.old) }
     requires output { CanCountCall (O.device output.old) }
-    ensures { Does task.entry (I.device input.old) (O.device output.old) (O.device output.new) result }
+    ensures { Does task.now (I.device input.old) (O.device output.old) (O.device output.new) result }
 {
     match task {
         Task::Repack(asked) => repack_file(rt, alloc, asked, input, output),
         Task::List(asked) => list_file(rt, alloc, asked, input, output),
         Task::Check(asked) => check_files(rt, alloc, asked, output),
-        Task::Compare(asked) => compare_files(rt, alloc, &asked, input, output),
+        Task::Compare(asked) => compare_files(rt, alloc, asked, input, output),
         Task::Archive(asked) => repack_archive(rt, alloc, asked, output),
         Task::Verify(asked) => verify_archive(rt, alloc, asked, output),
         Task::Feed(asked) => feed_input(rt, alloc, asked, input, output),
@@ -103,13 +102,13 @@ fn end_closed<'a, R: Files>(rt: &R, task: &Task<'a>) -> TaskFault<'a>
 fn repack_file<'a, R: Files, I: Source, O: Sink>(
     rt: &R,
     alloc: Global,
-    asked: Repacking<'a>,
+    asked: &Repacking<'a>,
     input: &mut I,
     output: &mut O,
 ) -> Result<Done, TaskFault<'a>>
     requires input { CanCountCall (I.device input.old) }
     requires output { CanCountCall (O.device output.old) }
-    ensures { RepacksNamed asked.entry.options asked.entry.input.now
+    ensures { RepacksNamed asked.now.options asked.now.input.now
         (I.device input.old) (O.device output.old) (O.device output.new) result }
 {
     let (options, to) = (asked.options, asked.output);
@@ -171,13 +170,13 @@ fn repack_to<'a, I: Source, W: Write + Drop, O: Sink>(
 fn feed_input<'a, R: Files, I: Source, O: Sink>(
     rt: &R,
     alloc: Global,
-    asked: Feeding<'a>,
+    asked: &Feeding<'a>,
     input: &mut I,
     output: &mut O,
 ) -> Result<Done, TaskFault<'a>>
     requires input { CanCountCall (I.device input.old) }
     requires output { CanCountCall (O.device output.old) }
-    ensures { Feeds asked.entry.options (I.device input.old)
+    ensures { Feeds asked.now.options (I.device input.old)
         (O.device output.old) (O.device output.new) result }
 {
     let mut file = create_report(rt, asked.report)?;
@@ -235,13 +234,13 @@ fn list_from<'a, I: Source, O: Sink>(
 fn list_file<'a, R: Files, I: Source, O: Sink>(
     rt: &R,
     alloc: Global,
-    asked: Listing<'a>,
+    asked: &Listing<'a>,
     input: &mut I,
     output: &mut O,
 ) -> Result<Done, TaskFault<'a>>
     requires input { CanCountCall (I.device input.old) }
     requires output { CanCountCall (O.device output.old) }
-    ensures { ListsNamed asked.entry.form asked.entry.options asked.entry.input.now (I.device input.old)
+    ensures { ListsNamed asked.now.form asked.now.options asked.now.input.now (I.device input.old)
         (O.device output.old) (O.device output.new) result }
 {
     let (options, form) = (asked.options, asked.form);
@@ -256,7 +255,7 @@ fn list_file<'a, R: Files, I: Source, O: Sink>(
 fn check_files<'a, R: Files, O: Sink>(
     rt: &R,
     alloc: Global,
-    asked: Checking<'a>,
+    asked: &Checking<'a>,
     output: &mut O,
 ) -> Result<Done, TaskFault<'a>>
     requires { CanCountCall (O.device output.old) }
@@ -287,29 +286,29 @@ fn require_apart<'a, R: Files>(
 fn repack_archive<'a, R: Files, O: Sink>(
     rt: &R,
     alloc: Global,
-    asked: Archiving<'a>,
+    asked: &Archiving<'a>,
     output: &mut O,
 ) -> Result<Done, TaskFault<'a>>
 where
     R::File: LockFile,
     requires output { CanCountCall (O.device output.old) }
-    ensures { WalksArchive asked.entry.days (O.device output.old) (O.device output.new) result }
+    ensures { WalksArchive asked.now.days (O.device output.old) (O.device output.new) result }
 {
     require_apart(rt, alloc, asked.folders)?;
-    let walked = walk(rt, alloc, &asked, output)?;
+    let walked = walk(rt, alloc, asked, output)?;
     Ok(Done::of_walk(walked.found, walked.unopened, asked.below.is_empty(), false))
 }
 
 fn verify_archive<'a, R: Files, O: Sink>(
     rt: &R,
     alloc: Global,
-    asked: Verifying<'a>,
+    asked: &Verifying<'a>,
     output: &mut O,
 ) -> Result<Done, TaskFault<'a>>
     requires { CanCountCall (O.device output.old) }
     ensures { VerifiesArchive (O.device output.old) (O.device output.new) result }
 {
     require_apart(rt, alloc, asked.folders)?;
-    let found = verify(rt, alloc, &asked, output)?;
+    let found = verify(rt, alloc, asked, output)?;
     Ok(Done::of_walk(found, None, asked.below.is_empty(), true))
 }
