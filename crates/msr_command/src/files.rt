@@ -67,10 +67,8 @@ pub(crate) fn open_input<'a, R: Files>(
     if name == "-" {
         return Ok((None, standard_input(rt)?));
     }
-    match open_file(rt, name) {
-        Ok((file, id)) => Ok((Some(file), id)),
-        Err(fault) => Err(fault),
-    }
+    let (file, id) = open_file(rt, name)?;
+    Ok((Some(file), id))
 }
 
 /// Creates the file with this name, or opens it and cuts it to nothing, unless it is the input by some name, or what

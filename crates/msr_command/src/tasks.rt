@@ -180,8 +180,7 @@ fn feed_input<'a, R: Files, I: Source, O: Sink>(
         (O.device output.old) (O.device output.new) result }
 {
     let mut file = create_report(rt, asked.report)?;
-    let fed = feed_to(rt, alloc, &mut file, asked.options, input, output);
-    match fed {
+    match feed_to(rt, alloc, &mut file, asked.options, input, output) {
         Ok(()) => Ok(Done::Written),
         Err(fault) => {
             file.set_len(0).ok();
