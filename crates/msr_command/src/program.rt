@@ -81,10 +81,10 @@ where
     requires output { CanCountCall (O.device output.old) }
     ensures { EndsAsked asked.entry (I.device input.old) (O.device output.old) (O.device output.new) result }
 {
-    match &asked {
+    match asked {
         Ok(task) => {
-            let read = FilesRead::of(task);
-            let ended = do_task(rt, alloc, task, input, output);
+            let read = FilesRead::of(&task);
+            let ended = do_task(rt, alloc, &task, input, output);
             let status = match &ended {
                 Ok(done) => done.status(),
                 Err(fault) => {
@@ -95,7 +95,7 @@ where
             tell_person(rt, errors, read, &ended).ok();
             status
         }
-        Err(NoTask::Ending(ending)) => end(output, &mut errors.to, ending),
+        Err(NoTask::Ending(ending)) => end(output, &mut errors.to, &ending),
         Err(NoTask::NotALength) => {
             tell_lengths(errors).ok();
             2

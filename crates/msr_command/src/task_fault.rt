@@ -28,13 +28,9 @@ impl fmt::Display for TaskFault<'_> {
     ghost output = { text_of };
 
     fn fmt<W: fmt::Write>(&self, f: &mut fmt::Formatter<W>) -> fmt::Result {
-        let text = match self {
-            TaskFault::CannotOpen(name, _) => {
-                return write!(f, "cannot open {}", Shown { path: *name });
-            }
-            TaskFault::Input(name, fault) => {
-                return write!(f, "{}: {fault}", Shown { path: *name });
-            }
+        let text = match *self {
+            TaskFault::CannotOpen(path, _) => return write!(f, "cannot open {}", Shown { path }),
+            TaskFault::Input(path, fault) => return write!(f, "{}: {fault}", Shown { path }),
             TaskFault::Tool(fault) => return write!(f, "{fault}"),
             TaskFault::SameFile => "the output is the input",
             TaskFault::SameOutput => "two outputs are one file",

@@ -82,34 +82,34 @@ impl fmt::Display for Hint {
     ghost output = { text_of };
 
     fn fmt<W: fmt::Write>(&self, f: &mut fmt::Formatter<W>) -> fmt::Result {
-        match self {
-            Hint::Gzip => f.write_str("this is gzip"),
-            Hint::MiniSeed3 => f.write_str("this is miniSEED 3, which msrepack does not read"),
-            Hint::Folder => f.write_str("a folder: msrepack archive reads archives"),
-            Hint::UnreadReport => f.write_str("the report cannot be read"),
-            Hint::UnreadRecords => f.write_str("the report can be read, so it is the records"),
-            Hint::Turns => f.write_str(
-                "no record was saved: most segments are one record long, as with channels in turns, or gaps",
-            ),
-            Hint::NoArchive => f.write_str("no folder of an archive below ROOT"),
-            Hint::Waiting => f.write_str(
-                "msrepack waits for records on standard input; msrepack --help tells what else it does",
-            ),
-            Hint::Lengths => f.write_str(
-                "msrepack writes records of 256, 512, 1024, 2048, 4096, 8192, 16384, 32768 or 65536 bytes",
-            ),
-            Hint::System(error) => write!(f, "{error}"),
-            Hint::FirstDay(unopened) => {
-                let side = unopened.side;
-                match unopened.why {
+        let text = match self {
+            Hint::Gzip => "this is gzip",
+            Hint::MiniSeed3 => "this is miniSEED 3, which msrepack does not read",
+            Hint::Folder => "a folder: msrepack archive reads archives",
+            Hint::UnreadReport => "the report cannot be read",
+            Hint::UnreadRecords => "the report can be read, so it is the records",
+            Hint::Turns => {
+                "no record was saved: most segments are one record long, as with channels in turns, or gaps"
+            }
+            Hint::NoArchive => "no folder of an archive below ROOT",
+            Hint::Waiting => {
+                "msrepack waits for records on standard input; msrepack --help tells what else it does"
+            }
+            Hint::Lengths => {
+                "msrepack writes records of 256, 512, 1024, 2048, 4096, 8192, 16384, 32768 or 65536 bytes"
+            }
+            Hint::System(error) => return write!(f, "{error}"),
+            Hint::FirstDay(Unopened { side, why }) => {
+                return match why {
                     Some(error) => write!(
                         f,
                         "the first day refused as cannot open: {side}: {error}"
                     ),
                     None => write!(f, "the first day refused as cannot open: {side}"),
-                }
+                };
             }
-        }
+        };
+        f.write_str(text)
     }
 }
 
