@@ -1,5 +1,6 @@
 use Rattle.std.proofs.Common.{◌∷◌, ◌++◌, [], ap, ◌∙◌}
 use Rattle.std.proofs.lemmas.Result.{err_from_is_err_and}
+use Rattle.msr_devices.proofs.Chaining.{steady_sound, steady_steady, steady_then_few}
 use Rattle.msr_segments.specs.Spans.{Following}
 use Rattle.msr_input.specs.Rows.{answer_told}
 use Rattle.msr_verdict.specs.Packed.{form_by}
@@ -77,3 +78,17 @@ returns-clause-answer g c =
     as_answer _ _ _ (done c.args.report.now start (g.R.Source.device c.records.source)
     (g.R.Source.device c.next_record.new.source) c.records.reader c.next_record.new.self c.records.agreement
     c.end.new.self c.verdict.result u none c.next_record.ensures.settings c.end.ensures c.verdict.ensures)
+
+pub returns-clause-read : goal.returns-clause-read
+returns-clause-read g c =
+    let steady = steady_steady _ _ _ c.records.invariant.read.came.steady c.in_ok-next.ensures.steady in
+    ((λ e. absurd cc), (λ failed. absurd (steady_sound _ _ steady failed)))
+
+pub returns-in_err-next-clause-few : goal.returns-in_err-next-clause-few
+returns-in_err-next-clause-few g c = steady_then_few _ _ _ c.records.invariant.read.came.steady c.next_record.ensures.few
+
+pub returns-in_err-take-clause-few : goal.returns-in_err-take-clause-few
+returns-in_err-take-clause-few g c = steady_then_few _ _ _ c.records.invariant.read.came.steady c.next_record.ensures.few
+
+pub returns-clause-few : goal.returns-clause-few
+returns-clause-few g c = steady_then_few _ _ _ c.records.invariant.read.came.steady c.next_record.ensures.few
