@@ -104,19 +104,13 @@ impl<R: Files> Visitor for Verifier<'_, R> {
         out: &mut O,
         tally: &mut VerifyTally,
     ) -> Result<(), DeviceFault> {
-        match SdsName::parse(path) {
-            Ok(_) => tell_day(self, path, out, tally),
-            Err(fault) => {
-                if self.tree == Tree::Out {
-                    return Ok(());
-                }
-                if kind == FileKind::Gone {
-                    let refused = Judgement::Refused(Refusal::FileUnopened);
-                    return tell(self, path, refused, out, tally);
-                }
-                tell(self, path, Judgement::Skipped(fault), out, tally)
-            }
-        }
+        let judgement = match SdsName::parse(path) {
+            Ok(_) => return tell_day(self, path, out, tally),
+            Err(_) if self.tree == Tree::Out => return Ok(()),
+            Err(_) if kind == FileKind::Gone => Judgement::Refused(Refusal::FileUnopened),
+            Err(fault) => Judgement::Skipped(fault),
+        };
+        tell(self, path, judgement, out, tally)
     }
 
     /// A folder of records that is not there has no list to tell of.

@@ -10,7 +10,7 @@ use msr_devices::{DeviceFault, Sink, write_all};
 use std::alloc::{AllocError, Global};
 
 /// How many entries had each judgement, and how many were neither verified nor skipped.
-#[derive(Clone, Copy)]
+#[derive(Clone, Copy, Default)]
 pub(crate) struct VerifyTally {
     pub verified: u64,
     pub skipped: u64,
@@ -27,16 +27,7 @@ impl VerifyTally {
     pub(crate) fn new() -> VerifyTally
         ensures { IsVerifyTally [] result }
     {
-        VerifyTally {
-            verified: 0,
-            skipped: 0,
-            refused: 0,
-            missing: 0,
-            not_shown: 0,
-            differ: 0,
-            orphans: 0,
-            unverified: 0,
-        }
+        VerifyTally::default()
     }
 
     /// Counts one entry more.
