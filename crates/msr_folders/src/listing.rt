@@ -3,7 +3,7 @@ ghost use Rattle.std.specs.Prelude.{IfOk};
 ghost use Rattle.std.specs.List.Sorted.{IsSorted};
 ghost use Rattle.std.specs.String.{string_cmp};
 
-use std::alloc::Global;
+use std::alloc::{Alloc, Global};
 use std::rt::Files;
 use std::{fs, io};
 
@@ -14,10 +14,25 @@ pub(crate) fn names_in<R: Files>(rt: &R, alloc: Global, folder: &str) -> io::Res
     ensures { IfOk result (λ names. IsSorted string_cmp names.items) }
 {
     let mut names = Vec::new(alloc);
-    for entry in fs::read_dir(&(rt, alloc), folder)? {
-        names.push(String::from_str(alloc, entry?.file_name())?)?;
-    }
+    list(&(rt, alloc), folder, &mut names)?;
     fs::metadata(rt, folder)?;
     names.sort_unstable();
     Ok(names)
+}
+
+/// Appends the names in the folder, as the system gives them. It is generic over what reads them, since each call that
+/// names a pair as the files is dear to prove.
+fn list<F: Files + Alloc<A = Global> + Clone + Drop>(
+    files: &F,
+    folder: &str,
+    names: &mut Vec<String>,
+) -> io::Result<()> {
+    for entry in fs::read_dir(files, folder)? {
+        push_name(names, files.alloc(), entry?.file_name())?;
+    }
+    Ok(())
+}
+
+fn push_name(names: &mut Vec<String>, alloc: Global, name: &str) -> io::Result<()> {
+    Ok(names.push(String::from_str(alloc, name)?)?)
 }
