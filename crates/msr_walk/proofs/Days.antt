@@ -1,5 +1,5 @@
 -- Answers about days.
-use Rattle.std.proofs.Common.{◌≡◌, ◌↔◌, ℕ, refl, sym, map, false, IfOk, List, [], inl, inr, Result, Ok, Err, IsErrOf}
+use Rattle.std.proofs.Common.{◌≡◌, ◌↔◌, ℕ, refl, sym, map, false, true, IfOk, List, [], inl, inr, Result, Ok, Err, IsErrOf, IsTrue}
 use Rattle.std.proofs.lemmas.List.{append-nil}
 use Rattle.msr_devices.specs.Device.{Device}
 use Rattle.msr_kinds.specs.declared.lengths.Length.{Length}
@@ -8,7 +8,7 @@ use Rattle.msr_options.specs.Days.{in_length}
 use Rattle.msr_output.specs.Output.{segment_of_packed}
 use Rattle.msr_report.specs.declared.report.Report.{Report}
 use Rattle.msr_tool.specs.Answer.{IsRepacked, IsStopped}
-use Rattle.msr_tool.specs.Tasks.{Reports}
+use Rattle.msr_tool.specs.Tasks.{IsReported, IsReportedInPart, Reports}
 use Rattle.msr_tool.specs.declared.fault.ToolFault.{ToolFault}
 use Rattle.msr_tool.specs.declared.fault.ToolFault.TheVariants as fault
 use Rattle.msr_options.specs.declared.days.DayOptions.{DayOptions}
@@ -34,24 +34,11 @@ day_stops choice source records0 records text0 text why does = record {
   answers = does.answers;
 }
 
-pub day_answer : (choice : Choice) (source records0 records text0 text : Device) (result : Result Repacked ToolFault) →
-    RepacksDay choice source records0 records text0 text result → HasAnswer choice result
-day_answer choice source records0 records text0 text result does = record {
-  input = does.input;
-  written = does.written;
-  told = does.told;
-  answers = does.answers;
-}
-
--- what was written is not stored
-pub day_unsettled : (choice : Choice) (source records0 records text0 text : Device) (repacked : Repacked) →
-    RepacksDay choice source records0 records text0 text (Ok repacked) → HasAnswer choice (Err fault.Write)
-day_unsettled choice source records0 records text0 text repacked does = record {
-  input = does.input;
-  written = does.written;
-  told = does.told;
-  answers = inr (record { report = does.answers.report; rest = []; reported = rw append-nil does.answers.reported });
-}
+-- all of a text is a part of it
+pub told_whole : (choice : Choice) (input written told : List ℕ) (report : Report) →
+    IsReported choice input written told report → IsReportedInPart choice input written told
+told_whole choice input written told report reported =
+    record { report = report; rest = []; reported = rw append-nil reported }
 
 -- the records of what was repacked were read, and none refused
 stopped_after : (choice : Choice) (input written : List ℕ) (report : Report) → IsRepacked choice input written report
@@ -72,9 +59,9 @@ stopped_after choice input written report r = record {
   };
 }
 
-day_unread : (choice : Choice) (source records0 records text0 text : Device) (repacked : Repacked) (why : ToolFault)
-    → RepacksDay choice source records0 records text0 text (Ok repacked) → IsUnread why → HasAnswer choice (Err why)
-day_unread choice source records0 records text0 text repacked why does (inl is) = rw is (record {
+day_unread : (choice : Choice) (repacked : Repacked) (why : ToolFault) → HasAnswer choice (Ok repacked) → IsUnread why
+    → HasAnswer choice (Err why)
+day_unread choice repacked why does (inl is) = rw is (record {
   input = does.input;
   written = does.written;
   told = [];
@@ -83,11 +70,11 @@ day_unread choice source records0 records text0 text repacked why does (inl is) 
     untold = refl;
   };
 })
-day_unread choice source records0 records text0 text repacked why does (inr is) = rw is (record {
+day_unread choice repacked why does (inr is) = rw is (record {
   input = does.input;
   written = does.written;
   told = does.told;
-  answers = inr (record { report = does.answers.report; rest = []; reported = rw append-nil does.answers.reported });
+  answers = inr (told_whole choice does.input does.written does.told does.answers.report does.answers.reported);
 })
 
 -- a failed read of what was written is told as such, and nothing else is
@@ -97,26 +84,23 @@ failure_told fault.Read P is = ((λ e. is.0 refl), (λ p. refl))
 failure_told _ P is = ((λ e. absurd cc), (λ p. let e = is.1 p in absurd cc))
 
 -- what was written is not kept
-pub day_unkept : (asked : DayOptions) (source records0 records text0 text : Device) (repacked : Repacked) (why : DayFault) →
-    RepacksDay asked.options source records0 records text0 text (Ok repacked) → IsShownIfAsked asked.check (Err why)
-    → IsRepackedDay asked (Err why)
-day_unkept asked source records0 records text0 text repacked (CannotOpen unopened) does is = tt
-day_unkept asked source records0 records text0 text repacked NotShown does is = record { check = is.0; unshown = is.1 }
-day_unkept asked source records0 records text0 text repacked (Tool why) does is =
-    day_unread asked.options source records0 records text0 text repacked why does is.1
-day_unkept asked source records0 records text0 text repacked _ does is = absurd is.1
+pub day_unkept : (asked : DayOptions) (repacked : Repacked) (why : DayFault) → HasAnswer asked.options (Ok repacked)
+    → IsTrue asked.check → IsShownIfAsked true (Err why) → IsRepackedDay asked (Err why)
+day_unkept asked repacked (CannotOpen unopened) does check is = tt
+day_unkept asked repacked NotShown does check is = record { check = check; unshown = is.1 }
+day_unkept asked repacked (Tool why) does check is =
+    day_unread asked.options repacked why does is.1
+day_unkept asked repacked _ does check is = absurd is.1
 
 -- what was written is not the same data as the day's own file
-pub day_differs : (asked : DayOptions) (source records0 records text0 text : Device) (repacked : Repacked)
-    (why : DayFault) → RepacksDay asked.options source records0 records text0 text (Ok repacked)
-    → IsComparedIfAsked asked (Err why)
-    → IsRepackedDay asked (Err why)
-day_differs asked source records0 records text0 text repacked (CannotOpen unopened) does is = tt
-day_differs asked source records0 records text0 text repacked Differs does is =
+pub day_differs : (asked : DayOptions) (repacked : Repacked) (why : DayFault) → HasAnswer asked.options (Ok repacked)
+    → IsComparedIfAsked asked (Err why) → IsRepackedDay asked (Err why)
+day_differs asked repacked (CannotOpen unopened) does is = tt
+day_differs asked repacked Differs does is =
     record { check = is.0; different = is.1 }
-day_differs asked source records0 records text0 text repacked (Tool why) does is =
-    day_unread asked.options source records0 records text0 text repacked why does is.1
-day_differs asked source records0 records text0 text repacked _ does is = absurd is
+day_differs asked repacked (Tool why) does is =
+    day_unread asked.options repacked why does is.1
+day_differs asked repacked _ does is = absurd is
 
 -- what becomes of a day for which this length is asked
 pub outcome_of_day : {E : Type 0} (days : DayOptions) (record_length : Length) (result : Result Outcome E) →

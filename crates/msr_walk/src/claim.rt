@@ -92,7 +92,9 @@ where
         if let Some(claim) = claim_anew(rt, day.claim.as_str())? {
             return Ok(claim);
         }
-        clear(rt, alloc, day)?;
+        if let Some(file) = open_claim(rt, day.claim.as_str())? {
+            clear_left(rt, alloc, day, &file)?;
+        }
     }
     Err(ClaimFault::ClaimedByAnother)
 }
@@ -132,18 +134,8 @@ fn open_claim<R: Files>(rt: &R, path: &str) -> Result<Option<R::File>, ClaimFaul
     }
 }
 
-/// Removes what a walk left of the day that was killed, or could not remove it.
-fn clear<R: Files>(rt: &R, alloc: Global, day: &Day) -> Result<(), ClaimFault>
-where
-    R::File: LockFile,
-{
-    match open_claim(rt, day.claim.as_str())? {
-        Some(file) => clear_left(rt, alloc, day, &file),
-        None => Ok(()),
-    }
-}
-
-/// The same, by the open file of its claim, which a walk at work has locked. Without locks nothing tells whether one is.
+/// Removes what a walk left of the day that was killed, or could not remove it, by the open file of its claim, which a
+/// walk at work has locked. Without locks nothing tells whether one is.
 fn clear_left<R: Files>(rt: &R, alloc: Global, day: &Day, file: &R::File) -> Result<(), ClaimFault>
 where
     R::File: LockFile,

@@ -1,6 +1,6 @@
 //! One day file: from its file to the files of its records and its report.
-ghost use Rattle.std.specs.Prelude.{◌≡◌, false, IfOk, IfSome};
-ghost use Rattle.msr_walk.specs.Day.{IsComparedIfAsked, IsDayOutcome, IsKept, IsOutcomeOfDay, IsRepackedDay, IsShownIfAsked};
+ghost use Rattle.std.specs.Prelude.{◌≡◌, false, true, IfOk, IfSome, IsTrue, Ok};
+ghost use Rattle.msr_walk.specs.Day.{GotSmaller, HasAnswer, IsComparedIfAsked, IsDayOutcome, IsKept, IsOutcomeOfDay, IsRepackedDay, IsShownIfAsked};
 ghost use Rattle.msr_walk.specs.Files.{day_names, new_file};
 
 use crate::claim::{Claim, ClaimFault, LockFile, claim_day};
@@ -68,13 +68,10 @@ impl DayFiles {
         self.records.keep(rt)
     }
 
-    /// Reads the records and the report again that were written, and holds one against the other, if that is asked for.
-    fn hold<R: Files>(&self, rt: &R, alloc: Global, check: bool) -> Result<(), DayFault>
-        ensures { IsShownIfAsked check result }
+    /// Reads the records and the report again that were written, and holds one against the other.
+    fn hold<R: Files>(&self, rt: &R, alloc: Global) -> Result<(), DayFault>
+        ensures { IsShownIfAsked true result }
     {
-        if !check {
-            return Ok(());
-        }
         let mut records = FromRead::new(self.records.open(rt)?);
         let mut report = FromRead::new(self.report.open(rt)?);
         require_shown(alloc, &mut records, &mut report)
@@ -117,13 +114,6 @@ struct Work<'a, R: Files> {
     asked: DayOptions,
 }
 
-/// What became of a day that this walk has, and whether nothing stands beside the names of its files any more.
-#[derive(Clone, Copy)]
-struct DayEnd {
-    outcome: Outcome,
-    is_swept: bool,
-}
-
 impl Day {
     /// The names of the day with this path in the archive.
     pub(crate) fn new(alloc: Global, folders: Folders<'_>, path: &str) -> Result<Day, AllocError>
@@ -154,21 +144,41 @@ impl Day {
         })
     }
 
-    /// Reads the day's own file and the records again that were written, and compares them, if that is asked for.
+    /// Reads the day's own file and the records again that were written, and compares them.
     fn compare<R: Files>(&self, work: &Work<'_, R>, files: &DayFiles) -> Result<(), DayFault>
+        requires { IsTrue work.now.asked.check }
         ensures { IsComparedIfAsked work.now.asked result }
     {
-        if !work.asked.check {
-            return Ok(());
-        }
         let input = opened(Side::File, open_regular(work.rt, self.input.as_str()))?;
         let mut input = FromRead::new(input);
         let mut records = FromRead::new(files.records.open(work.rt)?);
         require_same(work.alloc, &mut input, &mut records, work.asked.options)
     }
 
-    /// Opens the input before any file is made. What is to be shown is shown, and what is to be compared is compared,
-    /// before anything gets its name.
+    /// Gives what was made its names. What is to be shown is shown, and what is to be compared is compared, before that.
+    fn keep<R: Files>(
+        &self,
+        work: &Work<'_, R>,
+        claimed: &ClaimedDay<'_, R::File>,
+        repacked: Repacked,
+    ) -> Result<Repacked, DayFault>
+        requires answer { HasAnswer work.now.asked.options (Ok repacked) }
+        requires smaller { IsTrue work.now.asked.only_smaller → GotSmaller repacked }
+        ensures { IsRepackedDay work.now.asked result }
+    {
+        let files = &claimed.files;
+        if work.asked.check {
+            files.hold(work.rt, work.alloc)?;
+            self.compare(work, files)?;
+        }
+        if !claimed.claim.is_ours(work.rt, self.claim.as_str()) {
+            return Err(DayFault::ClaimedByAnother);
+        }
+        files.keep(work.rt)?;
+        Ok(repacked)
+    }
+
+    /// Opens the input before any file is made.
     fn write<R: Files>(
         &self,
         work: &Work<'_, R>,
@@ -193,27 +203,26 @@ impl Day {
         if settle_regular(&records).is_err() || settle_regular(&report).is_err() {
             return Err(DayFault::Tool(ToolFault::Write));
         }
-        files.hold(rt, alloc, work.asked.check)?;
-        self.compare(work, files)?;
-        if !claimed.claim.is_ours(rt, self.claim.as_str()) {
-            return Err(DayFault::ClaimedByAnother);
-        }
-        files.keep(rt)?;
-        Ok(repacked)
+        self.keep(work, claimed, repacked)
     }
 
     /// Repacks the day, and stamps it if that is asked for and the input did not change meanwhile. If it is refused,
-    /// nothing of it is left, unless another walk took it over.
-    fn repack<R: Files>(&self, work: &Work<'_, R>, claimed: &ClaimedDay<'_, R::File>) -> DayEnd
-        ensures { IsDayOutcome work.now.asked result.outcome }
+    /// nothing of it is left, unless another walk took it over. Tells too whether nothing stands beside the names of its
+    /// files any more.
+    fn repack<R: Files>(
+        &self,
+        work: &Work<'_, R>,
+        claimed: &ClaimedDay<'_, R::File>,
+    ) -> (Outcome, bool)
+        ensures { IsDayOutcome work.now.asked result.0 }
     {
         let (rt, files) = (work.rt, &claimed.files);
         match self.write(work, claimed) {
-            Ok(repacked) => DayEnd {
-                outcome: Outcome::Done(repacked),
-                is_swept: !work.asked.resume
-                    || files.put_stamp(rt, work.alloc, claimed.input, self.input.as_str()),
-            },
+            Ok(repacked) => {
+                let is_swept = !work.asked.resume
+                    || files.put_stamp(rt, work.alloc, claimed.input, self.input.as_str());
+                (Outcome::Done(repacked), is_swept)
+            }
             Err(refusal) => {
                 let is_swept = files.sweep(rt);
                 if claimed.claim.is_ours(rt, self.claim.as_str()) {
@@ -221,10 +230,7 @@ impl Day {
                     fs::remove_file(rt, self.records.as_str()).ok();
                     fs::remove_file(rt, self.report.as_str()).ok();
                 }
-                DayEnd {
-                    outcome: Outcome::Refused(refusal),
-                    is_swept,
-                }
+                (Outcome::Refused(refusal), is_swept)
             }
         }
     }
@@ -243,14 +249,12 @@ impl Day {
         let records = look.records.regular()?;
         let size = stamp.bytes;
         let repacked = counts_kept(alloc, &mut FromRead::new(report), work.asked.options, size)?;
-        if work.asked.only_smaller && repacked.bytes_read <= repacked.bytes_written {
+        if records.len() != repacked.bytes_written
+            || work.asked.only_smaller && repacked.bytes_read <= repacked.bytes_written
+        {
             return None;
         }
-        if records.len() == repacked.bytes_written {
-            Some(repacked)
-        } else {
-            None
-        }
+        Some(repacked)
     }
 
     /// Looks at the day's own file, and at those that are made of it.
@@ -263,21 +267,18 @@ impl Day {
         }
     }
 
-    /// Does a day that this walk has.
+    /// Does a day that this walk has. Tells too whether nothing stands beside the names of its files any more.
     fn do_claimed<R: Files>(
         &self,
         work: &Work<'_, R>,
         input: &Look,
         claim: &Claim<R::File>,
-    ) -> Result<DayEnd, AllocError>
-        ensures { IfOk result (λ end. IsDayOutcome work.now.asked end.outcome) }
+    ) -> Result<(Outcome, bool), AllocError>
+        ensures { IfOk result (λ end. IsDayOutcome work.now.asked end.0) }
     {
         if work.asked.resume && !is_gone(work.rt, self.stamp.as_str()) {
             if let Some(repacked) = self.kept(work, &self.look(work.rt)) {
-                return Ok(DayEnd {
-                    outcome: Outcome::Same(repacked),
-                    is_swept: true,
-                });
+                return Ok((Outcome::Same(repacked), true));
             }
         }
         let claimed = ClaimedDay {
@@ -312,14 +313,14 @@ impl Day {
         };
         let end = self.do_claimed(work, input, &claim);
         let is_swept = match &end {
-            Ok(end) => end.is_swept,
+            Ok((_, is_swept)) => *is_swept,
             // There was no memory for the names, so nothing was written.
             Err(_) => true,
         };
         if is_swept {
             claim.release(work.rt, self.claim.as_str());
         }
-        Ok(end?.outcome)
+        Ok(end?.0)
     }
 
     /// Does what is asked of the day: repacks it, or leaves it alone if an earlier walk did it and that is asked for.

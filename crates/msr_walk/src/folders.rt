@@ -1,24 +1,27 @@
 //! The walk through the folders of an archive.
-ghost use Rattle.std.specs.Prelude.{◌≡◌, ◌↔◌, List, IfErr, IfOk, IsErrOf, OnOk};
+ghost use Rattle.std.specs.Prelude.{◌≡◌, ◌↔◌, [], List, IfErr, IfOk, IsErrOf, OnOk};
 ghost use Rattle.std.specs.String.{string_bytes};
 ghost use Rattle.msr_devices.specs.Device.{CanCountCall, HasFailed};
 ghost use Rattle.msr_sds.specs.SdsPath.{ReadsAsDay};
 ghost use Rattle.msr_folders.proofs.VisitLemmas.{visitor_laws};
+ghost use Rattle.msr_walk.specs.Day.{IsOutcomeOfDay};
 ghost use Rattle.msr_walk.specs.Entries.{Entry, IsEntry, IsEntryLine, IsOutcomeOf, IsTally, channel_of};
 ghost use Rattle.msr_walk.specs.Walk.{StopsTelling, Tells, TellsEnd, Walks};
 
 use crate::claim::LockFile;
 use crate::day::Day;
 use crate::outcome::{DayFault, Outcome};
-use crate::places::stands_apart;
 use crate::summary::write_summary;
 use crate::tally::Tally;
 use msr_devices::{DeviceFault, Sink, write_all};
-use msr_folders::{FileKind, FolderWalk, Visitor, WalkFound, visit_folders};
+use msr_folders::{
+    FileId, FileKind, FolderWalk, Place, Visitor, WalkFound, join, place_of, visit_folders,
+};
 use msr_options::{Archiving, Unopened};
 use msr_sds::SdsName;
 use msr_tool::ToolFault;
 use std::alloc::{AllocError, Global};
+use std::fs;
 use std::rt::Files;
 
 /// What a walk found that came to its end.
@@ -69,32 +72,85 @@ fn channel_text(alloc: Global, name: &SdsName<'_>) -> Result<String, AllocError>
     format!(in alloc; "{network}.{station}.{location}.{channel}")
 }
 
-/// Handles a day, or refuses it if what is made of it may stand in the archive; prints its line and counts it.
-fn tell_day<R: Files, O: Sink>(
-    walker: &Walker<'_, R>,
-    path: &str,
-    name: &SdsName<'_>,
-    apart: bool,
-    out: &mut O,
-    tally: &mut Tally,
-) -> Result<(), DeviceFault>
+impl<R: Files> Walker<'_, R>
 where
     R::File: LockFile,
-    requires day { ReadsAsDay path.now name.now }
-    requires count { CanCountCall (O.device out.old) }
-    ensures told { OnOk result (Tells walker.now.archive.now.days (O.device out.old)
-        (O.device out.new) tally.old tally.new) }
-    ensures stops { IfErr result (StopsTelling walker.now.archive.now.days (O.device out.old)
-        (O.device out.new)) }
 {
-    let channel = channel_text(walker.alloc, name)?;
-    let outcome = if apart {
-        let day = Day::new(walker.alloc, walker.archive.folders, path)?;
-        day.handle(walker.rt, walker.alloc, &walker.archive.days)?
-    } else {
-        Outcome::Refused(DayFault::CannotOpen(Unopened::OUTPUTS))
-    };
-    tell(walker, path, channel.as_str(), outcome, out, tally)
+    /// Whether what is made of the days of a folder, with that path from the archive's own, certainly stands outside
+    /// the archive, by whatever links, mounts and names: outside its own folder, and outside that of the days, which
+    /// may be a link that leads out of it.
+    fn stands_apart(&self, folder: &str) -> Result<bool, AllocError> {
+        let (rt, alloc, folders) = (self.rt, self.alloc, self.archive.folders);
+        let days = join(alloc, folders.root, folder)?;
+        let Ok(root) = fs::metadata(rt, folders.root) else {
+            return Ok(false);
+        };
+        let Ok(days) = fs::metadata(rt, days.as_str()) else {
+            return Ok(false);
+        };
+        let of_archive = [FileId::of(&root), FileId::of(&days)];
+        let records = join(alloc, folders.out, folder)?;
+        let reports = join(alloc, folders.reports, folder)?;
+        Ok(
+            place_of(rt, alloc, records.as_str(), &of_archive)? == Place::Apart
+                && place_of(rt, alloc, reports.as_str(), &of_archive)? == Place::Apart,
+        )
+    }
+
+    /// Handles a day, or refuses it if what is made of it may stand in the archive.
+    fn handle(&self, path: &str, apart: bool) -> Result<Outcome, AllocError>
+        ensures { IfOk result (IsOutcomeOfDay self.now.archive.now.days) }
+    {
+        if !apart {
+            return Ok(Outcome::Refused(DayFault::CannotOpen(Unopened::OUTPUTS)));
+        }
+        let day = Day::new(self.alloc, self.archive.folders, path)?;
+        day.handle(self.rt, self.alloc, &self.archive.days)
+    }
+
+    /// Handles a day; prints its line and counts it.
+    fn tell_day<O: Sink>(
+        &self,
+        path: &str,
+        name: &SdsName<'_>,
+        apart: bool,
+        out: &mut O,
+        tally: &mut Tally,
+    ) -> Result<(), DeviceFault>
+        requires day { ReadsAsDay path.now name.now }
+        requires count { CanCountCall (O.device out.old) }
+        ensures told { OnOk result (Tells self.now.archive.now.days (O.device out.old)
+            (O.device out.new) tally.old tally.new) }
+        ensures stops { IfErr result (StopsTelling self.now.archive.now.days (O.device out.old)
+            (O.device out.new)) }
+    {
+        let channel = channel_text(self.alloc, name)?;
+        let outcome = self.handle(path, apart)?;
+        tell(self, path, channel.as_str(), outcome, out, tally)
+    }
+
+    /// Walks the archive, or the folders of it that are asked for, with this tally of nothing.
+    fn walk<O: Sink>(&self, out: &mut O, tally: &mut Tally) -> Result<Walked, ToolFault>
+        requires count { CanCountCall (O.device out.old) }
+        requires empty { IsTally [] tally.old }
+        ensures answer { Walks self.now.archive.now.days (O.device out.old) (O.device out.new) result }
+        ensures write { IsErrOf result ToolFault.Write ↔ HasFailed (O.device out.old) (O.device out.new) }
+    {
+        let archive = self.archive;
+        let walk = FolderWalk {
+            rt: self.rt,
+            alloc: self.alloc,
+            root: archive.folders.root,
+            below: archive.below.as_slice(),
+            visitor: self,
+        };
+        visit_folders(&walk, out, tally)?;
+        write_summary(self.alloc, out, &archive.days, tally)?;
+        Ok(Walked {
+            found: end_of(tally),
+            unopened: tally.unopened,
+        })
+    }
 }
 
 impl<R: Files> Visitor for Walker<'_, R>
@@ -115,7 +171,7 @@ where
 
     fn enter_folder(&self, folder: &str, levels: u8) -> Result<bool, AllocError> {
         // No folder above has days.
-        Ok(0 < levels || stands_apart(self.rt, self.alloc, self.archive.folders, folder)?)
+        Ok(0 < levels || self.stands_apart(folder)?)
     }
 
     fn visit_entry<O: Sink>(
@@ -130,7 +186,7 @@ where
             return tell(self, path, "", Outcome::Refused(DayFault::Gone), out, tally);
         }
         match SdsName::parse(path) {
-            Ok(name) => tell_day(self, path, &name, *apart, out, tally),
+            Ok(name) => self.tell_day(path, &name, *apart, out, tally),
             Err(fault) => tell(self, path, "", Outcome::Skipped(fault), out, tally),
         }
     }
@@ -143,8 +199,14 @@ where
         tally: &mut Tally,
     ) -> Result<(), DeviceFault> {
         let path = if folder.is_empty() { "." } else { folder };
-        let refused = Outcome::Refused(DayFault::Listing);
-        tell(self, path, "", refused, out, tally)
+        tell(
+            self,
+            path,
+            "",
+            Outcome::Refused(DayFault::Listing),
+            out,
+            tally,
+        )
     }
 }
 
@@ -179,17 +241,5 @@ where
 {
     let mut tally = Tally::new(alloc);
     let walker = Walker { rt, alloc, archive };
-    let walk = FolderWalk {
-        rt,
-        alloc,
-        root: archive.folders.root,
-        below: archive.below.as_slice(),
-        visitor: &walker,
-    };
-    visit_folders(&walk, out, &mut tally)?;
-    write_summary(alloc, out, &archive.days, &tally)?;
-    Ok(Walked {
-        found: end_of(&tally),
-        unopened: tally.unopened,
-    })
+    walker.walk(out, &mut tally)
 }

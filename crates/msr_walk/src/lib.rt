@@ -7,7 +7,6 @@ mod day;
 mod files;
 mod folders;
 mod outcome;
-mod places;
 mod repacking;
 mod stamp;
 mod summary;

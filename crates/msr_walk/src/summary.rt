@@ -3,8 +3,7 @@ ghost use Rattle.std.specs.Prelude.{◌≡◌, List, IfErr, IfOk, OnOk};
 ghost use Rattle.std.specs.List.{flat_map};
 ghost use Rattle.std.specs.String.{string_bytes};
 ghost use Rattle.msr_devices.specs.Device.{CanCountCall, IsCalm, Takes};
-ghost use Rattle.msr_walk.specs.Entries.{Entry, IsTally};
-ghost use Rattle.msr_walk.specs.Entries.{bytes_told};
+ghost use Rattle.msr_walk.specs.Entries.{Entry, IsTally, bytes_told};
 ghost use Rattle.msr_walk.specs.Walk.{StopsPrefix, channel_line, counts_line, larger_told, summary, with_bytes};
 
 use crate::outcome::bytes_told;
@@ -24,11 +23,7 @@ fn channel_line(
 ) -> Result<String, AllocError>
     ensures { IfOk result (λ line. string_bytes line ≡ channel_line told ((name.now, total), bytes)) }
 {
-    let Total {
-        files,
-        read,
-        written,
-    } = total;
+    let (files, read, written) = (total.files, total.read, total.written);
     let size = bytes_told(alloc, told, bytes.read, bytes.written)?;
     format!(in alloc; "channel {name} files {files} read {read} written {written}{size}\n")
 }

@@ -28,8 +28,6 @@ impl Tally {
     pub(crate) fn new(alloc: Global) -> Tally
         ensures { IsTally [] result }
     {
-        let channels = Totals::new(alloc);
-        let bytes = Totals::new(alloc);
         Tally {
             done: 0,
             skipped: 0,
@@ -37,8 +35,8 @@ impl Tally {
             larger: 0,
             bytes_read: 0,
             bytes_written: 0,
-            channels,
-            bytes,
+            channels: Totals::new(alloc),
+            bytes: Totals::new(alloc),
             unopened: None,
         }
     }
@@ -70,12 +68,7 @@ impl Tally {
                     self.refused = self.refused.saturating_add(1);
                     self.unopened = self.unopened.or(Some(unopened));
                 }
-                DayFault::Listing
-                | DayFault::NotShown
-                | DayFault::Differs
-                | DayFault::Gone
-                | DayFault::ClaimedByAnother
-                | DayFault::Tool(_) => self.refused = self.refused.saturating_add(1),
+                _ => self.refused = self.refused.saturating_add(1),
             },
         }
         Ok(())

@@ -1,48 +1,5 @@
-use Rattle.std.proofs.Common.{[]}
-use Rattle.std.proofs.lemmas.Result.{err_from_is_err_and}
-use Rattle.msr_devices.proofs.Chaining.{calm_calm}
-use Rattle.msr_tool.proofs.StoppedRepacks.{ok_tells}
-use Rattle.msr_walk.specs.Walk.{Tells}
-use Rattle.msr_walk.proofs.EntriesTold.{stop_tells, stops_entries, stops_summary, walk_ends, walk_stops}
+use Rattle.std.proofs.Common.{rules}
 use Rattle.msr_walk.proofs.folders.walk.Goals as goal
 
-pub returns-in_err-visit_folders-clause-answer : goal.returns-in_err-visit_folders-clause-answer
-returns-in_err-visit_folders-clause-answer g c =
-    let p = err_from_is_err_and c.from_residual.result c.from_residual.ensures.1 in
-    let fault = c.in_err-visit_folders.field-0.0 in
-    rw (p.1, p.2) (walk_stops _ _ _ fault (stops_entries _ _ _ fault c.in_err-visit_folders.ensures.stops))
-
-pub returns-in_err-visit_folders-clause-write : goal.returns-in_err-visit_folders-clause-write
-returns-in_err-visit_folders-clause-write g c =
-    let p = err_from_is_err_and c.from_residual.result c.from_residual.ensures.1 in
-    rw (p.1, p.2) (stop_tells _ _ _ c.in_err-visit_folders.field-0.0 c.in_err-visit_folders.ensures.stops)
-
-pub returns-in_err-write_summary-clause-answer : goal.returns-in_err-write_summary-clause-answer
-returns-in_err-write_summary-clause-answer g c =
-    let p = err_from_is_err_and c.from_residual-in_err-write_summary.result
-    c.from_residual-in_err-write_summary.ensures.1 in
-    let fault = c.in_err-write_summary.field-0.0 in
-    let told : Tells c.args.archive.now.days _ _ _ _ = c.in_ok-visit_folders.ensures.told in
-    let front = c.in_err-write_summary.ensures.stops told.entries (told.counts [] c.new-tally.ensures) in
-    rw (p.1, p.2) (walk_stops _ _ _ fault (stops_summary _ _ _ _ _ _ fault told front))
-
-pub returns-in_err-write_summary-clause-write : goal.returns-in_err-write_summary-clause-write
-returns-in_err-write_summary-clause-write g c =
-    let p = err_from_is_err_and c.from_residual-in_err-write_summary.result
-    c.from_residual-in_err-write_summary.ensures.1 in
-    let fault = c.in_err-write_summary.field-0.0 in
-    let told : Tells c.args.archive.now.days _ _ _ _ = c.in_ok-visit_folders.ensures.told in
-    let front = c.in_err-write_summary.ensures.stops told.entries (told.counts [] c.new-tally.ensures) in
-    rw (p.1, p.2) (stop_tells _ _ _ fault (stops_summary _ _ _ _ _ _ fault told front))
-
 pub returns-clause-answer : goal.returns-clause-answer
-returns-clause-answer g c =
-    let told : Tells c.args.archive.now.days _ _ _ _ = c.in_ok-visit_folders.ensures.told in
-    let counts = told.counts [] c.new-tally.ensures in
-    walk_ends _ _ _ _ _ _ _ told (c.in_ok-write_summary.ensures.all told.entries counts)
-    (c.end_of.ensures told.entries counts) counts.unopened
-
-pub returns-clause-write : goal.returns-clause-write
-returns-clause-write g c =
-    let told : Tells c.args.archive.now.days _ _ _ _ = c.in_ok-visit_folders.ensures.told in
-    ok_tells _ _ _ _ (calm_calm _ _ _ told.calm c.in_ok-write_summary.ensures.calm).steady
+returns-clause-answer g c = search rules

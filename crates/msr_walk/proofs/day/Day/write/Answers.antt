@@ -1,6 +1,6 @@
-use Rattle.std.proofs.Common.{arith}
+use Rattle.std.proofs.Common.{arith, inr}
 use Rattle.std.proofs.lemmas.Result.{err_from_is_err_and}
-use Rattle.msr_walk.proofs.Days.{day_answer, day_differs, day_unkept, day_unsettled}
+use Rattle.msr_walk.proofs.Days.{told_whole}
 use Rattle.msr_walk.proofs.day.Day.write.Goals.{else-work-via-then-work+else-repacked, else-work-via-else-work}
 use Rattle.msr_walk.proofs.day.Day.write.Goals as goal
 
@@ -22,37 +22,22 @@ returns-in_err-report g c =
 pub returns-in_err-repacked : goal.returns-in_err-repacked
 returns-in_err-repacked g c =
     let p = err_from_is_err_and c.from_residual-in_err-repacked.result c.from_residual-in_err-repacked.ensures.1 in
-    rw (p.1, p.2) (day_answer _ _ _ _ _ _ _ c.in_err-repacked.ensures)
+    let does = c.in_err-repacked.ensures in
+    rw (p.1, p.2) (record { input = does.input; written = does.written; told = does.told; answers = does.answers })
 
 pub returns-then-is_err : goal.returns-then-is_err
-returns-then-is_err g c = day_unsettled _ _ _ _ _ _ _ c.in_ok-repacked.ensures
+returns-then-is_err g c =
+    let does = c.in_ok-repacked.ensures in
+    let part = told_whole _ does.input does.written does.told does.answers.report does.answers.reported in
+    record { input = does.input; written = does.written; told = does.told; answers = inr part }
 
-pub returns-in_err-hold : goal.returns-in_err-hold
-returns-in_err-hold g c =
-    let p = err_from_is_err_and c.from_residual-in_err-hold.result c.from_residual-in_err-hold.ensures.1 in
-    rw (p.1, p.2) (day_unkept
-    c.args.work.now.asked _ _ _ _ _ _ c.in_err-hold.field-0.0 c.in_ok-repacked.ensures
-    c.in_err-hold.ensures)
+pub keep-requires-clause-answer : goal.keep-requires-clause-answer
+keep-requires-clause-answer g c =
+    let does = c.in_ok-repacked.ensures in
+    record { input = does.input; written = does.written; told = does.told; answers = does.answers }
 
-pub returns-in_err-compare : goal.returns-in_err-compare
-returns-in_err-compare g c =
-    let p = err_from_is_err_and c.from_residual-in_err-compare.result c.from_residual-in_err-compare.ensures.1 in
-    rw (p.1, p.2) (day_differs
-    c.args.work.now.asked _ _ _ _ _ _ c.in_err-compare.field-0.0 c.in_ok-repacked.ensures
-    c.in_err-compare.ensures)
-
-pub returns-in_err-keep : goal.returns-in_err-keep
-returns-in_err-keep g c =
-    let p = err_from_is_err_and c.from_residual-in_err-keep.result c.from_residual-in_err-keep.ensures.1 in
-    rw (p.1, p.2) tt
-
-pub returns : goal.returns
-returns g c = record {
-  answer = day_answer _ _ _ _ _ _ _ c.in_ok-repacked.ensures;
-  shown = c.in_ok-hold.ensures;
-  same = c.in_ok-compare.ensures;
-  smaller = λ only. elim c.else-work.branch [
-    | else-work-via-then-work+else-repacked w ↦ (let smaller = w.if-repacked.false in omega (arith, smaller))
-    | else-work-via-else-work w ↦ (let other = w.if-work.false in absurd cc)
-  ];
-}
+pub keep-requires-clause-smaller : goal.keep-requires-clause-smaller
+keep-requires-clause-smaller g c = λ only. elim c.else-work.branch [
+  | else-work-via-then-work+else-repacked w ↦ (let smaller = w.if-repacked.false in omega (arith, smaller))
+  | else-work-via-else-work w ↦ (let other = w.if-work.false in absurd cc)
+]
