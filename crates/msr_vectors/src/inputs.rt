@@ -249,6 +249,28 @@ fn outlined(line: &mut Line<'_>, strict: bool, bytes: &[u8], behavior: Behavior)
     told
 }
 
+/// Notes whether the end is told once more, unless the source failed.
+fn agree_on_end<R: Source>(
+    line: &mut Line<'_>,
+    reader: &mut RowReader,
+    source: &mut R,
+    mut told: Told,
+)
+    requires { CanCountCall (R.device source.old) }
+{
+    let (count, end) = (told.rows.len(), told.end);
+    told.end = None;
+    told.add_record(line, reader, source);
+    let is_again = told.rows.len() == count && told.end == end;
+    line.agree(is_again || end == Some(Some(ReadFault::Read)));
+}
+
+/// Shows how many records were read, were empty, and had another reverse constant.
+fn put_counts(line: &mut Line<'_>, reader: &RowReader) {
+    let counts = reader.counts();
+    line.put(format_args!(", {} {} {}", counts.read, counts.empty, counts.mismatched));
+}
+
 /// Shows at most three records, what is told after them and, unless the source failed, once more, and the counts before
 /// that.
 fn put_records(
@@ -268,13 +290,8 @@ fn put_records(
     told.add_record(line, &mut reader, &mut source);
     line.agree(told.has_rows(outlines));
     told.put(line);
-    let counts = reader.counts();
-    line.put(format_args!(", {} {} {}", counts.read, counts.empty, counts.mismatched));
-    let (count, end) = (told.rows.len(), told.end);
-    told.end = None;
-    told.add_record(line, &mut reader, &mut source);
-    let is_again = told.rows.len() == count && told.end == end;
-    line.agree(is_again || end == Some(Some(ReadFault::Read)));
+    put_counts(line, &reader);
+    agree_on_end(line, &mut reader, &mut source, told);
 }
 
 /// `input strict|lenient MOST INTERRUPTIONS FAILS RECORD | ..`, of at most three records: how many bytes each has and what

@@ -62,33 +62,55 @@ struct Asked<'a> {
     told: &'a [u8],
 }
 
-/// Why the call stops, if it does.
-fn fault_of<R: Source, Q: Source, W: Sink, T: Sink>(
-    line: &mut Line<'_>,
+impl Asked<'_> {
+    fn writes_records(&self) -> bool {
+        matches!(
+            self.call,
+            "repack" | "feed" | "repack_and_report" | "feed_and_report"
+        )
+    }
+}
+
+/// Why a call that writes records stops, if it does.
+fn fault_of_writing<R: Source, W: Sink, T: Sink>(
+    alloc: Global,
     asked: &Asked<'_>,
     records: &mut R,
-    report: &mut Q,
     written: &mut W,
     told: &mut T,
 ) -> Option<ToolFault>
     requires records { CanCountCall (R.device records.old) }
-    requires report { CanCountCall (Q.device report.old) }
     requires written { CanCountCall (W.device written.old) }
     requires told { CanCountCall (T.device told.old) }
 {
-    let (alloc, options) = (line.alloc, asked.options);
+    let options = asked.options;
+    let done = match asked.call {
+        "repack" => repack(alloc, records, written, options),
+        "feed" => feed(alloc, records, written, options),
+        "repack_and_report" => repack_and_report(alloc, records, written, told, options),
+        _ => feed_and_report(alloc, records, written, told, options),
+    };
+    done.err()
+}
+
+/// Why a call that writes no records stops, if it does.
+fn fault_of_reading<R: Source, Q: Source, T: Sink>(
+    line: &mut Line<'_>,
+    asked: &Asked<'_>,
+    records: &mut R,
+    report: &mut Q,
+    told: &mut T,
+) -> Option<ToolFault>
+    requires records { CanCountCall (R.device records.old) }
+    requires report { CanCountCall (Q.device report.old) }
+    requires told { CanCountCall (T.device told.old) }
+{
+    let alloc = line.alloc;
     match asked.call {
-        "repack" => repack(alloc, records, written, options).err(),
-        "feed" => feed(alloc, records, written, options).err(),
-        "repack_and_report" => repack_and_report(alloc, records, written, told, options).err(),
-        "feed_and_report" => feed_and_report(alloc, records, written, told, options).err(),
-        "list" => list_segments(alloc, records, told, options, ListForm::Words).err(),
+        "list" => list_segments(alloc, records, told, asked.options, ListForm::Words).err(),
         "check" => check_packed(alloc, records, report).err(),
         "check_and_tell" => check_and_tell(alloc, records, report, told).err(),
-        _ => {
-            line.is_bad = true;
-            None
-        }
+        _ => line.bad(None),
     }
 }
 
@@ -101,17 +123,26 @@ fn ended(line: &mut Line<'_>, asked: &Asked<'_>, devices: Devices<'_>) -> Ended 
     let mut report = TestSource::new(asked.report, devices.behavior("report"));
     let mut written = devices.sink(line.alloc, "written");
     let mut told = devices.sink(line.alloc, "told");
-    let fault = fault_of(
-        line,
-        asked,
-        &mut records,
-        &mut report,
-        &mut written,
-        &mut told,
-    );
+    let fault = if asked.writes_records() {
+        fault_of_writing(line.alloc, asked, &mut records, &mut written, &mut told)
+    } else {
+        fault_of_reading(line, asked, &mut records, &mut report, &mut told)
+    };
     line.agree(asked.written.starts_with(written.bytes()));
     line.agree(asked.told.starts_with(told.bytes()));
     (fault, written.bytes().len(), told.bytes().len())
+}
+
+/// What comes of the call with these devices, and the same where one that fails accepts nothing there.
+fn put_ended(line: &mut Line<'_>, asked: &Asked<'_>, mut devices: Devices<'_>) {
+    let (fault, written, told) = ended(line, asked, devices);
+    devices.accepts_nothing = true;
+    let again = ended(line, asked, devices);
+    line.agree(again == (fault, written, told));
+    match fault {
+        Some(fault) => line.put(format_args!(" {fault} {written} {told},")),
+        None => line.put(format_args!(" done {written} {told},")),
+    }
 }
 
 /// What comes of the call if a device is odd, `DEVICE MOST INTERRUPTIONS FAILS`.
@@ -120,20 +151,13 @@ fn put_odd(line: &mut Line<'_>, asked: &Asked<'_>, others: usize) {
     line.put(format_args!("{odd}:"));
     let (place, behaviors) = (line.word(), behaviors(line));
     for odd in &behaviors {
-        let mut devices = Devices {
+        let devices = Devices {
             place,
             odd: *odd,
             accepts_nothing: false,
             others,
         };
-        let (fault, written, told) = ended(line, asked, devices);
-        devices.accepts_nothing = true;
-        let again = ended(line, asked, devices);
-        line.agree(again == (fault, written, told));
-        match fault {
-            Some(fault) => line.put(format_args!(" {fault} {written} {told},")),
-            None => line.put(format_args!(" done {written} {told},")),
-        }
+        put_ended(line, asked, devices);
     }
 }
 
