@@ -1,5 +1,5 @@
 -- Segments written one after another, and their lines.
-use Rattle.std.proofs.Common.{◌≡◌, ◌≤◌, zero, suc, false, List, [], ◌∷◌, ◌++◌, ◌∙◌, map, length, refl, sym, ap, subst, arith, append_assoc, All, Option, Some, None, IfSome, Result, Ok, Err, MatchResult, ◌+◌}
+use Rattle.std.proofs.Common.{◌≡◌, ◌≤◌, ℕ, zero, suc, false, List, [], ◌∷◌, ◌++◌, ◌∙◌, map, length, refl, sym, ap, subst, arith, append_assoc, All, Option, Some, None, IfSome, Result, Ok, Err, MatchResult, ◌+◌}
 use Rattle.std.specs.Prelude.{option_map}
 use Rattle.std.specs.Option.{option_to_list}
 use Rattle.std.proofs.lemmas.List.{map-append, append-nil}
@@ -22,7 +22,7 @@ use Rattle.msr_input.specs.declared.row_reader.NextRow.{NextRow}
 use Rattle.msr_report_reader.specs.Content.{ContentLine, IsContentLine, content_line}
 use Rattle.msr_output.specs.Opened.{Opened, CanGoOn, HasBegun, count_of}
 use Rattle.msr_output.specs.Output.{Packed, segment_of_packed, count_of_runs}
-use Rattle.msr_output.specs.Writing.{Writing, IsLineOf, HasWritten, HasWrittenPrefix, WritesSegment, StopsWriting}
+use Rattle.msr_output.specs.Writing.{Writing, IsLineOf, HasWritten, HasWrittenAll, HasWrittenPrefix, WritesSegment, StopsWriting}
 use Rattle.msr_devices.specs.declared.fault.DeviceFault.{DeviceFault}
 use Rattle.msr_devices.specs.declared.fault.DeviceFault.TheVariants as write
 use Rattle.msr_tool.specs.Fault.{fault_of_writing}
@@ -231,13 +231,18 @@ took_first form other start now lined packed all current row (Err found) same_fo
     (subst (λ (s : List Segment). StopsLining other start now s found) joined h)
 
 -- what waits is not written
-pub stops_finishing : (form : Form) (start now : Device) (w : Writing) (all packed : List Packed)
-    (current : Option Segment) (fault : DeviceFault) → w.form ≡ form
-    → map segment_of_packed all ≡ map segment_of_packed packed ++ option_to_list current
-    → StopsWriting w.form start now (map segment_of_packed all) fault
-    → StopsLining form start now (map segment_of_packed packed ++ option_to_list current) (fault_of_writing fault)
-stops_finishing form start now w all packed current fault same_form same h =
-    rw (← same, ← same_form) (stops_lining w.form start now (map segment_of_packed all) fault h)
+-- nothing waits, so that all was written
+pub written_now : (start now : Device) (w : Writing) (packed : List Packed) (rows : List Row) → w.waiting ≡ []
+    → HasWritten start now w packed rows → HasWrittenAll start now w packed rows
+written_now start now w packed rows none h =
+    let whole = h.whole ∙ ap (λ (waiting : List ℕ). h.taken ++ waiting) none ∙ append-nil h.taken in
+    record {
+      bytes = h.taken;
+      output = rw (← whole) h.output;
+      takes = h.takes;
+      short = grind (arith, h.moved, h.short);
+      calm = h.calm;
+    }
 
 -- ---- when a segment goes on
 

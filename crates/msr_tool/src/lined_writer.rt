@@ -168,21 +168,24 @@ impl LinedWriter {
     }
 
     /// Ends the last segment, writes all that waits, and gives the lines.
-    pub(crate) fn finish<W: Sink>(self, sink: &mut W) -> Result<Vec<SegmentLine>, ToolFault>
+    pub(crate) fn finish<W: Sink>(
+        &mut self,
+        alloc: Global,
+        sink: &mut W,
+    ) -> Result<Vec<SegmentLine>, ToolFault>
         requires count { CanCountCall (W.device sink.old) }
-        requires last { IfSome self.last (GoesOn self.writing.form) }
+        requires last { IfSome self.old.last (GoesOn self.old.writing.form) }
         ensures written { (start : Device) (packed : List Packed) (current : Option Segment)
-            → HasLined start (W.device sink.old) self packed current
+            → HasLined start (W.device sink.old) self.old packed current
             → MatchResult result
-            (λ lines. LinesAll self.writing.form start (W.device sink.new)
+            (λ lines. LinesAll self.old.writing.form start (W.device sink.new)
             (map segment_of_packed packed ++ option_to_list current) lines.items)
-            (StopsLining self.writing.form start (W.device sink.new)
+            (StopsLining self.old.writing.form start (W.device sink.new)
             (map segment_of_packed packed ++ option_to_list current)) }
         ensures few { CountsFew (W.device sink.old) (W.device sink.new) }
     {
-        let mut all = self;
-        all.end_last(sink)?;
-        all.writer.finish(sink)?;
-        Ok(all.lines)
+        self.end_last(sink)?;
+        self.flush(sink)?;
+        Ok(std::mem::replace(&mut self.lines, Vec::new(alloc)))
     }
 }

@@ -1,11 +1,14 @@
 //! Repacking an input, whole or while it comes.
-ghost use Rattle.std.specs.Prelude.{◌≡◌, ◌≤◌, ◌↔◌, IsErrOf, false};
+ghost use Rattle.std.specs.Prelude.{◌≡◌, ◌≤◌, ◌↔◌, [], None, IsErrOf, false};
 ghost use Rattle.msr_devices.specs.Device.{CanCountCall};
 ghost use Rattle.msr_input.specs.Reading.{HoldsRecord};
+ghost use Rattle.msr_input.specs.Rows.{HasReadRows};
+ghost use Rattle.msr_options.specs.Choice.{form_chosen};
 ghost use Rattle.msr_tool.specs.Answer.{Answers};
 ghost use Rattle.msr_tool.specs.Fault.{ReadsAndWrites};
 ghost use Rattle.msr_tool.specs.KeepingUp.{HasKeptUp};
 ghost use Rattle.msr_tool.specs.Settings.{settings_of};
+ghost use Rattle.msr_tool.specs.Writing.{HasLined};
 
 use crate::fault::ToolFault;
 use crate::lined_writer::LinedWriter;
@@ -94,22 +97,44 @@ fn repack_with<R: Source, W: Sink>(
         → HasKeptUp options (R.device source.old) (R.device source.new) (W.device sink.old) (W.device sink.new)) }
 {
     let mut reader = RowReader::new(alloc, settings_of(options));
-    let form = options.form();
-    let mut writer = LinedWriter::new(alloc, form);
+    let mut lined = LinedWriter::new(alloc, options.form());
+    repack_records(alloc, source, sink, options, flush, &mut reader, &mut lined)
+}
+
+/// Repacks with a reader and a writer that are new. They are lent, so that each is dropped at one place.
+fn repack_records<R: Source, W: Sink>(
+    alloc: Global,
+    source: &mut R,
+    sink: &mut W,
+    options: Options,
+    flush: Flush,
+    reader: &mut RowReader,
+    writer: &mut LinedWriter,
+) -> Result<Report, ToolFault>
+    requires count { CanCountCall (R.device source.old) × CanCountCall (W.device sink.old) }
+    requires reader { HasReadRows (R.device source.old) (R.device source.old) reader.old [] []
+        × (reader.old.following ≡ record { tolerance = options.tolerance; current = None })
+        × (reader.old.position.strict ≡ options.strict) }
+    requires writer { (writer.old.last ≡ None) × (writer.old.writing.form ≡ form_chosen options)
+        × (writer.old.writing.waiting ≡ []) × HasLined (W.device sink.old) (W.device sink.old) writer.old [] None }
+    ensures { ReadsAndWrites (Answers options) (R.device source.old) (R.device source.new)
+        (W.device sink.old) (W.device sink.new) result × (flush ≡ Flush.BeforeReads → IsErrOf result ToolFault.Read
+        → HasKeptUp options (R.device source.old) (R.device source.new) (W.device sink.old) (W.device sink.new)) }
+{
     'records: while let Some(next) = reader.next_record(source)? {
         writer.take(sink, &next)?;
         reader.give_back(next);
-        if must_flush(flush, &reader) {
+        if must_flush(flush, reader) {
             writer.flush(sink)?;
         }
     }
     let counts = reader.counts();
-    let segments = writer.finish(sink)?;
+    let segments = writer.finish(alloc, sink)?;
     output_keeps_segments();
     output_has_size();
     Ok(Report {
         length: options.length(),
-        kinds: form.kinds,
+        kinds: options.form().kinds,
         tolerance: options.tolerance(),
         counts,
         segments,

@@ -1,30 +1,28 @@
+use Rattle.std.proofs.Common.{◌∙◌}
+use Rattle.std.proofs.lemmas.List.{append-nil}
 use Rattle.std.proofs.lemmas.Result.{err_from_is_err_and}
-use Rattle.msr_tool.proofs.Lines.{lined_none, stops_finishing}
+use Rattle.msr_tool.proofs.Lines.{lined_none, written_now}
 use Rattle.msr_tool.proofs.lined_writer.LinedWriter.finish.Goals as goal
 
-pub returns-in_err-finish-clause-written : goal.returns-in_err-finish-clause-written
-returns-in_err-finish-clause-written g c = λ start packed current h.
-    let p = err_from_is_err_and c.from_residual-in_err-finish.result c.from_residual-in_err-finish.ensures.1 in
+pub returns-in_err-flush-clause-written : goal.returns-in_err-flush-clause-written
+returns-in_err-flush-clause-written g c = λ start packed current h.
+    let p = err_from_is_err_and c.from_residual-in_err-flush.result c.from_residual-in_err-flush.ensures.1 in
     let m = c.in_ok-end_last.ensures.written start packed current h in
-    let wrote = lined_none start (g.W.Sink.device c.end_last.new.sink) _ m.all
-    (rw (← c.all.view_is) at c.in_ok-end_last.ensures.last) (rw (← c.all.view_is) at m.after) in
-    let same_form = rw (← c.all.view_is) at c.in_ok-end_last.ensures.form in
-    rw (p.1, p.2) (stops_finishing _ start _ c.all.inside.writer m.all packed current c.in_err-finish.field-0.0
-    same_form m.same (c.in_err-finish.ensures.written start m.all wrote.0 wrote.1))
+    let stops = c.in_err-flush.ensures.written start m.all _ m.after in
+    rw (p.1, p.2, ← m.same, ← c.in_ok-end_last.ensures.form) (rw (append-nil _) at stops)
 
 pub returns-clause-written : goal.returns-clause-written
 returns-clause-written g c = λ start packed current h.
     let m = c.in_ok-end_last.ensures.written start packed current h in
-    let l = rw (← c.all.view_is) at m.after in
-    let wrote = lined_none start (g.W.Sink.device c.end_last.new.sink) _ m.all
-    (rw (← c.all.view_is) at c.in_ok-end_last.ensures.last) l in
-    record {
+    let l = c.in_ok-flush.ensures.written start m.all _ m.after in
+    let wrote = lined_none _ _ c.flush.new.self _ (c.flush.ensures.last ∙ c.in_ok-end_last.ensures.last) l in
+    rw c.replace.ensures.value (record {
       packed = m.all;
       rows = wrote.0;
-      writing = c.all.inside.writer;
+      writing = c.flush.new.self.writing;
       same = m.same;
-      same_form = rw (← c.all.view_is) at c.in_ok-end_last.ensures.form;
-      written = c.in_ok-finish.ensures.written start m.all wrote.0 wrote.1;
-      are_lines = l.are_lines;
-      contents = l.contents;
-    }
+      same_form = c.flush.ensures.form ∙ c.in_ok-end_last.ensures.form;
+      written = written_now _ _ _ _ wrote.0 c.in_ok-flush.ensures.none_wait wrote.1;
+      are_lines = rw (← c.self.view_is) at l.are_lines;
+      contents = rw (← c.self.view_is) at l.contents;
+    })

@@ -2,7 +2,7 @@ use Rattle.std.proofs.Common.{◌≡◌}
 use Rattle.msr_input.specs.Records.{left_with}
 use Rattle.msr_tool.specs.declared.repacking.Flush.TheVariants.{BeforeReads}
 use Rattle.msr_tool.proofs.RepackUnderWay.{IsReady, UnderWay}
-use Rattle.msr_tool.proofs.repacking.repack_with.Given as goal
+use Rattle.msr_tool.proofs.repacking.repack_records.Given as goal
 
 abbrev pub invariant-records : goal.invariant-records
 invariant-records g l = record {
