@@ -168,11 +168,7 @@ impl LinedWriter {
     }
 
     /// Ends the last segment, writes all that waits, and gives the lines.
-    pub(crate) fn finish<W: Sink>(
-        &mut self,
-        alloc: Global,
-        sink: &mut W,
-    ) -> Result<Vec<SegmentLine>, ToolFault>
+    pub(crate) fn finish<W: Sink>(&mut self, sink: &mut W) -> Result<Vec<SegmentLine>, ToolFault>
         requires count { CanCountCall (W.device sink.old) }
         requires last { IfSome self.old.last (GoesOn self.old.writing.form) }
         ensures written { (start : Device) (packed : List Packed) (current : Option Segment)
@@ -186,6 +182,7 @@ impl LinedWriter {
     {
         self.end_last(sink)?;
         self.flush(sink)?;
-        Ok(std::mem::replace(&mut self.lines, Vec::new(alloc)))
+        let none = Vec::new(*self.lines.allocator());
+        Ok(std::mem::replace(&mut self.lines, none))
     }
 }

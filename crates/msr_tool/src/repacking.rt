@@ -98,12 +98,11 @@ fn repack_with<R: Source, W: Sink>(
 {
     let mut reader = RowReader::new(alloc, settings_of(options));
     let mut lined = LinedWriter::new(alloc, options.form());
-    repack_records(alloc, source, sink, options, flush, &mut reader, &mut lined)
+    repack_records(source, sink, options, flush, &mut reader, &mut lined)
 }
 
 /// Repacks with a reader and a writer that are new. They are lent, so that each is dropped at one place.
 fn repack_records<R: Source, W: Sink>(
-    alloc: Global,
     source: &mut R,
     sink: &mut W,
     options: Options,
@@ -129,7 +128,7 @@ fn repack_records<R: Source, W: Sink>(
         }
     }
     let counts = reader.counts();
-    let segments = writer.finish(alloc, sink)?;
+    let segments = writer.finish(sink)?;
     output_keeps_segments();
     output_has_size();
     Ok(Report {
