@@ -114,6 +114,13 @@ struct Work<'a, R: Files> {
     asked: DayOptions,
 }
 
+/// What became of a day that this walk has, and whether nothing stands beside the names of its files any more.
+#[derive(Clone, Copy)]
+struct DayEnd {
+    outcome: Outcome,
+    is_swept: bool,
+}
+
 impl Day {
     /// The names of the day with this path in the archive.
     pub(crate) fn new(alloc: Global, folders: Folders<'_>, path: &str) -> Result<Day, AllocError>
@@ -207,22 +214,17 @@ impl Day {
     }
 
     /// Repacks the day, and stamps it if that is asked for and the input did not change meanwhile. If it is refused,
-    /// nothing of it is left, unless another walk took it over. Tells too whether nothing stands beside the names of its
-    /// files any more.
-    fn repack<R: Files>(
-        &self,
-        work: &Work<'_, R>,
-        claimed: &ClaimedDay<'_, R::File>,
-    ) -> (Outcome, bool)
-        ensures { IsDayOutcome work.now.asked result.0 }
+    /// nothing of it is left, unless another walk took it over.
+    fn repack<R: Files>(&self, work: &Work<'_, R>, claimed: &ClaimedDay<'_, R::File>) -> DayEnd
+        ensures { IsDayOutcome work.now.asked result.outcome }
     {
         let (rt, files) = (work.rt, &claimed.files);
         match self.write(work, claimed) {
-            Ok(repacked) => {
-                let is_swept = !work.asked.resume
-                    || files.put_stamp(rt, work.alloc, claimed.input, self.input.as_str());
-                (Outcome::Done(repacked), is_swept)
-            }
+            Ok(repacked) => DayEnd {
+                outcome: Outcome::Done(repacked),
+                is_swept: !work.asked.resume
+                    || files.put_stamp(rt, work.alloc, claimed.input, self.input.as_str()),
+            },
             Err(refusal) => {
                 let is_swept = files.sweep(rt);
                 if claimed.claim.is_ours(rt, self.claim.as_str()) {
@@ -230,7 +232,10 @@ impl Day {
                     fs::remove_file(rt, self.records.as_str()).ok();
                     fs::remove_file(rt, self.report.as_str()).ok();
                 }
-                (Outcome::Refused(refusal), is_swept)
+                DayEnd {
+                    outcome: Outcome::Refused(refusal),
+                    is_swept,
+                }
             }
         }
     }
@@ -267,18 +272,21 @@ impl Day {
         }
     }
 
-    /// Does a day that this walk has. Tells too whether nothing stands beside the names of its files any more.
+    /// Does a day that this walk has.
     fn do_claimed<R: Files>(
         &self,
         work: &Work<'_, R>,
         input: &Look,
         claim: &Claim<R::File>,
-    ) -> Result<(Outcome, bool), AllocError>
-        ensures { IfOk result (λ end. IsDayOutcome work.now.asked end.0) }
+    ) -> Result<DayEnd, AllocError>
+        ensures { IfOk result (λ end. IsDayOutcome work.now.asked end.outcome) }
     {
         if work.asked.resume && !is_gone(work.rt, self.stamp.as_str()) {
             if let Some(repacked) = self.kept(work, &self.look(work.rt)) {
-                return Ok((Outcome::Same(repacked), true));
+                return Ok(DayEnd {
+                    outcome: Outcome::Same(repacked),
+                    is_swept: true,
+                });
             }
         }
         let claimed = ClaimedDay {
@@ -313,14 +321,14 @@ impl Day {
         };
         let end = self.do_claimed(work, input, &claim);
         let is_swept = match &end {
-            Ok((_, is_swept)) => *is_swept,
+            Ok(end) => end.is_swept,
             // There was no memory for the names, so nothing was written.
             Err(_) => true,
         };
         if is_swept {
             claim.release(work.rt, self.claim.as_str());
         }
-        Ok(end?.0)
+        Ok(end?.outcome)
     }
 
     /// Does what is asked of the day: repacks it, or leaves it alone if an earlier walk did it and that is asked for.

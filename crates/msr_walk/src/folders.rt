@@ -199,14 +199,8 @@ where
         tally: &mut Tally,
     ) -> Result<(), DeviceFault> {
         let path = if folder.is_empty() { "." } else { folder };
-        tell(
-            self,
-            path,
-            "",
-            Outcome::Refused(DayFault::Listing),
-            out,
-            tally,
-        )
+        let refused = Outcome::Refused(DayFault::Listing);
+        tell(self, path, "", refused, out, tally)
     }
 }
 

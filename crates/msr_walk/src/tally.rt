@@ -68,7 +68,12 @@ impl Tally {
                     self.refused = self.refused.saturating_add(1);
                     self.unopened = self.unopened.or(Some(unopened));
                 }
-                _ => self.refused = self.refused.saturating_add(1),
+                DayFault::Listing
+                | DayFault::NotShown
+                | DayFault::Differs
+                | DayFault::Gone
+                | DayFault::ClaimedByAnother
+                | DayFault::Tool(_) => self.refused = self.refused.saturating_add(1),
             },
         }
         Ok(())

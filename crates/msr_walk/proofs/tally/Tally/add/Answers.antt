@@ -24,8 +24,8 @@ returns-in-CannotOpen c = λ before entry h channel outcome.
     rw (c.or-self.ensures, h.unopened, first_more before entry, outcome, c.in-Refused.is, c.in-CannotOpen.is) refl in
     grind (arith, common_steps)
 
-pub returns-in_default : goal.returns-in_default
-returns-in_default c = λ before entry h channel outcome.
+pub returns-in-Listing : goal.returns-in-Listing
+returns-in-Listing c = λ before entry h channel outcome.
     let none : unopened_of entry.outcome ≡ None = grind (arith, common_steps) in
     let first : c.args.self.now.unopened ≡ first_unopened (before ++ entry ∷ []) =
     kept_first c.args.self.now before entry h none in
