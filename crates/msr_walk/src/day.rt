@@ -11,10 +11,11 @@ use crate::repacking::{
 };
 use crate::stamp::Stamp;
 use msr_folders::{Look, ended, is_gone, join, open_regular, settle_regular};
-use msr_options::{DayOptions, Folders, Side, Unopened};
+use msr_options::{DayOptions, Folders, Options, Side, Unopened};
 use msr_tool::{FromRead, FromWrite, Length, ToolFault};
 use std::alloc::{AllocError, Global};
 use std::fs;
+use std::io::{Read, Write};
 use std::marker::Model;
 use std::rt::Files;
 
@@ -121,6 +122,25 @@ struct DayEnd {
     is_swept: bool,
 }
 
+/// Repacks a day from its input, which is closed then, to its files.
+fn repack_files<F: Read + Write + Drop>(
+    alloc: Global,
+    input: F,
+    records: &mut F,
+    report: &mut F,
+    options: Options,
+) -> Result<Repacked, ToolFault>
+    ensures { HasAnswer options result }
+{
+    repack_day_of(
+        alloc,
+        &mut Counting::new(FromRead::new(input)),
+        &mut FromWrite::new(records),
+        &mut FromWrite::new(report),
+        options,
+    )
+}
+
 impl Day {
     /// The names of the day with this path in the archive.
     pub(crate) fn new(alloc: Global, folders: Folders<'_>, path: &str) -> Result<Day, AllocError>
@@ -193,17 +213,12 @@ impl Day {
     ) -> Result<Repacked, DayFault>
         ensures { IsRepackedDay work.now.asked result }
     {
-        let (rt, alloc, files) = (work.rt, work.alloc, &claimed.files);
+        let (rt, files) = (work.rt, &claimed.files);
         let input = opened(Side::File, claimed.input.open(rt, self.input.as_str()))?;
         let mut records = files.records.create(rt)?;
         let mut report = files.report.create(rt)?;
-        let repacked = repack_day_of(
-            alloc,
-            &mut Counting::new(FromRead::new(input)),
-            &mut FromWrite::new(&mut records),
-            &mut FromWrite::new(&mut report),
-            work.asked.options,
-        )?;
+        let options = work.asked.options;
+        let repacked = repack_files(work.alloc, input, &mut records, &mut report, options)?;
         if work.asked.only_smaller && repacked.bytes_read <= repacked.bytes_written {
             return Err(DayFault::Larger(repacked));
         }

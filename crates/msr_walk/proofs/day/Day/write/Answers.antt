@@ -22,19 +22,13 @@ returns-in_err-report g c =
 pub returns-in_err-repacked : goal.returns-in_err-repacked
 returns-in_err-repacked g c =
     let p = err_from_is_err_and c.from_residual-in_err-repacked.result c.from_residual-in_err-repacked.ensures.1 in
-    let does = c.in_err-repacked.ensures in
-    rw (p.1, p.2) (record { input = does.input; written = does.written; told = does.told; answers = does.answers })
+    rw (p.1, p.2) c.in_err-repacked.ensures
 
 pub returns-then-is_err : goal.returns-then-is_err
 returns-then-is_err g c =
     let does = c.in_ok-repacked.ensures in
     let part = told_whole _ does.input does.written does.told does.answers.report does.answers.reported in
     record { input = does.input; written = does.written; told = does.told; answers = inr part }
-
-pub keep-requires-clause-answer : goal.keep-requires-clause-answer
-keep-requires-clause-answer g c =
-    let does = c.in_ok-repacked.ensures in
-    record { input = does.input; written = does.written; told = does.told; answers = does.answers }
 
 pub keep-requires-clause-smaller : goal.keep-requires-clause-smaller
 keep-requires-clause-smaller g c = λ only. elim c.else-work.branch [
