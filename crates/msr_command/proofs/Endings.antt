@@ -3,13 +3,10 @@ use Rattle.std.specs.Prelude.{◌↔◌, ⊤, IsTrue}
 use Rattle.std.proofs.Common.{◌≡◌, ℕ, Bool, List, [], codes, refl, subst, sym, inl, inr, append-nil, Result, Ok, Err}
 use Rattle.msr_devices.specs.Device.{Device, HasLeft, Takes}
 use Rattle.msr_devices.proofs.Chaining.{left_of, takes_append, takes_none}
-use Rattle.msr_base.specs.declared.counts.Counts.{Counts}
 use Rattle.msr_report.specs.declared.report.Report.{Report}
 use Rattle.msr_devices.specs.declared.fault.DeviceFault.TheVariants as device_fault
 use Rattle.msr_options.specs.Choice.{Choice}
-use Rattle.msr_tool.specs.Settings.{settings_of}
-use Rattle.msr_tool.specs.Listing.{ListAnswers}
-use Rattle.msr_tool.specs.Tasks.{Reports, Tells}
+use Rattle.msr_tool.specs.Tasks.{Reports}
 use Rattle.msr_tool.specs.declared.fault.ToolFault.{ToolFault}
 use Rattle.msr_tool.specs.declared.fault.ToolFault.TheVariants as fault
 use Rattle.msr_options.specs.declared.days.DayOptions.{DayOptions}
@@ -28,7 +25,7 @@ use Rattle.msr_options.specs.declared.task.Task.{Task}
 use Rattle.msr_options.specs.declared.task.Task.TheVariants.{Repack, List as Listing, Check, Compare, Archive, Verify, Feed}
 use Rattle.msr_command.specs.Turns.{AreTurns}
 use Rattle.msr_command.proofs.Comparisons.{compare_unsettled, two_after, two_none}
-use Rattle.msr_command.specs.Ends.{Checks, Does, EndsClosed, Feeds, FeedAnswers, FeedEnds, FeedsTo, IsUncreated, IsUnread, ListEnds, Lists, ListsNamed, IsOverlapOrMemory, Over, RepackEnds, Repacks, RepacksNamed, VerifiesArchive, WalksArchive, done_of_archive, done_of_verifying}
+use Rattle.msr_command.specs.Ends.{Checks, Does, EndsClosed, Feeds, FeedAnswers, FeedEnds, FeedsTo, IsUncreated, IsUnread, ListEnds, ListsNamed, IsOverlapOrMemory, Over, RepackEnds, Repacks, RepacksNamed, VerifiesArchive, WalksArchive, done_of_archive, done_of_verifying}
 
 -- nothing was read or printed
 over_none : (known : Type 0) (says : (input printed : List ℕ) → Type 0) (source out0 out : Device) → Takes out0 out [] →
@@ -51,6 +48,12 @@ over_after known says source out0 out1 out none does = record {
   prints = takes_append out0 out1 out [] does.printed none does.prints;
   ends = does.ends;
 }
+
+-- what was done over a source, where less is known of it
+pub over_named : {known named : Type 0} {says : (input printed : List ℕ) → Type 0} {source standard out0 out : Device}
+    (does : Over known says source out0 out) → (named → HasLeft standard does.input) → Over named says standard out0 out
+over_named does left =
+    record { input = does.input; printed = does.printed; left = left; prints = does.prints; ends = does.ends }
 
 -- the same is said otherwise
 over_said : (known : Type 0) (says others : (input printed : List ℕ) → Type 0) (source out0 out : Device) →
@@ -195,16 +198,6 @@ check_unread out stop is = record {
   ends = inr (inl is, refl);
 }
 
-pub check_stops : (packed report out0 out : Device) (why : ToolFault) → Tells packed report out0 out (Err why) →
-    Checks out0 out (Err (Tool why))
-check_stops packed report out0 out why does = record {
-  input = does.input;
-  text = does.text;
-  printed = does.told;
-  prints = does.told_all;
-  ends = inl does.answers;
-}
-
 pub archive_done : (asked : DayOptions) (out0 out : Device) (is_whole : Bool) (walked : Walked)
     → Walks asked out0 out (Ok walked) → WalksArchive asked out0 out (Ok (done_of_archive is_whole walked))
 archive_done asked out0 out is_whole walked does = record {
@@ -326,27 +319,3 @@ task_unsettled (Verify asked) standard out0 out done does =
     }
 task_unsettled (Feed asked) standard out0 out done does =
     over_said _ _ _ standard out0 out (fed_unstored asked.options done) does
-
--- a source was listed, or is at fault
-
-pub list_done : (form : ListForm) (choice : Choice) (source out0 out : Device) (input printed : List ℕ) (counts : Counts) →
-    HasLeft source input → Takes out0 out printed → ListAnswers form (settings_of choice) input printed (Ok counts) →
-    Lists form choice source out0 out (Ok Written)
-list_done form choice source out0 out input printed counts left prints answers = record {
-  input = input;
-  printed = printed;
-  left = λ is. left;
-  prints = prints;
-  ends = (refl, record { counts = counts; listed = answers });
-}
-
-pub list_stops : (form : ListForm) (choice : Choice) (source out0 out : Device) (input printed : List ℕ) (why : ToolFault) →
-    HasLeft source input → Takes out0 out printed → ListAnswers form (settings_of choice) input printed (Err why) →
-    Lists form choice source out0 out (Err (Tool why))
-list_stops form choice source out0 out input printed why left prints answers = record {
-  input = input;
-  printed = printed;
-  left = λ is. left;
-  prints = prints;
-  ends = inl answers;
-}

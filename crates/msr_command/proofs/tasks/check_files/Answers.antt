@@ -1,5 +1,6 @@
+use Rattle.std.proofs.Common.{inl, refl}
 use Rattle.std.proofs.lemmas.Result.{err_from_is_err_and}
-use Rattle.msr_command.proofs.Endings.{check_unread, check_stops}
+use Rattle.msr_command.proofs.Endings.{check_unread}
 use Rattle.msr_command.proofs.tasks.check_files.Goals as goal
 
 pub returns-in_err-open_file : goal.returns-in_err-open_file
@@ -18,4 +19,10 @@ returns-in_err-open_file-2 g c =
 pub returns-in_err-verdict : goal.returns-in_err-verdict
 returns-in_err-verdict g c =
     let p = err_from_is_err_and c.from_residual-in_err-verdict.result c.from_residual-in_err-verdict.ensures.1 in
-    rw (p.1, p.2) (check_stops _ _ _ _ _ c.in_err-verdict.ensures.answer)
+    let a = c.in_err-verdict.ensures.answer in
+    rw (p.1, p.2) (record { input = a.input; text = a.text; printed = a.told; prints = a.told_all; ends = inl a.answers })
+
+pub returns : goal.returns
+returns g c =
+    let a = c.in_ok-verdict.ensures.answer in
+    record { input = a.input; text = a.text; printed = a.told; prints = a.told_all; ends = (_, refl, a.answers) }

@@ -1,5 +1,5 @@
-use Rattle.std.proofs.Common.{rules}
-use Rattle.msr_command.proofs.Endings.{list_unread}
+use Rattle.std.proofs.Common.{◌≡◌, codes, rules}
+use Rattle.msr_command.proofs.Endings.{list_unread, over_named}
 use Rattle.msr_command.proofs.tasks.list_file.Goals as goal
 
 pub returns-in-Err : goal.returns-in-Err
@@ -8,4 +8,9 @@ returns-in-Err g c =
     (g.O.Sink.device c.args.output.now) c.in-Err.fault c.in-Err.ensures.stop
 
 pub returns-in-Ok-None-default : goal.returns-in-Ok-None-default
-returns-in-Ok-None-default g c = search rules
+returns-in-Ok-None-default g c = let does = c.list_from.ensures in over_named does (λ named. does.left tt)
+
+pub returns-in-Ok-Some-default : goal.returns-in-Ok-Some-default
+returns-in-Ok-Some-default g c =
+    let no_name : c.args.asked.now.input.now ≡ codes "-" → ⊥ = search rules in
+    over_named c.list_from-in-Ok-Some-default.ensures (λ named. absurd (no_name named))

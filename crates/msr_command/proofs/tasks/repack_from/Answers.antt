@@ -13,3 +13,6 @@ pub returns-then-is_err : goal.returns-then-is_err
 returns-then-is_err g c =
     repack_unsettled c.args.options (g.I.Source.device c.args.source.now) (g.O.Sink.device c.args.output.now)
     (g.O.Sink.device c.repack_to-2.new.output) c.in_ok-done.done c.in_ok-done.ensures
+
+pub returns : goal.returns
+returns g c = c.in_ok-done.ensures
