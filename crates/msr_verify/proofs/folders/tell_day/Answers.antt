@@ -20,3 +20,11 @@ returns-then-eq-clause-told g c = λ name day. c.tell.ensures.told (judged _ c.i
 
 pub returns-then-eq-clause-stops : goal.returns-then-eq-clause-stops
 returns-then-eq-clause-stops g c = λ name day. c.tell.ensures.stops (judged _ c.in_ok-judgement.judgement (name, day) c.in_ok-judgement.ensures)
+
+pub returns-then-is_gone-clause-told : goal.returns-then-is_gone-clause-told
+returns-then-is_gone-clause-told g c =
+    λ name day. c.tell-then-is_gone.ensures.told (record { day = (name, day); judgement_is = tt })
+
+pub returns-then-is_gone-clause-stops : goal.returns-then-is_gone-clause-stops
+returns-then-is_gone-clause-stops g c =
+    λ name day. c.tell-then-is_gone.ensures.stops (record { day = (name, day); judgement_is = tt })
