@@ -1,7 +1,10 @@
 //! Reading packed records beside their report.
-ghost use Rattle.std.specs.Prelude.{◌↔◌, ◌≤◌, ℕ, List, IsErrOf, MatchOption};
+ghost use Rattle.std.specs.Prelude.{◌≡◌, ◌↔◌, ◌≤◌, ℕ, List, [], None, false, true, IsErrOf, MatchOption};
 ghost use Rattle.msr_devices.specs.Device.{CanCountCall, CountsFew, HasFailed, HasLeft};
 ghost use Rattle.msr_kinds.specs.Lengths.{bytes_of};
+ghost use Rattle.msr_words.specs.Fit.{Records};
+ghost use Rattle.msr_check.specs.Judged.{Judges};
+ghost use Rattle.msr_input.specs.Rows.{HasReadRows};
 ghost use Rattle.msr_input.specs.declared.row_reader.NextRow.{NextRow as Told};
 ghost use Rattle.msr_verdict.specs.Compared.{HasFullRow};
 ghost use Rattle.msr_verdict.specs.Packed.{VerifyAnswers};
@@ -54,6 +57,26 @@ pub fn verify_packed<R: Source>(
     };
     let mut reader = RowReader::new(alloc, settings);
     let mut agreement = Agreement::new(alloc);
+    verify_records(source, report, &mut reader, &mut agreement)
+}
+
+/// Verifies with a reader and an agreement that are new. They are lent, so that each is dropped at one place.
+fn verify_records<R: Source>(
+    source: &mut R,
+    report: &Report,
+    reader: &mut RowReader,
+    agreement: &mut Agreement,
+) -> Result<Verdict, ReadFault>
+    requires count { CanCountCall (R.device source.old) }
+    requires reader { HasReadRows (R.device source.old) (R.device source.old) reader.old [] []
+        × (reader.old.following ≡ record { tolerance = report.now.tolerance; current = None })
+        × (reader.old.position.strict ≡ false) }
+    requires agreement { (agreement.old.place ≡ 0) × (agreement.old.is_open ≡ false) × (agreement.old.agrees ≡ true)
+        × ((form : Records) (separators : List ℕ) → Judges form [] [] separators agreement.old.judged) }
+    ensures { ((input : List ℕ) × HasLeft (R.device source.old) input × VerifyAnswers report.now input result)
+        × (IsErrOf result ReadFault.Read ↔ HasFailed (R.device source.old) (R.device source.new))
+        × CountsFew (R.device source.old) (R.device source.new) }
+{
     'records: while let Some(next) = reader.next_record(source)? {
         agreement.take(report, full_row(next, report.length))?;
     }

@@ -1,6 +1,6 @@
 use Rattle.msr_input.specs.Records.{left_with}
 use Rattle.msr_verdict.proofs.StoppedReading.{UnderWay}
-use Rattle.msr_verdict.proofs.verify.verify_packed.Given as goal
+use Rattle.msr_verdict.proofs.verify.verify_records.Given as goal
 
 abbrev pub invariant-records : goal.invariant-records
 invariant-records g l = UnderWay l.report (g.R.Source.device l.fn.source)
