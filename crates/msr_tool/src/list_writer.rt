@@ -164,27 +164,26 @@ impl ListWriter {
     }
 
     /// Writes the line of the last segment, that of the counts, and all that waits.
-    pub(crate) fn finish<W: Sink>(self, sink: &mut W, counts: &Counts) -> Result<(), ToolFault>
+    pub(crate) fn finish<W: Sink>(&mut self, sink: &mut W, counts: &Counts) -> Result<(), ToolFault>
         requires count { CanCountCall (W.device sink.old) }
-        requires last { IfSome self.last IsOpenInBounds }
+        requires last { IfSome self.old.last IsOpenInBounds }
         ensures written { (start : Device) (segments : List Joined) (current : Option Joined)
-            → HasListed self.form start (W.device sink.old) self.waiting self.before segments
-            → self.last ≡ option_map listed_of current
+            → HasListed self.old.form start (W.device sink.old) self.old.waiting self.old.before segments
+            → self.old.last ≡ option_map listed_of current
             → MatchResult result
-            (λ _. HasListedAll self.form start (W.device sink.new) (segments ++ option_to_list current) counts.now)
-            (StopsListingAll self.form start (W.device sink.new) (segments ++ option_to_list current) counts.now) }
+            (λ _. HasListedAll self.old.form start (W.device sink.new) (segments ++ option_to_list current) counts.now)
+            (StopsListingAll self.old.form start (W.device sink.new) (segments ++ option_to_list current) counts.now) }
         ensures few { CountsFew (W.device sink.old) (W.device sink.new) }
     {
-        let ListWriter {
-            alloc,
-            form,
-            mut buffer,
-            before,
-            last,
-        } = self;
-        push_last(alloc, &mut buffer.bytes, form, before, last)?;
-        push_last_line(alloc, &mut buffer.bytes, form, counts)?;
-        buffer.flush(sink)?;
+        push_last(
+            self.alloc,
+            &mut self.buffer.bytes,
+            self.form,
+            self.before,
+            self.last,
+        )?;
+        push_last_line(self.alloc, &mut self.buffer.bytes, self.form, counts)?;
+        self.buffer.flush(sink)?;
         Ok(())
     }
 }
