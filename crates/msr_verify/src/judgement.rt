@@ -70,20 +70,21 @@ impl Judgement {
         ensures { IfOk result (λ line. IsLineOf path.now self (string_bytes line)) }
     {
         let path = shown_path(alloc, path)?;
-        match self {
-            Judgement::Verified => format!(in alloc; "verified {path}\n"),
-            Judgement::Missing => format!(in alloc; "missing {path}\n"),
-            Judgement::NotShown => format!(in alloc; "notshown {path}\n"),
-            Judgement::Differs => format!(in alloc; "differs {path}\n"),
-            Judgement::Orphan => format!(in alloc; "orphan {path}\n"),
+        let word = match self {
+            Judgement::Verified => "verified ",
+            Judgement::Missing => "missing ",
+            Judgement::NotShown => "notshown ",
+            Judgement::Differs => "differs ",
+            Judgement::Orphan => "orphan ",
             Judgement::Skipped(fault) => {
                 let why = fault.to_string(alloc)?;
-                format!(in alloc; "skipped {path}: {why}\n")
+                return format!(in alloc; "skipped {path}: {why}\n");
             }
             Judgement::Refused(refusal) => {
                 let why = refusal.to_string(alloc)?;
-                format!(in alloc; "refused {path}: {why}\n")
+                return format!(in alloc; "refused {path}: {why}\n");
             }
-        }
+        };
+        format!(in alloc; "{word}{path}\n")
     }
 }
