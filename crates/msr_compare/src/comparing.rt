@@ -5,7 +5,7 @@ ghost use Rattle.msr_input.specs.declared.settings.Settings.{Settings as How};
 ghost use Rattle.msr_compare.specs.Answers.{CompareAnswers};
 ghost use Rattle.msr_compare.specs.Symbols.{Symbol};
 ghost use Rattle.msr_compare.specs.Sides.{HasBegun, HasTaken};
-ghost use Rattle.msr_compare.specs.Meetings.{BothBegin, HaveFinished, HaveMet, HaveTaken, IsAnswered, ReadsFirst, StopsFinishing, StopsMeeting};
+ghost use Rattle.msr_compare.specs.Meetings.{BothBegin, HaveMet, HaveTaken, IsAnswered, ReadsFirst, StopsMeeting};
 
 use crate::comparison::{Comparison, Difference, SameSegments};
 use crate::fault::CompareFault;
@@ -47,39 +47,6 @@ fn agree<One: Source, Other: Source>(
             Met::Differ(difference) => return Ok(Some(difference)),
         }
     }
-}
-
-/// Both inputs are read to their ends, after their first difference: a later record may be refused.
-fn finish<One: Source, Other: Source>(
-    one_side: &mut Side,
-    one: &mut One,
-    other_side: &mut Side,
-    other: &mut Other,
-    difference: Difference,
-) -> Result<Comparison, CompareFault>
-    requires one { HasBegun (One.device one.old) one_side.old }
-    requires other { HasBegun (Other.device other.old) other_side.old }
-    ensures finished { (settings : How) (start_one start_other : Device) (done other_done : List Symbol)
-        → HasTaken settings start_one (One.device one.old) one_side.old done
-        → HasTaken settings start_other (Other.device other.old) other_side.old other_done
-        → MatchResult result
-        (HaveFinished settings start_one (One.device one.new) start_other (Other.device other.new)
-        one_side.old other_side.old done other_done difference)
-        (StopsFinishing settings start_one (One.device one.new) start_other (Other.device other.new)) }
-    ensures few_one { (settings : How) (start : Device) (done : List Symbol)
-        → HasTaken settings start (One.device one.old) one_side.old done
-        → CountsFew start (One.device one.new) }
-    ensures few_other { (settings : How) (start : Device) (done : List Symbol)
-        → HasTaken settings start (Other.device other.old) other_side.old done
-        → CountsFew start (Other.device other.new) }
-{
-    if let Err(fault) = one_side.drain(one) {
-        return Err(CompareFault::One(fault));
-    }
-    if let Err(fault) = other_side.drain(other) {
-        return Err(CompareFault::Other(fault));
-    }
-    Ok(Comparison::Differ(difference))
 }
 
 /// Reading the other input stopped. If it is refused, the first one is read to its end: it may be refused too.
@@ -129,7 +96,16 @@ fn answer<One: Source, Other: Source>(
                 moved_other: second.moved,
             }))
         }
-        Ok(Some(difference)) => finish(one_side, one, other_side, other, difference),
+        Ok(Some(difference)) => {
+            // Both inputs are read to their ends: a later record may be refused.
+            if let Err(fault) = one_side.drain(one) {
+                return Err(CompareFault::One(fault));
+            }
+            if let Err(fault) = other_side.drain(other) {
+                return Err(CompareFault::Other(fault));
+            }
+            Ok(Comparison::Differ(difference))
+        }
         Err(CompareFault::One(why)) => Err(CompareFault::One(why)),
         Err(CompareFault::Other(why)) => Err(refuse(one_side, one, why)),
     }

@@ -1,4 +1,5 @@
-use Rattle.msr_compare.proofs.ComparedInputs.{answered_finished, answered_one, answered_refused, answered_same}
+use Rattle.std.proofs.Common.{refl}
+use Rattle.msr_compare.proofs.ComparedInputs.{answered_finished, answered_one, answered_refused, answered_same, drained_readable}
 use Rattle.msr_compare.proofs.comparing.answer.Goals as goal
 
 pub agree-requires-clause-one : goal.agree-requires-clause-one
@@ -16,8 +17,8 @@ returns-in-Ok-None g c = λ settings h.
     c.agree.new.other_side (rw c.in-Ok-None.field-0-is at (c.in-Ok-None.ensures.met settings start_one start_other h))
     c.agree.ensures.few_one c.agree.ensures.few_other)
 
-pub finish-requires-clause-one : goal.finish-requires-clause-one
-finish-requires-clause-one g c =
+pub drain-requires : goal.drain-requires
+drain-requires g c =
     let start_one = g.One.Source.device c.args.one.now in
     let start_other = g.Other.Source.device c.args.other.now in
     let b = c.requires.begins in
@@ -30,8 +31,8 @@ finish-requires-clause-one g c =
       can = c.requires.one;
     }
 
-pub finish-requires-clause-other : goal.finish-requires-clause-other
-finish-requires-clause-other g c =
+pub drain-requires-in-Ok-Some : goal.drain-requires-in-Ok-Some
+drain-requires-in-Ok-Some g c =
     let start_one = g.One.Source.device c.args.one.now in
     let start_other = g.Other.Source.device c.args.other.now in
     let b = c.requires.begins in
@@ -44,18 +45,33 @@ finish-requires-clause-other g c =
       can = c.requires.other;
     }
 
-pub returns-in-Ok-Some : goal.returns-in-Ok-Some
-returns-in-Ok-Some g c = λ settings h.
-    let start_one = g.One.Source.device c.args.one.now in
-    let start_other = g.Other.Source.device c.args.other.now in
-    let m = rw c.in-Ok-Some.field-0-is at (c.in-Ok-Some.ensures.met settings start_one start_other h) in
+pub returns-in-Err : goal.returns-in-Err
+returns-in-Err g c = λ settings h.
+    let t = (rw c.in-Ok-Some.field-0-is at (c.in-Ok-Some.ensures.met settings _ _ h)).fetched.taken in
+    answered_one settings _ _ _ _ c.in-Err.fault
+    (c.in-Err.ensures.drained settings _ t.done t.one_taken, t.other_taken.read.came.steady)
+    (c.in-Err.ensures.few settings _ t.done t.one_taken) c.agree.ensures.few_other
+
+pub returns-in-Err-drain : goal.returns-in-Err-drain
+returns-in-Err-drain g c = λ settings h.
+    let m = rw c.in-Ok-Some.field-0-is at (c.in-Ok-Some.ensures.met settings _ _ h) in
     let t = m.fetched.taken in
-    answered_finished settings start_one (g.One.Source.device c.agree.new.one) (g.One.Source.device c.finish.new.one)
-    start_other (g.Other.Source.device c.agree.new.other) (g.Other.Source.device c.finish.new.other)
-    c.agree.new.one_side c.agree.new.other_side c.in-Ok-Some.difference c.finish.result m
-    (c.finish.ensures.finished settings start_one start_other t.done t.done t.one_taken t.other_taken)
-    (c.finish.ensures.few_one settings start_one t.done t.one_taken)
-    (c.finish.ensures.few_other settings start_other t.done t.other_taken)
+    let d = c.in_default.ensures.drained settings _ t.done t.one_taken in
+    answered_finished settings _ _ _ _ _ _ c.agree.new.one_side c.agree.new.other_side c.in-Ok-Some.difference _ m
+    (c.in-Err-drain.ensures.drained settings _ t.done t.other_taken, d.steady, drained_readable settings _ _ _ _ d)
+    (c.in_default.ensures.few settings _ t.done t.one_taken) (c.in-Err-drain.ensures.few settings _ t.done t.other_taken)
+
+pub returns-in_default-drain : goal.returns-in_default-drain
+returns-in_default-drain g c = λ settings h.
+    let m = rw c.in-Ok-Some.field-0-is at (c.in-Ok-Some.ensures.met settings _ _ h) in
+    let t = m.fetched.taken in
+    answered_finished settings _ _ _ _ _ _ c.agree.new.one_side c.agree.new.other_side c.in-Ok-Some.difference _ m
+    (record {
+      told = refl;
+      one_drained = c.in_default.ensures.drained settings _ t.done t.one_taken;
+      other_drained = c.in_default-drain.ensures.drained settings _ t.done t.other_taken;
+    })
+    (c.in_default.ensures.few settings _ t.done t.one_taken) (c.in_default-drain.ensures.few settings _ t.done t.other_taken)
 
 pub returns-in-Err-One : goal.returns-in-Err-One
 returns-in-Err-One g c = λ settings h.
