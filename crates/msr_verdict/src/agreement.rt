@@ -67,7 +67,7 @@ impl Agreement {
     ghost use Rattle.msr_words.specs.declared.kinds.Run.{Run as WordRun};
     ghost use Rattle.msr_check.specs.Judged.{Judges};
     ghost use Rattle.msr_segments.specs.declared.joiner.Segment.{Segment};
-    ghost use Rattle.msr_verdict.specs.Compared.{AddsRow, ComparesEnded, EndsBy, IsLineAt, IsShownAt, OpensBy, TakesRow};
+    ghost use Rattle.msr_verdict.specs.Compared.{AddsRow, ComparesEnded, IsLineAt, IsShownAt, OpensBy, TakesRow};
 
     /// The state before the first record.
     pub(crate) fn new(alloc: Global) -> Agreement
@@ -112,16 +112,6 @@ impl Agreement {
         self.place = self.place.saturating_add(1);
         self.is_open = false;
         self.judge.begin();
-    }
-
-    /// Compares the open segment if a row that does so ends it.
-    fn end_by(&mut self, report: &Report, step: Step)
-        ensures { EndsBy (form_by report.now) report.now.segments.items step self.old self.new }
-    {
-        match step {
-            Step::Begins => self.end(report),
-            Step::Joins => {}
-        }
     }
 
     /// Opens a segment with the row if none is open. If the line at its place is not of that segment, it disagrees before
@@ -170,7 +160,9 @@ impl Agreement {
             self.judge.begin();
             return Ok(());
         };
-        self.end_by(report, next.step);
+        if next.step == Step::Begins {
+            self.end(report);
+        }
         self.add(report, next.row)
     }
 

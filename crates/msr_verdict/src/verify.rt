@@ -1,13 +1,13 @@
 //! Reading packed records beside their report.
-ghost use Rattle.std.specs.Prelude.{◌≡◌, ◌↔◌, ◌≤◌, ℕ, List, [], None, false, true, IsErrOf, MatchOption};
+ghost use Rattle.std.specs.Prelude.{◌≡◌, ◌↔◌, ◌≤◌, ℕ, List, [], None, true, false, IsErrOf, MatchOption};
 ghost use Rattle.msr_devices.specs.Device.{CanCountCall, CountsFew, HasFailed, HasLeft};
 ghost use Rattle.msr_kinds.specs.Lengths.{bytes_of};
 ghost use Rattle.msr_words.specs.Fit.{Records};
 ghost use Rattle.msr_check.specs.Judged.{Judges};
-ghost use Rattle.msr_input.specs.Rows.{HasReadRows};
+ghost use Rattle.msr_input.specs.Rows.{HasReadRows, row_settings};
 ghost use Rattle.msr_input.specs.declared.row_reader.NextRow.{NextRow as Told};
 ghost use Rattle.msr_verdict.specs.Compared.{HasFullRow};
-ghost use Rattle.msr_verdict.specs.Packed.{VerifyAnswers};
+ghost use Rattle.msr_verdict.specs.Packed.{VerifyAnswers, settings_by};
 
 use crate::agreement::Agreement;
 use crate::verdict::Verdict;
@@ -69,8 +69,7 @@ fn verify_records<R: Source>(
 ) -> Result<Verdict, ReadFault>
     requires count { CanCountCall (R.device source.old) }
     requires reader { HasReadRows (R.device source.old) (R.device source.old) reader.old [] []
-        × (reader.old.following ≡ record { tolerance = report.now.tolerance; current = None })
-        × (reader.old.position.strict ≡ false) }
+        × (reader.old.following.current ≡ None) × (row_settings reader.old ≡ settings_by report.now) }
     requires agreement { (agreement.old.place ≡ 0) × (agreement.old.is_open ≡ false) × (agreement.old.agrees ≡ true)
         × ((form : Records) (separators : List ℕ) → Judges form [] [] separators agreement.old.judged) }
     ensures { ((input : List ℕ) × HasLeft (R.device source.old) input × VerifyAnswers report.now input result)

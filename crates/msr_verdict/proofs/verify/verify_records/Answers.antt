@@ -1,11 +1,10 @@
-use Rattle.std.proofs.Common.{◌∷◌, ◌++◌, [], ap, ◌∙◌}
+use Rattle.std.proofs.Common.{◌∷◌, ◌++◌, [], ◌∙◌}
 use Rattle.std.proofs.lemmas.Result.{err_from_is_err_and}
 use Rattle.msr_devices.proofs.Chaining.{steady_sound, steady_steady, steady_then_few}
-use Rattle.msr_segments.specs.Spans.{Following}
 use Rattle.msr_input.specs.Rows.{answer_told}
 use Rattle.msr_verdict.specs.Packed.{form_by}
 use Rattle.msr_verdict.proofs.ComparingStates.{follows_none, follows_step}
-use Rattle.msr_verdict.proofs.StoppedReading.{as_answer, read_fails, read_tells, stops_so, memory_fails, done, settings_none}
+use Rattle.msr_verdict.proofs.StoppedReading.{as_answer, read_fails, read_tells, stops_so, memory_fails, done}
 use Rattle.msr_verdict.proofs.verify.verify_records.Goals as goal
 
 pub records-init : goal.records-init
@@ -16,9 +15,9 @@ records-init g c =
       records = [];
       answers = [];
       read = r.0;
-      settings = settings_none c.args.report.now c.args.reader.now r.1 r.2;
+      settings = r.2;
       follows = follows_none (form_by c.args.report.now) c.args.report.now.segments.items
-          c.args.reader.now.following c.args.agreement.now (ap (λ (f : Following). f.current) r.1)
+          c.args.reader.now.following c.args.agreement.now r.1
           (record { place = a.0; is_open = a.1; judged = a.3; agrees = a.2 });
     }
 
