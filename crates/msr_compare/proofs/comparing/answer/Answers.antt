@@ -71,7 +71,8 @@ returns-in_default-drain g c = λ settings h.
       one_drained = c.in_default.ensures.drained settings _ t.done t.one_taken;
       other_drained = c.in_default-drain.ensures.drained settings _ t.done t.other_taken;
     })
-    (c.in_default.ensures.few settings _ t.done t.one_taken) (c.in_default-drain.ensures.few settings _ t.done t.other_taken)
+    (c.in_default.ensures.few settings _ t.done t.one_taken)
+    (c.in_default-drain.ensures.few settings _ t.done t.other_taken)
 
 pub returns-in-Err-One : goal.returns-in-Err-One
 returns-in-Err-One g c = λ settings h.

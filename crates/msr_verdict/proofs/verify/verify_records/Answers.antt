@@ -63,7 +63,8 @@ returns-in_err-take g c =
     let memory = c.in_err-take.ensures.memory in
     rw (p.1, p.2) (
       as_answer _ _ _ (memory_fails c.args.report.now start (g.R.Source.device c.next_record.new.source)
-          c.next_record.new.self _ _ c.in_err-take.field-0.0 one.read (c.next_record.ensures.settings ∙ u.settings) memory),
+          c.next_record.new.self _ _ c.in_err-take.field-0.0 one.read (c.next_record.ensures.settings ∙ u.settings)
+          memory),
       rw memory ((λ e. absurd cc), (λ failed. absurd (steady_sound _ _ steady failed))),
       steady_then_few _ _ _ u.read.came.steady c.next_record.ensures.few,
     )
