@@ -8,40 +8,40 @@ use std::test::Fail;
 type Row<'a> = (Edit<'a>, usize, &'a [u8], &'a [u8]);
 
 const ROWS: &[Row<'static>] = &[
-    (Edit::Sequence(*b"123456"), 0, b"123456", b"123456"),
-    (Edit::Quality(b'M'), 6, b"M", b"M"),
-    (Edit::Station(*b"OTHER"), 8, b"OTHER", b"OTHER"),
-    (Edit::Channel(*b"LHN"), 15, b"LHN", b"LHN"),
-    (Edit::Day(2056, 366), 20, &[8, 8, 1, 110], &[8, 8, 110, 1]),
+    (("sequence", "123456"), 0, b"123456", b"123456"),
+    (("quality", "M"), 6, b"M", b"M"),
+    (("station", "OTHER"), 8, b"OTHER", b"OTHER"),
+    (("channel", "LHN"), 15, b"LHN", b"LHN"),
+    (("day", "2056,366"), 20, &[8, 8, 1, 110], &[8, 8, 110, 1]),
     (
-        Edit::Clock(23, 59, 58, 515),
+        ("clock", "23:59:58.515"),
         24,
         &[23, 59, 58, 0, 2, 3],
         &[23, 59, 58, 0, 3, 2],
     ),
-    (Edit::SampleCount(258), 30, &[1, 2], &[2, 1]),
-    (Edit::Rate(-10, 3), 32, &[255, 246, 0, 3], &[246, 255, 3, 0]),
-    (Edit::Activity(2), 36, &[2], &[2]),
-    (Edit::Clocking(4), 37, &[4], &[4]),
-    (Edit::DataQuality(8), 38, &[8], &[8]),
+    (("samples", "258"), 30, &[1, 2], &[2, 1]),
+    (("rate", "-10/3"), 32, &[255, 246, 0, 3], &[246, 255, 3, 0]),
+    (("activity", "2"), 36, &[2], &[2]),
+    (("clocking", "4"), 37, &[4], &[4]),
+    (("flags", "8"), 38, &[8], &[8]),
     (
-        Edit::Correction(-12),
+        ("correction", "-12"),
         40,
         &[255, 255, 255, 244],
         &[244, 255, 255, 255],
     ),
-    (Edit::DataAt(256), 44, &[1, 0], &[0, 1]),
-    (Edit::FirstBlockette(56), 46, &[0, 56], &[56, 0]),
-    (Edit::After1000(128), 50, &[0, 128], &[128, 0]),
-    (Edit::Encoding(10), 52, &[10], &[10]),
-    (Edit::DataOrder(0), 53, &[0], &[0]),
-    (Edit::Exponent(9), 54, &[9], &[9]),
-    (Edit::SecondType(500), 56, &[1, 244], &[244, 1]),
-    (Edit::After1001(64), 58, &[0, 64], &[64, 0]),
-    (Edit::TimingQuality(90), 60, &[90], &[90]),
-    (Edit::Micros(-50), 61, &[206], &[206]),
-    (Edit::Frames(1), 63, &[1], &[1]),
-    (Edit::Bytes(62, &[5]), 62, &[5], &[5]),
+    (("data", "256"), 44, &[1, 0], &[0, 1]),
+    (("first", "56"), 46, &[0, 56], &[56, 0]),
+    (("after1000", "128"), 50, &[0, 128], &[128, 0]),
+    (("encoding", "10"), 52, &[10], &[10]),
+    (("order", "0"), 53, &[0], &[0]),
+    (("exponent", "9"), 54, &[9], &[9]),
+    (("second", "500"), 56, &[1, 244], &[244, 1]),
+    (("after1001", "64"), 58, &[0, 64], &[64, 0]),
+    (("timing", "90"), 60, &[90], &[90]),
+    (("micros", "-50"), 61, &[206], &[206]),
+    (("frames", "1"), 63, &[1], &[1]),
+    (("62", "05"), 62, &[5], &[5]),
 ];
 
 /// The first bytes have this part in that place, and are else the second ones.
@@ -57,10 +57,11 @@ fn differ_there(found: &[u8], base: &[u8], at: usize, part: &[u8]) -> bool {
 fn is_edited(row: Row<'_>) -> bool {
     let (edit, at, big, little) = row;
     let edits = [edit];
-    differ_there(&header_bytes(&edits), &header_bytes(&[]), at, big)
-        && differ_there(&record(&edits), &record(&[]), at, big)
-        && differ_there(&steim_record(&edits), &steim_record(&[]), at, big)
-        && differ_there(&little_record(&edits), &little_record(&[]), at, little)
+    let header = differ_there(&header_bytes(&edits), &header_bytes(&[]), at, big);
+    let plain = differ_there(&record(&edits), &record(&[]), at, big);
+    let steim = differ_there(&steim_record(&edits), &steim_record(&[]), at, big);
+    let turned = differ_there(&little_record(&edits), &little_record(&[]), at, little);
+    header && plain && steim && turned
 }
 
 #[test]
@@ -75,8 +76,8 @@ fn edits_write_their_fields() -> Result<(), Fail> {
 
 /// All words of four bytes are this one.
 fn repeats(bytes: &[u8], word: [u8; 4]) -> bool {
-    for part in bytes.chunks(4) {
-        if part != word.as_slice() {
+    for at in 0..bytes.len() {
+        if bytes[at] != word[at % 4] {
             return false;
         }
     }
@@ -85,7 +86,7 @@ fn repeats(bytes: &[u8], word: [u8; 4]) -> bool {
 
 #[test]
 fn words_fill_frames() -> Result<(), Fail> {
-    let bytes = record_of_words([1, 2, 3, 4], &[Edit::Bytes(252, &[5, 6, 7, 8, 9])]);
+    let bytes = record_of_words([1, 2, 3, 4], &[("252", "0506070809")]);
     let edited = differ_there(&bytes, &record(&[]), 76, &bytes[76..]);
     expect(edited, "what stands before the words")?;
     expect(repeats(&bytes[76..252], [1, 2, 3, 4]), "the words")?;

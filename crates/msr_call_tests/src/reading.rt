@@ -2,7 +2,7 @@
 use crate::facts::expect_all;
 use msr_base::SampleVec;
 use msr_devices::{Behavior, TestSource};
-use msr_fixtures::{Edit, START, int32_record, key_at};
+use msr_fixtures::{START, int32_record, key_at};
 use msr_input::{NextRecord, ReadFault, RowReader, Settings};
 use msr_record::{Key, Kind, Row};
 use msr_segments::{
@@ -32,7 +32,7 @@ fn two(first: &[u8; 256], second: &[u8; 256]) -> [u8; 512] {
 /// Two records come with the first read, and the second one is given without another.
 #[test]
 fn records_at_hand_need_no_read(rt: HostRuntime) -> Result<(), Fail> {
-    let bytes = two(&int32_record(&[Edit::SampleCount(0)]), &int32_record(&[]));
+    let bytes = two(&int32_record(&[("samples", "0")]), &int32_record(&[]));
     let once = Behavior {
         most: 512,
         interruptions: 0,

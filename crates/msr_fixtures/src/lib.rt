@@ -4,16 +4,14 @@
 //! whether the rest is right is shown by the values that the tests expect.
 #![tactic(auto)]
 
-mod edit;
 mod keys;
 mod named;
 mod numbers;
 mod records;
 mod rows;
 
-pub use edit::Edit;
 pub use keys::key_at;
-pub use named::edit_by_name;
+pub use named::{Edit, edit_by_name};
 pub use numbers::next_of;
 pub use records::{
     START, header_bytes, int32_record, little_record, record, record_of_words, steim_record,

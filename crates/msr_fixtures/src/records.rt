@@ -1,6 +1,6 @@
 //! Records of the one header.
 
-use crate::edit::{Edit, edit_all};
+use crate::named::{Edit, edit_all};
 use msr_base::Order;
 
 /// 301 samples from 2020-01-01 00:00:00 at 20 per second, Steim-2, in a record of 256 bytes: the fixed section of 48
@@ -58,11 +58,7 @@ pub fn record_of_words(word: [u8; 4], edits: &[Edit<'_>]) -> [u8; 256] {
 pub fn steim_record(edits: &[Edit<'_>]) -> [u8; 256] {
     let mut bytes = record_of_words(
         [0x80, 0x00, 0x00, 0x00],
-        &[
-            Edit::Bytes(64, &[0x03, 0xff, 0xff, 0xff]),
-            Edit::Bytes(128, &[0x3f, 0xff, 0xff, 0xff]),
-            Edit::Bytes(192, &[0x3f, 0xff, 0xff, 0xff]),
-        ],
+        &[("64", "03ffffff"), ("128", "3fffffff"), ("192", "3fffffff")],
     );
     edit_all(Order::Big, &mut bytes, edits);
     bytes
@@ -70,7 +66,7 @@ pub fn steim_record(edits: &[Edit<'_>]) -> [u8; 256] {
 
 /// The record of 48 samples of 0 as numbers of 32 bits, after some edits.
 pub fn int32_record(edits: &[Edit<'_>]) -> [u8; 256] {
-    let mut bytes = record(&[Edit::SampleCount(48), Edit::Encoding(3), Edit::Frames(0)]);
+    let mut bytes = record(&[("samples", "48"), ("encoding", "3"), ("frames", "0")]);
     edit_all(Order::Big, &mut bytes, edits);
     bytes
 }

@@ -1,6 +1,6 @@
 //! The inputs: the two sample files, and a record whose reverse constant does not agree.
 
-use msr_fixtures::{Edit, header_bytes};
+use msr_fixtures::header_bytes;
 use std::alloc::{AllocError, Global};
 
 /// A record of 4096 bytes with this header and these words after it.
@@ -14,17 +14,17 @@ fn long_record(alloc: Global, header: &[u8], words: &[u8]) -> Result<Vec<u8>, Al
 /// A record of 4096 bytes with 302 samples of 0 from 2020-01-01 00:00:00 on, 20 a second.
 pub fn zeros(alloc: Global) -> Result<Vec<u8>, AllocError> {
     let header = header_bytes(&[
-        Edit::SampleCount(302),
-        Edit::Encoding(3),
-        Edit::Exponent(12),
-        Edit::Frames(0),
+        ("samples", "302"),
+        ("encoding", "3"),
+        ("exponent", "12"),
+        ("frames", "0"),
     ]);
     long_record(alloc, &header, &[])
 }
 
 /// A record of 4096 bytes with one sample of 0, whose reverse constant is 1.
 pub fn mismatched(alloc: Global) -> Result<Vec<u8>, AllocError> {
-    let header = header_bytes(&[Edit::SampleCount(1), Edit::Exponent(12), Edit::Frames(0)]);
+    let header = header_bytes(&[("samples", "1"), ("exponent", "12"), ("frames", "0")]);
     long_record(alloc, &header, &[1, 0, 0, 0, 0, 0, 0, 0, 0, 0, 0, 1])
 }
 
@@ -38,15 +38,15 @@ const WAVE: &[i16] = &[
     100, -21, -134, -226, -290, -319, -312, -272, -205, -119, -24, 69, 150, 211, 246, 252,
 ];
 
-/// Adds a record of that file, by its number and the second at which it begins.
-fn add_record(bytes: &mut Vec<u8>, number: [u8; 6], second: u8) -> Result<(), AllocError> {
+/// Adds a record of that file, by its number and the time at which it begins.
+fn add_record<'a>(bytes: &mut Vec<u8>, number: &'a str, clock: &'a str) -> Result<(), AllocError> {
     bytes.extend_from_slice(&header_bytes(&[
-        Edit::Sequence(number),
-        Edit::Clock(0, 0, second, 0),
-        Edit::SampleCount(100),
-        Edit::Encoding(1),
-        Edit::Exponent(9),
-        Edit::Frames(0),
+        ("sequence", number),
+        ("clock", clock),
+        ("samples", "100"),
+        ("encoding", "1"),
+        ("exponent", "9"),
+        ("frames", "0"),
     ]))?;
     for sample in WAVE {
         bytes.extend_from_slice(&sample.to_be_bytes())?;
@@ -58,10 +58,10 @@ fn add_record(bytes: &mut Vec<u8>, number: [u8; 6], second: u8) -> Result<(), Al
 /// after the third.
 pub fn two_segments(alloc: Global) -> Result<Vec<u8>, AllocError> {
     let mut bytes = Vec::new(alloc);
-    add_record(&mut bytes, *b"000001", 0)?;
-    add_record(&mut bytes, *b"000002", 5)?;
-    add_record(&mut bytes, *b"000003", 10)?;
-    add_record(&mut bytes, *b"000004", 25)?;
-    add_record(&mut bytes, *b"000005", 30)?;
+    add_record(&mut bytes, "000001", "00:00:00.0000")?;
+    add_record(&mut bytes, "000002", "00:00:05.0000")?;
+    add_record(&mut bytes, "000003", "00:00:10.0000")?;
+    add_record(&mut bytes, "000004", "00:00:25.0000")?;
+    add_record(&mut bytes, "000005", "00:00:30.0000")?;
     Ok(bytes)
 }

@@ -15,35 +15,10 @@ pub fn write(stage: &mut Stage<'_>, name: &str, path: &str) {
     stage.write(path, &bytes);
 }
 
-/// A byte of two hexadecimal digits.
-fn byte_of(pair: &[u8]) -> Option<u8> {
-    let mut value = 0u8;
-    for digit in pair {
-        let low = match *digit {
-            b'0'..=b'9' => *digit - b'0',
-            b'a'..=b'f' => *digit - b'a' + 10,
-            _ => return None,
-        };
-        value = value.wrapping_mul(16).wrapping_add(low);
-    }
-    Some(value)
-}
-
-/// Writes bytes from a place on, two hexadecimal digits for each.
-fn put_hex(bytes: &mut [u8], place: usize, digits: &str) -> Option<()> {
-    for (number, pair) in digits.as_bytes().chunks(2).enumerate() {
-        *bytes.get_mut(place.saturating_add(number))? = byte_of(pair)?;
-    }
-    Some(())
-}
-
 /// One change, by the name of a field or by a place, `NAME=VALUE`.
 fn change(bytes: &mut [u8], word: &str) -> Option<()> {
     let (name, value) = word.split_once('=')?;
-    match name.parse::<usize>() {
-        Ok(place) => put_hex(bytes, place, value),
-        Err(_) => edit_by_name(Order::Big, bytes, name, value),
-    }
+    edit_by_name(Order::Big, bytes, name, value)
 }
 
 /// Changes fields of the record at a file's begin, `NAME=VALUE ..`. A `_` stands for a space.
