@@ -1,9 +1,11 @@
 //! msr_devices: what devices do, which no clause says: how a test device plays, how large the
 //! pieces are, and each call once.
+ghost use Rattle.msr_devices.specs.Device.{CanCountCall};
+
 use crate::facts::{expect_all, is_text};
 use msr_devices::{
-    Behavior, DeviceFailed, DeviceFault, FromRead, FromWrite, ReadBuffer, TestSink, TestSource,
-    WriteBuffer, read_some, write_all, write_some,
+    Behavior, DeviceFailed, DeviceFault, FromRead, FromWrite, ReadBuffer, Sink, TestSink,
+    TestSource, WriteBuffer, read_some, write_all, write_some,
 };
 use msr_fixtures::expect;
 use std::alloc::Global;
@@ -69,15 +71,21 @@ fn sources_play_their_behavior(rt: HostRuntime) -> Result<(), Fail> {
     expect(fills(rt.alloc(), (0, 0, None, 14)), "0 stands for 1")
 }
 
+/// A sink takes so many bytes of the text.
+fn takes(mut sink: TestSink, held: usize) -> bool
+    requires { CanCountCall (⟦<TestSink as Sink>⟧.device sink) }
+{
+    let written = write_all(&mut sink, TEXT).is_ok();
+    written == (held == 14) && is_begin(sink.bytes(), held)
+}
+
 /// A sink that fails by an error, and one that fails by accepting nothing, take the text so.
 fn both_take(alloc: Global, row: Played) -> bool {
     let (most, interruptions, fails_at, held) = row;
     let behavior = behavior(most, interruptions, fails_at);
-    let mut failing = TestSink::new(Vec::new(alloc), behavior);
-    let mut idle = TestSink::accepting_nothing(Vec::new(alloc), behavior);
-    let written = write_all(&mut failing, TEXT).is_ok();
-    let same = write_all(&mut idle, TEXT).is_ok() == written && written == (held == 14);
-    same && is_begin(failing.bytes(), held) && is_begin(idle.bytes(), held)
+    let failing = takes(TestSink::new(Vec::new(alloc), behavior), held);
+    let idle = takes(TestSink::accepting_nothing(Vec::new(alloc), behavior), held);
+    failing && idle
 }
 
 #[test]
@@ -193,16 +201,19 @@ fn least_room(alloc: Global, want: usize) -> usize {
     }
 }
 
+/// How many bytes are wanted, with a name.
+const WANTED: &[(&str, usize)] = &[
+    ("1 byte", 1),
+    ("512 bytes", 512),
+    ("4096 bytes", 4096),
+    ("65536 bytes", 65_536),
+    ("100000 bytes", 100_000),
+];
+
 #[test]
 fn rooms_are_large(rt: HostRuntime) -> Result<(), Fail> {
-    for (name, want) in [
-        ("1 byte", 1),
-        ("512 bytes", 512),
-        ("4096 bytes", 4096),
-        ("65536 bytes", 65_536),
-        ("100000 bytes", 100_000),
-    ] {
-        expect(least_room(rt.alloc(), want) >= 65_536, name)?;
+    for (name, want) in WANTED {
+        expect(least_room(rt.alloc(), *want) >= 65_536, name)?;
     }
     Ok(())
 }

@@ -7,7 +7,9 @@ use std::test::Fail;
 /// Fails with the name of the first fact that does not hold.
 pub fn expect_all(facts: &[(bool, &str)]) -> Result<(), Fail> {
     for (holds, name) in facts {
-        expect(*holds, name)?;
+        if !*holds {
+            return expect(false, name);
+        }
     }
     Ok(())
 }

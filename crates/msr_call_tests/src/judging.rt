@@ -7,7 +7,7 @@ use msr_fixtures::expect;
 use msr_packer::{Packing, pack_in};
 use msr_words::Kind::{Int16, Int24, Int32, Steim1, Steim2};
 use msr_words::Kinds::{All, WithoutInt24};
-use msr_words::{Form, Kinds, Length, Run};
+use msr_words::{Form, Kind, Kinds, Length, Run};
 use std::alloc::{AllocError, Global};
 use std::test::Fail;
 
@@ -145,6 +145,9 @@ fn agree_at(
     Ok(true)
 }
 
+/// The kinds that are said of a run.
+const KINDS: &[Kind] = &[Steim2, Steim1, Int16, Int24, Int32];
+
 /// Both say the same of the packing if its last run is said to be of another kind.
 fn agree_on_kinds(
     trial: &mut Trial,
@@ -154,9 +157,9 @@ fn agree_on_kinds(
     let samples = segment.samples.len() as u64;
     trial.take_runs(&packing.runs, 0, Stays, samples)?;
     trial.take_separators(&packing.separators, 0, Stays)?;
-    for kind in [Steim2, Steim1, Int16, Int24, Int32] {
+    for kind in KINDS {
         if let Some(run) = trial.runs.last_mut() {
-            run.kind = kind;
+            run.kind = *kind;
         }
         if trial.verdict(segment).is_none() {
             return Ok(false);
@@ -181,27 +184,41 @@ fn agree_on(
     agree_on_kinds(trial, segment, packing)
 }
 
+/// How many samples the first run of the segment's packing has.
+fn first_run(alloc: Global, segment: Segment<'_>) -> Result<usize, AllocError> {
+    let packing = pack_in(alloc, segment.samples, segment.form)?;
+    match packing.runs.as_slice().first() {
+        Some(run) => Ok(run.end as usize),
+        None => Ok(0),
+    }
+}
+
+/// Both say the same of so many of the first samples, or of as many as there are.
+fn agree_on_first(
+    alloc: Global,
+    trial: &mut Trial,
+    all: Segment<'_>,
+    count: usize,
+) -> Result<bool, AllocError> {
+    let Segment { samples, form } = all;
+    let segment = Segment {
+        samples: &samples[..samples.len().min(count)],
+        form,
+    };
+    let packing = pack_in(alloc, segment.samples, form)?;
+    agree_on(trial, segment, &packing)
+}
+
 /// Both say the same of the samples of the first run with so many more, or as many as there are.
 fn agree_on_tails(alloc: Global, all: Segment<'_>, tails: &[usize]) -> Result<bool, AllocError> {
-    let Segment { samples, form } = all;
-    let first = pack_in(alloc, samples, form)?
-        .runs
-        .as_slice()
-        .first()
-        .map_or(0, |run| run.end as usize);
+    let first = first_run(alloc, all)?;
     let mut trial = Trial {
         judge: Judge::new(alloc),
         runs: Vec::new(alloc),
         separators: Vec::new(alloc),
     };
     for tail in tails {
-        let count = samples.len().min(first.saturating_add(*tail));
-        let segment = Segment {
-            samples: &samples[..count],
-            form,
-        };
-        let packing = pack_in(alloc, segment.samples, form)?;
-        if !agree_on(&mut trial, segment, &packing)? {
+        if !agree_on_first(alloc, &mut trial, all, first.saturating_add(*tail))? {
             return Ok(false);
         }
     }
@@ -239,6 +256,22 @@ const ROWS: &[Row] = &[
     ),
 ];
 
+/// Both say the same of so many samples that are made so.
+fn agree_on_made(
+    alloc: Global,
+    form: Form,
+    made: Made,
+    count: usize,
+    tails: &[usize],
+) -> Result<bool, AllocError> {
+    let samples = made.samples(alloc, count)?;
+    let segment = Segment {
+        samples: &samples,
+        form,
+    };
+    agree_on_tails(alloc, segment, tails)
+}
+
 /// Both say the same of the rows for so many records of that length and somewhat more.
 fn agree_at_length(alloc: Global, bytes: u32, records: usize, tails: &[usize]) -> Result<(), Fail> {
     let length = Length::new(bytes).ok_or("a length")?;
@@ -248,12 +281,8 @@ fn agree_at_length(alloc: Global, bytes: u32, records: usize, tails: &[usize]) -
             length,
             kinds: *kinds,
         };
-        let samples = made.samples(alloc, words.saturating_mul(*factor))?;
-        let segment = Segment {
-            samples: &samples,
-            form,
-        };
-        expect(agree_on_tails(alloc, segment, tails)?, name)?;
+        let count = words.saturating_mul(*factor);
+        expect(agree_on_made(alloc, form, *made, count, tails)?, name)?;
     }
     Ok(())
 }

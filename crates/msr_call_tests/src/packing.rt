@@ -5,6 +5,7 @@ use msr_packer::{BlockPacker, Piece, Run, pack};
 use msr_plain::{Width, fill_plain};
 use msr_words::Kind::{self, Steim2};
 use msr_words::{Form, Kinds, Length, first_kind, one_division};
+use std::alloc::{AllocError, Global};
 use std::test::Fail;
 
 #[test]
@@ -33,14 +34,20 @@ fn are_sevens_of_a_day(runs: &[Run], separators: &[u64]) -> bool {
     true
 }
 
-/// A day at 100 samples a second that rises by one: 103 words of seven differences, and 257 samples left.
-#[test]
-fn the_ramp_of_a_day(rt: HostRuntime) -> Result<(), Fail> {
-    let record_length = Length::new(512).ok_or("a length")?;
-    let mut samples = Vec::new(rt.alloc());
+/// A day at 100 samples a second that rises by one.
+fn ramp(alloc: Global) -> Result<Vec<i32>, AllocError> {
+    let mut samples = Vec::new(alloc);
     for sample in 0..8_640_000i32 {
         samples.push(sample)?;
     }
+    Ok(samples)
+}
+
+/// In a record 103 words of seven differences, and 257 samples left.
+#[test]
+fn the_ramp_of_a_day(rt: HostRuntime) -> Result<(), Fail> {
+    let record_length = Length::new(512).ok_or("a length")?;
+    let samples = ramp(rt.alloc())?;
     let packing = pack(rt.alloc(), samples.as_slice(), record_length)?;
     let (runs, separators) = (packing.runs.as_slice(), packing.separators.as_slice());
     let expected = Run {
