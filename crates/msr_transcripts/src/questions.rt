@@ -30,18 +30,23 @@ fn add_name(stage: &mut Stage<'_>, names: &mut Vec<String>, name: &str) {
     stage.note(names.push(told).is_ok());
 }
 
-/// The names in a folder, in the order of their bytes.
-fn names(stage: &mut Stage<'_>, folder: &str) {
+/// Adds the names in a folder.
+fn add_names(stage: &mut Stage<'_>, names: &mut Vec<String>, folder: &str) {
     let Ok(entries) = fs::read_dir(stage.rt, folder) else {
         return stage.note(false);
     };
-    let mut names = Vec::new(stage.alloc());
     for entry in entries {
         match entry {
-            Ok(entry) => add_name(stage, &mut names, entry.file_name()),
+            Ok(entry) => add_name(stage, names, entry.file_name()),
             Err(_) => stage.note(false),
         }
     }
+}
+
+/// The names in a folder, in the order of their bytes.
+fn names(stage: &mut Stage<'_>, folder: &str) {
+    let mut names = Vec::new(stage.alloc());
+    add_names(stage, &mut names, folder);
     names.sort_unstable();
     for name in &names {
         stage.put(name.as_str().as_bytes());
@@ -168,29 +173,41 @@ impl Rise {
     }
 }
 
+/// One number more after those of a rise: it is one of them, or they are told and it begins another rise.
+fn next_rise(stage: &mut Stage<'_>, rise: Rise, number: i64) -> Rise {
+    match rise.with(number) {
+        Some(longer) => longer,
+        None => {
+            rise.tell(stage);
+            Rise::of(number)
+        }
+    }
+}
+
+/// Tells numbers with a space between them, those that rise evenly in one line.
+fn tell_rises(stage: &mut Stage<'_>, numbers: &str) {
+    let mut words = numbers.split(' ');
+    let first = words.next().unwrap_or("");
+    let mut rise = Rise::of(stage.number(first));
+    for word in words {
+        let number = stage.number(word);
+        rise = next_rise(stage, rise, number);
+    }
+    rise.tell(stage);
+}
+
 /// The numbers after the first word of a line, those that rise evenly in one line.
 fn rises(stage: &mut Stage<'_>, path: &str, line: &str) {
     let place = stage.count(line).saturating_sub(1);
     let text = stage.read_text(path);
-    let Some(line) = text.as_str().lines().nth(place) else {
-        return stage.note(false);
-    };
-    let mut words = line.split(' ').skip(1);
-    let Some(word) = words.next() else {
-        return;
-    };
-    let mut rise = Rise::of(stage.number(word));
-    for word in words {
-        let number = stage.number(word);
-        rise = match rise.with(number) {
-            Some(longer) => longer,
-            None => {
-                rise.tell(stage);
-                Rise::of(number)
+    match text.as_str().lines().nth(place) {
+        Some(line) => {
+            if let Some((_, numbers)) = line.split_once(' ') {
+                tell_rises(stage, numbers);
             }
-        };
+        }
+        None => stage.note(false),
     }
-    rise.tell(stage);
 }
 
 /// The question with these words.

@@ -16,20 +16,37 @@ fn sample(stage: &mut Stage<'_>, text: &str) -> i32 {
     sample.unwrap_or(0)
 }
 
-/// Adds numbers, repeated COUNT times, `NUMBER,NUMBER*COUNT`, or those of a range, `FROM..TO`, of which TO is not one.
-fn add(stage: &mut Stage<'_>, samples: &mut Vec<i32>, word: &str) {
-    if let Some((from, to)) = word.split_once("..") {
-        for number in sample(stage, from)..sample(stage, to) {
-            stage.note(samples.push(number).is_ok());
-        }
-        return;
+/// Adds the numbers of a range, of which the last one is not one.
+fn add_range(stage: &mut Stage<'_>, samples: &mut Vec<i32>, from: i32, to: i32) {
+    for number in from..to {
+        stage.note(samples.push(number).is_ok());
     }
+}
+
+/// Adds numbers, `NUMBER,NUMBER`.
+fn add_numbers(stage: &mut Stage<'_>, samples: &mut Vec<i32>, text: &str) {
+    for word in text.split(',') {
+        let number = sample(stage, word);
+        stage.note(samples.push(number).is_ok());
+    }
+}
+
+/// Adds numbers, repeated COUNT times, `NUMBER,NUMBER*COUNT`.
+fn add_repeated(stage: &mut Stage<'_>, samples: &mut Vec<i32>, word: &str) {
     let (text, times) = word.split_once('*').unwrap_or((word, "1"));
     for _ in 0..stage.count(times) {
-        for word in text.split(',') {
-            let number = sample(stage, word);
-            stage.note(samples.push(number).is_ok());
+        add_numbers(stage, samples, text);
+    }
+}
+
+/// Adds numbers, repeated COUNT times, `NUMBER,NUMBER*COUNT`, or those of a range, `FROM..TO`, of which TO is not one.
+fn add(stage: &mut Stage<'_>, samples: &mut Vec<i32>, word: &str) {
+    match word.split_once("..") {
+        Some((from, to)) => {
+            let (from, to) = (sample(stage, from), sample(stage, to));
+            add_range(stage, samples, from, to);
         }
+        None => add_repeated(stage, samples, word),
     }
 }
 
@@ -55,19 +72,30 @@ fn rate(text: &str) -> Option<Rate> {
     Rate::new(factor.parse().ok()?, multiplier.parse().ok()?)
 }
 
+/// The samples of these words.
+fn samples_of(stage: &mut Stage<'_>, words: &str) -> Vec<i32> {
+    let mut samples = Vec::new(stage.alloc());
+    for word in words.split_whitespace() {
+        add(stage, &mut samples, word);
+    }
+    samples
+}
+
+/// Adds the records of samples, as many in each as it holds.
+fn add_records(stage: &mut Stage<'_>, rate: Rate, samples: &[i32], records: &mut Vec<u8>) {
+    for (number, run) in samples.chunks(MOST).enumerate() {
+        add_record(stage, rate, number, run, records);
+    }
+}
+
 /// Writes the samples from 2020-01-01 00:00:00 on in records of 4096 bytes, `FACTOR/MULTIPLIER NUMBERS ..`.
 pub fn write(stage: &mut Stage<'_>, path: &str, text: &str) {
     let (first, words) = text.split_once(' ').unwrap_or((text, ""));
     let Some(rate) = rate(first) else {
         return stage.note(false);
     };
-    let mut samples = Vec::new(stage.alloc());
-    for word in words.split_whitespace() {
-        add(stage, &mut samples, word);
-    }
-    let mut input = Vec::new(stage.alloc());
-    for (number, run) in samples.as_slice().chunks(MOST).enumerate() {
-        add_record(stage, rate, number, run, &mut input);
-    }
-    stage.write(path, input.as_slice());
+    let samples = samples_of(stage, words);
+    let mut records = Vec::new(stage.alloc());
+    add_records(stage, rate, samples.as_slice(), &mut records);
+    stage.write(path, records.as_slice());
 }
