@@ -4,7 +4,7 @@ ghost use Rattle.std.specs.Prelude.{IsTrue, map, ◌≤◌, length};
 ghost use Rattle.msr_steim.specs.Word.{AreGroups};
 
 use crate::line::Line;
-use crate::lists::Hexadecimal;
+use crate::lists::{Hexadecimal, gives};
 use msr_base::{Order, SampleVec};
 use msr_plain::{PlainFault, PlainSamples, Width, decode_plain, decode_plain_into, plain_samples};
 use msr_steim::{
@@ -24,7 +24,7 @@ fn grown_of(line: &mut Line<'_>, first: i32, others: &[i32]) -> SampleVec {
 /// Shows the vector of a list, from which the list can be made.
 fn put_vector(line: &mut Line<'_>, grown: SampleVec, first: i32, others: &[i32]) {
     let values = grown.into_vec();
-    line.put(format_args!("{values:?}"));
+    line.show(&values);
     let is_same = SampleVec::from_vec(values) == grown_of(line, first, others);
     line.agree(is_same);
 }
@@ -36,7 +36,10 @@ pub fn grown(line: &mut Line<'_>) {
         return line.bad(());
     };
     let grown = grown_of(line, *first, others);
-    line.put(format_args!("{grown:?}, {}, ", grown.len()));
+    line.show(&grown);
+    line.put_text(", ");
+    line.put(grown.len());
+    line.put_text(", ");
     let is_first = grown == grown_of(line, *first, &[]);
     line.agree(is_first == others.is_empty());
     put_vector(line, grown, *first, others);
@@ -82,8 +85,8 @@ fn put_plain(
 ) {
     match decode_plain(line.alloc, of.0, of.1, area, of.2) {
         Ok(found) => {
-            line.agree(into.is_ok() && out == found.as_slice());
-            line.put(format_args!("{:?}", found.as_slice()));
+            line.agree(into.is_ok() & (out == found.as_slice()));
+            line.show(&found.as_slice());
         }
         Err(PlainFault::Memory) => line.is_bad = true,
         Err(fault) => {
@@ -95,22 +98,31 @@ fn put_plain(
 
 /// Notes whether samples are shown one by one, and once more by a copy.
 fn agree_viewed(line: &mut Line<'_>, viewed: PlainSamples<'_>, samples: &[i32]) {
-    line.agree(viewed.clone().unwrap().eq(samples.iter().copied()));
-    line.agree(viewed.eq(samples.iter().copied()));
+    line.agree(gives(viewed.clone().unwrap(), samples));
+    line.agree(gives(viewed, samples));
 }
 
 /// Whether no sample was decoded.
 fn are_all_before(samples: &[i32]) -> bool {
-    samples.iter().all(|sample| *sample == BEFORE)
+    for sample in samples {
+        if *sample != BEFORE {
+            return false;
+        }
+    }
+    true
 }
 
 /// Notes whether samples are shown one by one, from the first on, and after one of them from the second.
 fn agree_shown(line: &mut Line<'_>, mut viewed: SteimSamples<'_>, samples: &[i32], agrees: bool) {
     line.agree(viewed.reverse_agrees() == agrees);
-    line.agree(viewed.clone().unwrap().eq(samples.iter().copied()));
-    line.agree(viewed.next() == samples.first().copied());
+    line.agree(gives(viewed.clone().unwrap(), samples));
+    let (first, others) = match samples {
+        [first, others @ ..] => (Some(*first), others),
+        [] => (None, samples),
+    };
+    line.agree(viewed.next() == first);
     line.agree(viewed.reverse_agrees() == agrees);
-    line.agree(viewed.eq(samples.iter().copied().skip(1)));
+    line.agree(gives(viewed, others));
 }
 
 /// `steim VERSION ORDER COUNT AREA`: so many samples of an area of frames and whether its reverse constant agrees; or why
@@ -162,8 +174,10 @@ fn put_steim(
     match decode_steim(line.alloc, of.0, of.1, area, of.2) {
         Ok(found) => {
             let (samples, agrees) = (found.samples.as_slice(), found.reverse_agrees);
-            line.agree(into == Ok(agrees) && out == samples);
-            line.put(format_args!("{samples:?} {agrees}"));
+            line.agree((into == Ok(agrees)) & (out == samples));
+            line.show(&samples);
+            line.put(' ');
+            line.put(agrees);
         }
         Err(SteimFault::Memory) => line.is_bad = true,
         Err(fault) => {
@@ -222,7 +236,7 @@ pub fn written(line: &mut Line<'_>) {
     let (version, differences) = (line.version(), line.samples());
     match write_word(version, &differences) {
         Some((code, word)) => line.put(format_args!("{code} {word:08x}")),
-        None => line.put("None"),
+        None => line.put_text("None"),
     }
 }
 
@@ -236,7 +250,7 @@ pub fn held(line: &mut Line<'_>) {
         return line.bad(());
     }
     match read_word(version, code, u32::from_be_bytes(word)) {
-        Ok(group) => line.put(format_args!("{:?}", group.as_slice())),
+        Ok(group) => line.show(&group.as_slice()),
         Err(fault) => line.put(fault),
     }
 }
@@ -244,7 +258,7 @@ pub fn held(line: &mut Line<'_>) {
 /// `width VERSION COUNT`: how many bits each of so many differences has.
 pub fn width(line: &mut Line<'_>) {
     let width = group_width(line.version(), line.number());
-    line.put(format_args!("{width:?}"));
+    line.show(&width);
 }
 
 /// `group VERSION last|inner DIFFERENCES`: whether they can be a group of a record, its last one or another.

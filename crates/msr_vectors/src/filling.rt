@@ -27,7 +27,8 @@ pub fn steim2(line: &mut Line<'_>) {
     }
     let mut area = [255; 192];
     let used = fill_steim2(before, &run, &mut area);
-    line.put(format_args!("{used} {}", Hexadecimal(&area)));
+    line.put_before(used, ' ');
+    line.put(Hexadecimal(&area));
 }
 
 /// The sample before that one, if there is one.

@@ -47,7 +47,7 @@ pub fn taken(line: &mut Line<'_>) {
         let taken = taken_by(line, kind, length, sample, &differences);
         line.push(&mut all, taken);
     }
-    line.put(format_args!("{all:?}"));
+    line.show(&all);
 }
 
 /// The number of the encoding, and how many samples are looked back.
@@ -66,25 +66,23 @@ pub fn kind(line: &mut Line<'_>) {
         Kind::Steim2 => codec::<Steim2>(length),
     };
     line.agree(codec == (kind.code(), kind.look_back()));
-    let said = (codec.0, codec.1, kind.most(length));
-    line.put(format_args!("{said:?}"));
+    line.show(&(codec.0, codec.1, kind.most(length)));
 }
 
 /// `encoding NUMBER`: the kind of that encoding.
 pub fn encoding(line: &mut Line<'_>) {
     let kind = Kind::of_code(line.number());
-    line.put(format_args!("{kind:?}"));
+    line.show(&kind);
 }
 
 /// `length BYTES`: the exponent of such a record, its frames and its words for differences.
 pub fn length(line: &mut Line<'_>) {
     let bytes = line.number();
     let Some(length) = Length::new(bytes) else {
-        return line.put("None");
+        return line.put_text("None");
     };
     line.agree(length.bytes() == bytes);
-    let parts = (length.exponent(), length.frames(), length.data_words());
-    line.put(format_args!("{parts:?}"));
+    line.show(&(length.exponent(), length.frames(), length.data_words()));
 }
 
 /// `longest FORM`: how many samples a record holds at most.
@@ -141,7 +139,7 @@ pub fn word_size(line: &mut Line<'_>) {
 pub fn divided(line: &mut Line<'_>) {
     let (version, length, differences) = (line.version(), line.length(), line.numbers());
     match groups(line.alloc, version, &differences, length) {
-        Ok(found) => line.put(format_args!("{found:?}")),
+        Ok(found) => line.show(&found),
         Err(_) => line.is_bad = true,
     }
 }
@@ -151,7 +149,7 @@ pub fn counted(line: &mut Line<'_>) {
     let (version, length, differences) = (line.version(), line.length(), line.numbers());
     match groups(line.alloc, version, &differences, length) {
         Ok(Some(found)) => line.put(found.len()),
-        Ok(None) => line.put("None"),
+        Ok(None) => line.put_text("None"),
         Err(_) => line.is_bad = true,
     }
 }

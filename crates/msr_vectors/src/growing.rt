@@ -224,16 +224,25 @@ fn totals(rt: &HostRuntime, line: &mut Line<'_>) -> io::Result<()> {
     put_left(rt, line, refused, Shown(&totals, files.len()))
 }
 
-/// Answers such a row, and tells whether it is one.
-pub fn tell(rt: &HostRuntime, name: &str, line: &mut Line<'_>) -> io::Result<bool> {
-    match name {
-        "push" => push(rt, line)?,
-        "extend" => extend(rt, line)?,
-        "stream" => stream(rt, line)?,
-        "append" => records(rt, line)?,
-        "joins" => joins(rt, line)?,
-        "totals" => totals(rt, line)?,
-        _ => return Ok(false),
+/// Such a row, by its name.
+#[derive(Clone, Copy)]
+pub enum Growing {
+    Push,
+    Extend,
+    Stream,
+    Append,
+    Joins,
+    Totals,
+}
+
+/// Answers such a row.
+pub fn tell(rt: &HostRuntime, row: Growing, line: &mut Line<'_>) -> io::Result<()> {
+    match row {
+        Growing::Push => push(rt, line),
+        Growing::Extend => extend(rt, line),
+        Growing::Stream => stream(rt, line),
+        Growing::Append => records(rt, line),
+        Growing::Joins => joins(rt, line),
+        Growing::Totals => totals(rt, line),
     }
-    Ok(true)
 }

@@ -70,13 +70,13 @@ impl Steps {
         match joiner.push(row) {
             Ok(ended) => {
                 let begins = step == Ok(Step::Begins) && !self.steps.is_empty();
-                line.agree(step.is_ok() && ended.is_some() == begins);
+                line.agree(step.is_ok() & (ended.is_some() == begins));
                 self.add_segment(line, ended);
             }
             Err(fault) => {
                 line.is_bad |= fault.kind != JoinKind::TimeRange;
-                let is_back = fault.row.start == start && fault.row.samples.len() == count;
-                line.agree(step.is_err() && is_back);
+                let is_back = (fault.row.start == start) & (fault.row.samples.len() == count);
+                line.agree(step.is_err() & is_back);
             }
         }
         line.push(&mut self.steps, step);
@@ -95,7 +95,9 @@ pub fn joined(line: &mut Line<'_>) {
         joined.add(line, &mut follow, &mut joiner, row);
     }
     joined.add_segment(line, joiner.finish());
-    line.put(format_args!("{:?} {:?}", joined.steps, joined.segments));
+    line.show(&joined.steps);
+    line.put(' ');
+    line.show(&joined.segments);
 }
 
 /// How many bytes a device moves in a call, how many interruptions come before each, and the call that fails, or `-`.
@@ -149,6 +151,18 @@ fn place_of(next: &NextRecord) -> Place {
     }
 }
 
+fn put_place(line: &mut Line<'_>, place: &Place) {
+    match place {
+        Some((step, start, count)) => {
+            line.show(step);
+            line.put(' ');
+            line.put_before(*start, ' ');
+            line.put(*count);
+        }
+        None => line.put_text("None"),
+    }
+}
+
 /// The records that were read so far with their bytes, and what came after them: the end, or a fault.
 #[derive(Drop)]
 struct Told {
@@ -181,16 +195,13 @@ impl Told {
     /// Shows all records, and what came after them.
     fn put(&self, line: &mut Line<'_>) {
         for (length, place) in &self.rows {
-            match place {
-                Some((step, start, count)) => {
-                    line.put(format_args!("{length} {step:?} {start} {count}, "));
-                }
-                None => line.put(format_args!("{length} None, ")),
-            }
+            line.put_before(*length, ' ');
+            put_place(line, place);
+            line.put_text(", ");
         }
         match self.end {
             Some(Some(fault)) => line.put(fault),
-            Some(None) => line.put("end"),
+            Some(None) => line.put_text("end"),
             None => line.is_bad = true,
         }
     }
@@ -261,14 +272,17 @@ fn agree_on_end<R: Source>(
     let (count, end) = (told.rows.len(), told.end);
     told.end = None;
     told.add_record(line, reader, source);
-    let is_again = told.rows.len() == count && told.end == end;
-    line.agree(is_again || end == Some(Some(ReadFault::Read)));
+    let is_again = (told.rows.len() == count) & (told.end == end);
+    line.agree(is_again | (end == Some(Some(ReadFault::Read))));
 }
 
 /// Shows how many records were read, were empty, and had another reverse constant.
 fn put_counts(line: &mut Line<'_>, reader: &RowReader) {
     let counts = reader.counts();
-    line.put(format_args!(", {} {} {}", counts.read, counts.empty, counts.mismatched));
+    line.put_text(", ");
+    line.put_before(counts.read, ' ');
+    line.put_before(counts.empty, ' ');
+    line.put(counts.mismatched);
 }
 
 /// Shows at most three records, what is told after them and, unless the source failed, once more, and the counts before
@@ -316,5 +330,5 @@ pub fn compared(line: &mut Line<'_>) {
         strict: false,
     };
     let answer = compare(line.alloc, &mut one, &mut other, settings);
-    line.put(format_args!("{answer:?}"));
+    line.show(&answer);
 }

@@ -15,6 +15,22 @@ pub const NONE: &str = "no such row, or no memory";
 /// What is told of a row that is asked of several calls, if they do not answer the same.
 const DIFFER: &str = "calls that differ";
 
+const VERSIONS: &[(&str, Version)] = &[("1", Version::One), ("2", Version::Two)];
+
+const ORDERS: &[(&str, Order)] = &[("big", Order::Big), ("little", Order::Little)];
+
+const WIDTHS: &[(&str, Width)] = &[("2", Width::Two), ("3", Width::Three), ("4", Width::Four)];
+
+const KINDS: &[(&str, Kind)] = &[
+    ("Int16", Kind::Int16),
+    ("Int24", Kind::Int24),
+    ("Int32", Kind::Int32),
+    ("Steim1", Kind::Steim1),
+    ("Steim2", Kind::Steim2),
+];
+
+const CHOICES: &[(&str, Kinds)] = &[("all", Kinds::All), ("four", Kinds::WithoutInt24)];
+
 /// What of a row was not read yet, and what is answered to it. A column that cannot be read has some value of its type.
 #[derive(Drop)]
 pub struct Line<'a> {
@@ -61,6 +77,21 @@ impl<'a> Line<'a> {
     /// Adds to the answer.
     pub fn put<D: fmt::Display + Drop>(&mut self, shown: D) {
         self.is_bad |= write!(self.answer, "{shown}").is_err();
+    }
+
+    /// Adds to the answer, and that mark after it.
+    pub fn put_before<D: fmt::Display + Drop>(&mut self, shown: D, mark: char) {
+        self.is_bad |= write!(self.answer, "{shown}{mark}").is_err();
+    }
+
+    /// Adds a text to the answer.
+    pub fn put_text(&mut self, text: &str) {
+        self.is_bad |= self.answer.push_str(text).is_err();
+    }
+
+    /// Adds to the answer what a value is.
+    pub fn show<D: fmt::Debug>(&mut self, shown: &D) {
+        self.is_bad |= write!(self.answer, "{shown:?}").is_err();
     }
 
     /// Notes whether calls answer the same.
@@ -149,44 +180,35 @@ impl<'a> Line<'a> {
         }
     }
 
+    /// What the next word names, or else that value.
+    pub fn named<T: Copy>(&mut self, names: &[(&str, T)], instead: T) -> T {
+        let word = self.word();
+        for (name, value) in names {
+            if *name == word {
+                return *value;
+            }
+        }
+        self.bad(instead)
+    }
+
     /// A version of Steim.
     pub fn version(&mut self) -> Version {
-        match self.word() {
-            "1" => Version::One,
-            "2" => Version::Two,
-            _ => self.bad(Version::One),
-        }
+        self.named(VERSIONS, Version::One)
     }
 
     /// An order of bytes.
     pub fn order(&mut self) -> Order {
-        match self.word() {
-            "big" => Order::Big,
-            "little" => Order::Little,
-            _ => self.bad(Order::Big),
-        }
+        self.named(ORDERS, Order::Big)
     }
 
     /// How many bytes an integer has.
     pub fn width(&mut self) -> Width {
-        match self.word() {
-            "2" => Width::Two,
-            "3" => Width::Three,
-            "4" => Width::Four,
-            _ => self.bad(Width::Two),
-        }
+        self.named(WIDTHS, Width::Two)
     }
 
     /// A kind of records.
     pub fn kind(&mut self) -> Kind {
-        match self.word() {
-            "Int16" => Kind::Int16,
-            "Int24" => Kind::Int24,
-            "Int32" => Kind::Int32,
-            "Steim1" => Kind::Steim1,
-            "Steim2" => Kind::Steim2,
-            _ => self.bad(Kind::Int16),
-        }
+        self.named(KINDS, Kind::Int16)
     }
 
     /// The length of records.
@@ -199,12 +221,9 @@ impl<'a> Line<'a> {
 
     /// The length of records, and which kinds they may have: `all`, or `four`, which are all but 24-bit integers.
     pub fn form(&mut self) -> Form {
-        let length = self.length();
-        let kinds = match self.word() {
-            "all" => Kinds::All,
-            "four" => Kinds::WithoutInt24,
-            _ => self.bad(Kinds::All),
-        };
-        Form { length, kinds }
+        Form {
+            length: self.length(),
+            kinds: self.named(CHOICES, Kinds::All),
+        }
     }
 }

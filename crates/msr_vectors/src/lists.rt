@@ -1,8 +1,24 @@
 //! Lists of numbers and of bytes, in few letters.
 
+ghost use Rattle.std.specs.Iterator.{IsFinite};
+
 use crate::line::Line;
 use msr_fixtures::next_of;
 use std::fmt;
+
+/// Whether what an iterator gives are these samples.
+pub fn gives<I: Iterator<Item = i32> + Drop>(mut given: I, samples: &[i32]) -> bool
+    requires can { I.can_next given }
+    requires finite { IsFinite (I.remaining given) }
+{
+    for sample in samples {
+        match given.next() {
+            Some(next) if next == *sample => {}
+            _ => return false,
+        }
+    }
+    given.next().is_none()
+}
 
 /// A number of noise of that height, half of it below 0.
 fn of_height(number: u64, height: u64) -> i64 {
@@ -87,17 +103,21 @@ impl Line<'_> {
         T: TryFrom<i64> + Default + Drop,
         T::Error: Drop,
     {
-        let (mut wide, mut numbers) = (Vec::new(self.alloc), Vec::new(self.alloc));
-        let text = self.word();
-        if text != "-" {
-            for part in text.split('+') {
-                add_part(self, &mut wide, part);
-            }
-        }
-        for number in &wide {
+        let mut numbers = Vec::new(self.alloc);
+        for number in &self.wide_numbers() {
             match T::try_from(*number) {
                 Ok(number) => self.push(&mut numbers, number),
                 Err(_) => self.is_bad = true,
+            }
+        }
+        numbers
+    }
+
+    fn wide_numbers(&mut self) -> Vec<i64> {
+        let (mut numbers, text) = (Vec::new(self.alloc), self.word());
+        if text != "-" {
+            for part in text.split('+') {
+                add_part(self, &mut numbers, part);
             }
         }
         numbers

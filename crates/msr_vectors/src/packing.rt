@@ -58,8 +58,7 @@ fn push(line: &mut Line<'_>, packer: &mut StreamPacker, given: &mut Streamed, sa
     ensures { pushed packer.new ≤ pushed packer.old + 1 }
 {
     match packer.push(sample) {
-        Ok(Some(piece)) => given.add(line, &[piece], packer.run_samples()),
-        Ok(None) => given.add(line, &[], packer.run_samples()),
+        Ok(piece) => given.add(line, piece.as_slice(), packer.run_samples()),
         Err(_) => line.is_bad = true,
     }
 }
@@ -109,14 +108,17 @@ fn in_blocks(line: &mut Line<'_>, samples: &[i32], form: Form, size: usize) -> S
     given
 }
 
+/// How many samples a block has: one, a few, about a record, or all.
+const SIZES: &[usize] = &[1, 7, 100, 1_000_000];
+
 /// Notes whether samples that are pushed one after another, and in blocks, give the packing: of one sample, a few, about
 /// a record, or all at once.
 fn agree_streamed(line: &mut Line<'_>, whole: &Streamed, form: Form) {
     let samples = whole.samples.as_slice();
     let given = stream_of(line, samples, form);
     line.agree(given == *whole);
-    for size in [1, 7, 100, 1_000_000] {
-        let given = in_blocks(line, samples, form, size);
+    for size in SIZES {
+        let given = in_blocks(line, samples, form, *size);
         line.agree(given == *whole);
     }
 }
@@ -158,7 +160,7 @@ pub fn packed(line: &mut Line<'_>) {
     for run in &whole.packing.runs {
         line.put(format_args!("{}..{} {:?}, ", run.start, run.end, run.kind));
     }
-    line.put(format_args!("{:?}", whole.packing.separators));
+    line.show(&whole.packing.separators);
 }
 
 /// `separates FORM SEPARATORS SAMPLES`: whether no record holds one of these samples with the next one.

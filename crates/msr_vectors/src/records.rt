@@ -1,7 +1,7 @@
 //! Headers and records: which are read, and from which bytes.
 
 use crate::line::Line;
-use crate::lists::Hexadecimal;
+use crate::lists::{Hexadecimal, gives};
 use msr_base::Order;
 use msr_fixtures::{
     START, edit_by_name, int32_record, key_at, little_record, record, steim_record,
@@ -78,24 +78,24 @@ pub fn header(line: &mut Line<'_>) {
     match read_header(&bytes) {
         Ok(header) => {
             let written = write_header(&header);
-            line.put(format_args!("{header:?} {}", Hexadecimal(&written)));
+            line.show(&header);
+            line.put(' ');
+            line.put(Hexadecimal(&written));
         }
         Err(fault) => line.put(fault),
     }
 }
 
+const NO_SAMPLES: &[i32] = &[];
+
 /// Notes whether the view shows the row, or none.
 fn agree_row(line: &mut Line<'_>, view: &RecordView<'_>, row: &Option<Row>) {
-    match row {
-        Some(row) => {
-            line.agree(view.place() == Some((row.key, row.start)));
-            line.agree(view.samples().eq(row.samples.as_slice().iter().copied()));
-        }
-        None => {
-            line.agree(view.place().is_none());
-            line.agree(view.samples().next().is_none());
-        }
-    }
+    let (place, samples) = match row {
+        Some(row) => (Some((row.key, row.start)), row.samples.as_slice()),
+        None => (None, NO_SAMPLES),
+    };
+    line.agree(view.place() == place);
+    line.agree(gives(view.samples(), samples));
 }
 
 /// Notes whether the record is shown as it was decoded, with an area of that many bytes.
@@ -104,11 +104,11 @@ fn agree_shown(line: &mut Line<'_>, bytes: &[u8], record: &Record, area: usize) 
         return line.agree(false);
     };
     agree_row(line, &view, &record.row);
-    line.agree(view.length() == record.length);
-    line.agree(view.reverse_agrees() == record.reverse_agrees);
-    line.agree(reverse_in(bytes) == Some(record.reverse_agrees));
+    let is_shown = (view.length() == record.length) & (view.area().len() == area);
+    let agrees = view.reverse_agrees();
+    line.agree(is_shown & (agrees == record.reverse_agrees));
+    line.agree(reverse_in(bytes) == Some(agrees));
     line.agree(read_header(bytes) == Ok(*view.header()));
-    line.agree(view.area().len() == area);
 }
 
 /// Notes whether all calls refuse the record so. Whether the reverse constant agrees is asked of a record that is refused
@@ -132,7 +132,7 @@ pub fn decoded(line: &mut Line<'_>) {
     match decode_record(line.alloc, &bytes) {
         Ok(record) => {
             agree_shown(line, &bytes, &record, area);
-            line.put(format_args!("{record:?}"));
+            line.show(&record);
         }
         Err(FaultKind::Memory) => line.is_bad = true,
         Err(fault) => {
@@ -194,10 +194,10 @@ fn is_row(row: &Row, part: &Part) -> bool {
     let Some(rate) = Rate::new(20, 1) else {
         return false;
     };
-    row.key == key_at(rate)
-        && row.start == part.start
-        && row.kind == part.kind
-        && row.samples.as_slice() == part.samples.as_slice()
+    (row.key == key_at(rate))
+        & (row.start == part.start)
+        & (row.kind == part.kind)
+        & (row.samples.as_slice() == part.samples.as_slice())
 }
 
 /// Notes whether the bytes are decoded to that row.
@@ -208,7 +208,7 @@ fn agree_decoded(line: &mut Line<'_>, bytes: &[u8], part: &Part) {
                 Some(row) => is_row(row, part),
                 None => false,
             };
-            line.agree(is_part && record.reverse_agrees);
+            line.agree(is_part & record.reverse_agrees);
         }
         Err(FaultKind::Memory) => line.is_bad = true,
         Err(_) => line.agree(false),
@@ -222,7 +222,10 @@ pub fn encoded(line: &mut Line<'_>) {
     line.is_bad |= append(line, &part, &mut out).is_none();
     agree_decoded(line, &out, &part);
     match out.as_slice().get(..256) {
-        Some(first) => line.put(format_args!("{} {}", out.len(), Hexadecimal(first))),
+        Some(first) => {
+            line.put_before(out.len(), ' ');
+            line.put(Hexadecimal(first));
+        }
         None => line.is_bad = true,
     }
 }

@@ -21,7 +21,7 @@ fn put_report(line: &mut Line<'_>, text: &[u8], behavior: Behavior) {
     match read_report(line.alloc, &mut source) {
         Ok(report) => {
             report_in_range(&report);
-            line.put(format_args!("{report:?}"));
+            line.show(&report);
         }
         Err(fault) => line.put(fault),
     }
@@ -57,7 +57,7 @@ fn put_taken(line: &mut Line<'_>, report: &Report, text: &[u8], behaviors: &[Beh
         line.agree(text.starts_with(sink.bytes()));
         line.push(&mut all, (sink.bytes().len(), fault));
     }
-    line.put(format_args!("{all:?}"));
+    line.show(&all);
 }
 
 /// `retold MOST INTERRUPTIONS FAILS TEXT`: how many bytes of the text of that report are written, and why not all.
@@ -87,5 +87,5 @@ pub fn laws(line: &mut Line<'_>) {
     repacked_is_least();
     strict_writes_the_same();
     one_reading();
-    line.put("called");
+    line.put_text("called");
 }

@@ -14,13 +14,14 @@ pub fn time(line: &mut Line<'_>) {
         second: line.number(),
         fract: line.number(),
     };
-    line.put(format_args!("{:?}", time.micros()));
+    line.show(&time.micros());
 }
 
 /// `instant INSTANT`: whether it is in range, and its time with the microseconds below it.
 pub fn instant(line: &mut Line<'_>) {
     let instant = line.number();
-    line.put(format_args!("{} {:?}", is_instant(instant), split(instant)));
+    line.put_before(is_instant(instant), ' ');
+    line.show(&split(instant));
 }
 
 /// A rate, if there is one of that factor and multiplier, which it has.
@@ -28,7 +29,7 @@ fn rate(line: &mut Line<'_>) -> Option<Rate> {
     let (factor, multiplier) = (line.number(), line.number());
     let rate = Rate::new(factor, multiplier);
     if let Some(rate) = &rate {
-        line.agree(rate.factor() == factor && rate.multiplier() == multiplier);
+        line.agree((rate.factor() == factor) & (rate.multiplier() == multiplier));
     }
     rate
 }
@@ -36,8 +37,8 @@ fn rate(line: &mut Line<'_>) -> Option<Rate> {
 /// `period FACTOR MULTIPLIER`: the numerator and the denominator of the period in microseconds.
 pub fn period(line: &mut Line<'_>) {
     match rate(line) {
-        Some(rate) => line.put(format_args!("{:?}", rate.period())),
-        None => line.put("None"),
+        Some(rate) => line.show(&rate.period()),
+        None => line.put_text("None"),
     }
 }
 
@@ -45,7 +46,7 @@ pub fn period(line: &mut Line<'_>) {
 pub fn nominal(line: &mut Line<'_>) {
     let (rate, start, number) = (rate(line), line.number(), line.number());
     match rate {
-        Some(rate) => line.put(format_args!("{:?}", rate.nominal(start, number))),
+        Some(rate) => line.show(&rate.nominal(start, number)),
         None => line.is_bad = true,
     }
 }
@@ -71,11 +72,12 @@ pub fn path(line: &mut Line<'_>) {
 }
 
 fn put_name(line: &mut Line<'_>, name: &SdsName<'_>) {
-    let (network, station) = (name.network(), name.station());
-    let (location, channel) = (name.location(), name.channel());
-    line.put(format_args!("{network}.{station}.{location}.{channel} "));
+    line.put_before(name.network(), '.');
+    line.put_before(name.station(), '.');
+    line.put_before(name.location(), '.');
+    line.put_before(name.channel(), ' ');
     match name.path_text(line.alloc) {
-        Ok(path) => line.put(path.as_str()),
+        Ok(path) => line.put_text(path.as_str()),
         Err(_) => line.is_bad = true,
     }
 }

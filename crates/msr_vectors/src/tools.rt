@@ -16,33 +16,34 @@ use msr_tool::{
     feed_and_report, list_segments, repack, repack_and_report,
 };
 use std::alloc::Global;
+use std::fmt;
 
-/// The device that is odd, how it behaves, and whether it accepts nothing where it fails; the others move at most so many
-/// bytes in a call.
+/// How the devices behave, and whether those that are written accept nothing where they fail.
 #[derive(Clone, Copy)]
-struct Devices<'a> {
-    place: &'a str,
-    odd: Behavior,
+struct Devices {
+    records: Behavior,
+    report: Behavior,
+    written: Behavior,
+    told: Behavior,
     accepts_nothing: bool,
-    others: usize,
 }
 
-impl Devices<'_> {
-    fn behavior(self, place: &str) -> Behavior {
-        if self.place == place {
-            return self.odd;
+impl Devices {
+    /// Of these only that one is odd, or none.
+    fn with_odd(mut self, place: Place, odd: Behavior) -> Devices {
+        match place {
+            Place::Records => self.records = odd,
+            Place::Report => self.report = odd,
+            Place::Written => self.written = odd,
+            Place::Told => self.told = odd,
+            Place::None => {}
         }
-        Behavior {
-            most: self.others,
-            interruptions: 0,
-            fails_at: None,
-        }
+        self
     }
 
-    fn sink(self, alloc: Global, place: &str) -> TestSink
+    fn sink(self, alloc: Global, behavior: Behavior) -> TestSink
         ensures { ⟦<TestSink as Sink>⟧.device result ≡ unused (Some []) }
     {
-        let behavior = self.behavior(place);
         if self.accepts_nothing {
             TestSink::accepting_nothing(Vec::new(alloc), behavior)
         } else {
@@ -51,24 +52,55 @@ impl Devices<'_> {
     }
 }
 
+/// A device, or none of them.
+#[derive(Clone, Copy)]
+enum Place {
+    Records,
+    Report,
+    Written,
+    Told,
+    None,
+}
+
+const PLACES: &[(&str, Place)] = &[
+    ("records", Place::Records),
+    ("report", Place::Report),
+    ("written", Place::Written),
+    ("told", Place::Told),
+    ("-", Place::None),
+];
+
+/// A call of the library.
+#[derive(Clone, Copy)]
+enum Call {
+    Repack,
+    Feed,
+    RepackAndReport,
+    FeedAndReport,
+    List,
+    Check,
+    CheckAndTell,
+}
+
+const CALLS: &[(&str, Call)] = &[
+    ("repack", Call::Repack),
+    ("feed", Call::Feed),
+    ("repack_and_report", Call::RepackAndReport),
+    ("feed_and_report", Call::FeedAndReport),
+    ("list", Call::List),
+    ("check", Call::Check),
+    ("check_and_tell", Call::CheckAndTell),
+];
+
 /// A call, what it reads, and what it is to write.
 #[derive(Clone, Copy)]
 struct Asked<'a> {
-    call: &'a str,
+    call: Call,
     options: Options,
     records: &'a [u8],
     report: &'a [u8],
     written: &'a [u8],
     told: &'a [u8],
-}
-
-impl Asked<'_> {
-    fn writes_records(&self) -> bool {
-        matches!(
-            self.call,
-            "repack" | "feed" | "repack_and_report" | "feed_and_report"
-        )
-    }
 }
 
 /// Why a call that writes records stops, if it does.
@@ -85,9 +117,9 @@ fn fault_of_writing<R: Source, W: Sink, T: Sink>(
 {
     let options = asked.options;
     let done = match asked.call {
-        "repack" => repack(alloc, records, written, options),
-        "feed" => feed(alloc, records, written, options),
-        "repack_and_report" => repack_and_report(alloc, records, written, told, options),
+        Call::Repack => repack(alloc, records, written, options),
+        Call::Feed => feed(alloc, records, written, options),
+        Call::RepackAndReport => repack_and_report(alloc, records, written, told, options),
         _ => feed_and_report(alloc, records, written, told, options),
     };
     done.err()
@@ -95,7 +127,7 @@ fn fault_of_writing<R: Source, W: Sink, T: Sink>(
 
 /// Why a call that writes no records stops, if it does.
 fn fault_of_reading<R: Source, Q: Source, T: Sink>(
-    line: &mut Line<'_>,
+    alloc: Global,
     asked: &Asked<'_>,
     records: &mut R,
     report: &mut Q,
@@ -105,12 +137,10 @@ fn fault_of_reading<R: Source, Q: Source, T: Sink>(
     requires report { CanCountCall (Q.device report.old) }
     requires told { CanCountCall (T.device told.old) }
 {
-    let alloc = line.alloc;
     match asked.call {
-        "list" => list_segments(alloc, records, told, asked.options, ListForm::Words).err(),
-        "check" => check_packed(alloc, records, report).err(),
-        "check_and_tell" => check_and_tell(alloc, records, report, told).err(),
-        _ => line.bad(None),
+        Call::List => list_segments(alloc, records, told, asked.options, ListForm::Words).err(),
+        Call::Check => check_packed(alloc, records, report).err(),
+        _ => check_and_tell(alloc, records, report, told).err(),
     }
 }
 
@@ -118,15 +148,17 @@ fn fault_of_reading<R: Source, Q: Source, T: Sink>(
 type Ended = (Option<ToolFault>, usize, usize);
 
 /// What comes of the call. What it wrote has to be first parts of what it is to write.
-fn ended(line: &mut Line<'_>, asked: &Asked<'_>, devices: Devices<'_>) -> Ended {
-    let mut records = TestSource::new(asked.records, devices.behavior("records"));
-    let mut report = TestSource::new(asked.report, devices.behavior("report"));
-    let mut written = devices.sink(line.alloc, "written");
-    let mut told = devices.sink(line.alloc, "told");
-    let fault = if asked.writes_records() {
-        fault_of_writing(line.alloc, asked, &mut records, &mut written, &mut told)
-    } else {
-        fault_of_reading(line, asked, &mut records, &mut report, &mut told)
+fn ended(line: &mut Line<'_>, asked: &Asked<'_>, devices: Devices) -> Ended {
+    let alloc = line.alloc;
+    let mut records = TestSource::new(asked.records, devices.records);
+    let mut report = TestSource::new(asked.report, devices.report);
+    let mut written = devices.sink(alloc, devices.written);
+    let mut told = devices.sink(alloc, devices.told);
+    let fault = match asked.call {
+        Call::List | Call::Check | Call::CheckAndTell => {
+            fault_of_reading(alloc, asked, &mut records, &mut report, &mut told)
+        }
+        _ => fault_of_writing(alloc, asked, &mut records, &mut written, &mut told),
     };
     line.agree(asked.written.starts_with(written.bytes()));
     line.agree(asked.told.starts_with(told.bytes()));
@@ -134,35 +166,39 @@ fn ended(line: &mut Line<'_>, asked: &Asked<'_>, devices: Devices<'_>) -> Ended 
 }
 
 /// What comes of the call with these devices, and the same where one that fails accepts nothing there.
-fn put_ended(line: &mut Line<'_>, asked: &Asked<'_>, mut devices: Devices<'_>) {
+fn put_ended(line: &mut Line<'_>, asked: &Asked<'_>, mut devices: Devices) {
     let (fault, written, told) = ended(line, asked, devices);
     devices.accepts_nothing = true;
     let again = ended(line, asked, devices);
     line.agree(again == (fault, written, told));
+    line.put(' ');
     match fault {
-        Some(fault) => line.put(format_args!(" {fault} {written} {told},")),
-        None => line.put(format_args!(" done {written} {told},")),
+        Some(fault) => line.put(fault),
+        None => line.put_text("done"),
     }
+    line.put(' ');
+    line.put_before(written, ' ');
+    line.put_before(told, ',');
 }
 
 /// What comes of the call if a device is odd, `DEVICE MOST INTERRUPTIONS FAILS`.
-fn put_odd(line: &mut Line<'_>, asked: &Asked<'_>, others: usize) {
-    let odd = line.rest;
-    line.put(format_args!("{odd}:"));
-    let (place, behaviors) = (line.word(), behaviors(line));
-    for odd in &behaviors {
-        let devices = Devices {
-            place,
-            odd: *odd,
-            accepts_nothing: false,
-            others,
-        };
-        put_ended(line, asked, devices);
+fn put_odd(line: &mut Line<'_>, asked: &Asked<'_>, others: Devices) {
+    line.put_before(line.rest, ':');
+    let place = line.named(PLACES, Place::None);
+    for odd in &behaviors(line) {
+        put_ended(line, asked, others.with_odd(place, *odd));
     }
 }
 
 /// What comes of the call for each odd device.
-fn put_all<'a>(line: &mut Line<'a>, asked: &Asked<'_>, others: usize, odds: &'a str) {
+fn put_all<'a>(line: &mut Line<'a>, asked: &Asked<'_>, others: Behavior, odds: &'a str) {
+    let others = Devices {
+        records: others,
+        report: others,
+        written: others,
+        told: others,
+        accepts_nothing: false,
+    };
     for odd in odds.split(" + ") {
         if !line.answer.is_empty() {
             line.put('\n');
@@ -175,11 +211,16 @@ fn put_all<'a>(line: &mut Line<'a>, asked: &Asked<'_>, others: usize, odds: &'a 
 /// `tool CALL LENGTH OTHERS DEVICE MOST INTERRUPTIONS FAILS + .. & RECORDS & REPORT & WRITTEN & TOLD`: for each odd device why
 /// the call stops or that it is done, and how many bytes of the records and of the text are written then.
 pub fn called(line: &mut Line<'_>) {
-    let call = line.word();
+    let call = line.named(CALLS, Call::Repack);
     let Some(options) = Options::new(line.length(), TOLERANCE) else {
         return line.bad(());
     };
-    let (others, odds) = (line.number(), line.until(" & "));
+    let others = Behavior {
+        most: line.number(),
+        interruptions: 0,
+        fails_at: None,
+    };
+    let odds = line.until(" & ");
     let (records, report) = (bytes_of(line), line.text());
     let (written, told) = (bytes_of(line), line.text());
     let asked = Asked {
@@ -197,18 +238,21 @@ pub fn called(line: &mut Line<'_>) {
 /// they are to be; or none.
 pub fn options(line: &mut Line<'_>) {
     let Some(options) = Options::new(line.length(), line.number()) else {
-        return line.put("None");
+        return line.put_text("None");
     };
     let strict = options.strict(true);
     line.agree(strict.strict(false) == options);
-    line.agree(strict.length() == options.length() && strict.tolerance() == options.tolerance());
-    let (bytes, tolerance) = (options.length().bytes(), options.tolerance());
-    let (usual, strict) = (options.is_strict(), strict.is_strict());
-    line.put(format_args!("{bytes} {tolerance} {usual} {strict}"));
+    line.agree(strict.length() == options.length());
+    line.agree(strict.tolerance() == options.tolerance());
+    line.put_before(options.length().bytes(), ' ');
+    line.put_before(options.tolerance(), ' ');
+    line.put_before(options.is_strict(), ' ');
+    line.put(strict.is_strict());
 }
 
-/// The fault of an input at that place, which is told alike wherever it stands.
-fn of_input(line: &mut Line<'_>, kind: FaultKind, offset: u64) -> ToolFault {
+/// The fault of an input at the place that is the next word, which is told alike wherever it stands.
+fn of_input(line: &mut Line<'_>, kind: FaultKind) -> ToolFault {
+    let offset = line.number();
     let fault = Fault { offset, kind };
     line.put(fault);
     line.agree_with(ReadFault::Input(fault));
@@ -218,31 +262,55 @@ fn of_input(line: &mut Line<'_>, kind: FaultKind, offset: u64) -> ToolFault {
 
 /// `fault blockette|code|line NUMBER`, `fault read|write`: the text of a fault, and the status with which a program ends.
 pub fn fault(line: &mut Line<'_>) {
-    let name = line.word();
-    let number = if line.rest.is_empty() {
-        0
-    } else {
-        line.number()
-    };
-    let blockette = FaultKind::Header(HeaderFault::OtherBlockette(500));
+    let name = line.named(FAULTS, Named::Read);
     let fault = match name {
-        "blockette" => of_input(line, blockette, number),
-        "code" => of_input(line, FaultKind::BadCode(3), number),
-        "line" => ToolFault::Report(number),
-        "read" => ToolFault::Read,
-        "write" => ToolFault::Write,
-        _ => {
-            return line.bad(());
-        }
+        Named::Input(kind) => of_input(line, kind),
+        Named::Line => ToolFault::Report(line.number()),
+        Named::Read => ToolFault::Read,
+        Named::Write => ToolFault::Write,
     };
-    line.put(format_args!("{fault}, status {}", fault.status()));
+    line.put(fault);
+    put_status(line, fault);
+}
+
+/// The faults that have rows.
+#[derive(Clone, Copy)]
+enum Named {
+    Input(FaultKind),
+    Line,
+    Read,
+    Write,
+}
+
+const FAULTS: &[(&str, Named)] = &[
+    (
+        "blockette",
+        Named::Input(FaultKind::Header(HeaderFault::OtherBlockette(500))),
+    ),
+    ("code", Named::Input(FaultKind::BadCode(3))),
+    ("line", Named::Line),
+    ("read", Named::Read),
+    ("write", Named::Write),
+];
+
+/// Adds the status with which a program ends.
+fn put_status(line: &mut Line<'_>, fault: ToolFault) {
+    line.put_text(", status ");
+    line.put(fault.status());
+}
+
+fn put_fault<D: fmt::Display + Drop>(line: &mut Line<'_>, fault: D) {
+    line.put(fault);
+    line.put_text(", ");
 }
 
 /// `memory`: what the libraries tell if memory is refused.
 pub fn memory(line: &mut Line<'_>) {
-    let (plain, steim, record) = (PlainFault::Memory, SteimFault::Memory, FaultKind::Memory);
-    let (read, report) = (ReadFault::from(DeviceFault::Memory), ReportFault::Memory);
-    let tool = ToolFault::Memory;
-    line.put(format_args!("{plain}, {steim}, {record}, {read}, {report}"));
-    line.put(format_args!(", {tool}, status {}", tool.status()));
+    put_fault(line, PlainFault::Memory);
+    put_fault(line, SteimFault::Memory);
+    put_fault(line, FaultKind::Memory);
+    put_fault(line, ReadFault::from(DeviceFault::Memory));
+    put_fault(line, ReportFault::Memory);
+    line.put(ToolFault::Memory);
+    put_status(line, ToolFault::Memory);
 }
