@@ -240,16 +240,21 @@ pub fn written(line: &mut Line<'_>) {
     }
 }
 
+/// The word of four bytes.
+fn word_of(line: &mut Line<'_>) -> u32 {
+    match <[u8; 4]>::try_from(line.bytes().as_slice()) {
+        Ok(bytes) => u32::from_be_bytes(bytes),
+        Err(_) => line.bad(0),
+    }
+}
+
 /// `read VERSION CODE WORD`: the differences that a word holds.
 pub fn held(line: &mut Line<'_>) {
-    let (version, code, word) = (line.version(), line.number(), line.bytes());
-    let Ok(word) = <[u8; 4]>::try_from(word.as_slice()) else {
-        return line.bad(());
-    };
+    let (version, code, word) = (line.version(), line.number(), word_of(line));
     if code > 3 {
         return line.bad(());
     }
-    match read_word(version, code, u32::from_be_bytes(word)) {
+    match read_word(version, code, word) {
         Ok(group) => line.show(&group.as_slice()),
         Err(fault) => line.put(fault),
     }

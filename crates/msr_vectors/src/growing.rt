@@ -1,11 +1,11 @@
-//! Calls that take one thing after another, each once more if memory is refused. They print as they go, which takes no
-//! memory, so what they leave is seen also if all of it is refused.
+//! Calls that take one thing after another, each once more if memory is refused. The room for the answer is made before,
+//! so what they leave is told also if all memory is refused from then on.
 
 ghost use Rattle.std.specs.Prelude.{◌≡◌, ◌+◌, ◌<◌, ◌^◌, MatchResult};
 ghost use Rattle.msr_packer.specs.Blocks.{pushed};
 
 use crate::inputs::{TOLERANCE, rows_of};
-use crate::line::{Line, NONE};
+use crate::line::Line;
 use crate::lists::Hexadecimal;
 use crate::records::{append, part_of};
 use msr_base::SampleVec;
@@ -15,23 +15,29 @@ use msr_record::Row;
 use msr_segments::{JoinFault, Joiner, Segment};
 use msr_time::is_instant;
 use std::alloc::AllocError;
-use std::{fmt, io};
 
-/// Prints whether memory was refused, and what is left then.
-fn put_left<D: fmt::Display + Drop>(
-    rt: &HostRuntime,
-    line: &Line<'_>,
-    refused: bool,
-    left: D,
-) -> io::Result<()> {
-    if line.is_bad {
-        return println!(rt; "{NONE}");
-    }
-    println!(rt; "refused {refused}\nleft{left}")
+/// How many bytes an answer has at most.
+const ROOM: usize = 4096;
+
+fn make_room(line: &mut Line<'_>) {
+    line.is_bad |= line.answer.reserve(ROOM).is_err();
+}
+
+/// Tells whether memory was refused.
+fn put_refused(line: &mut Line<'_>, refused: bool) {
+    line.put_text("refused ");
+    line.put(refused);
+}
+
+/// Tells whether memory was refused; what is left then comes after it.
+fn put_left(line: &mut Line<'_>, refused: bool) {
+    put_refused(line, refused);
+    line.put_text("\nleft");
 }
 
 /// `push NUMBERS`: a list to which they are pushed.
-fn push(rt: &HostRuntime, line: &mut Line<'_>) -> io::Result<()> {
+pub fn push(line: &mut Line<'_>) {
+    make_room(line);
     let given = line.samples();
     let mut samples = SampleVec::new(line.alloc);
     let mut refused = false;
@@ -43,11 +49,14 @@ fn push(rt: &HostRuntime, line: &mut Line<'_>) -> io::Result<()> {
             }
         }
     }
-    put_left(rt, line, refused, format_args!(" {:?}", samples.as_slice()))
+    put_left(line, refused);
+    line.put(' ');
+    line.show(&samples.as_slice());
 }
 
 /// `extend NUMBERS`: a list that is extended by five at a time.
-fn extend(rt: &HostRuntime, line: &mut Line<'_>) -> io::Result<()> {
+pub fn extend(line: &mut Line<'_>) {
+    make_room(line);
     let given = line.samples();
     let mut samples = SampleVec::new(line.alloc);
     let mut refused = false;
@@ -59,7 +68,9 @@ fn extend(rt: &HostRuntime, line: &mut Line<'_>) -> io::Result<()> {
             }
         }
     }
-    put_left(rt, line, refused, format_args!(" {:?}", samples.as_slice()))
+    put_left(line, refused);
+    line.put(' ');
+    line.show(&samples.as_slice());
 }
 
 /// Pushes a sample, and once more if memory is refused, which `refused` tells from then on.
@@ -81,39 +92,45 @@ fn push_twice(
     }
 }
 
-/// Prints pieces: the run and the separator of each.
-fn put_pieces(rt: &HostRuntime, pieces: &[Piece]) -> io::Result<()> {
+/// Adds pieces: the run and the separator of each.
+fn put_pieces(line: &mut Line<'_>, pieces: &[Piece]) {
     for piece in pieces {
         let run = piece.run;
-        print!(rt;
+        line.put(format_args!(
             " {}..{}:{:?} {}",
             run.start, run.end, run.kind, piece.separator
-        )?;
+        ));
     }
-    Ok(())
 }
 
 /// `stream FORM NUMBERS`: the pieces of a packer to which they are pushed.
-fn stream(rt: &HostRuntime, line: &mut Line<'_>) -> io::Result<()> {
+pub fn stream(line: &mut Line<'_>) {
+    make_room(line);
     let (form, samples) = (line.form(), line.samples());
-    if line.is_bad {
-        return println!(rt; "{NONE}");
-    }
-    let mut packer = StreamPacker::of(line.alloc, form);
+    let refused = put_stream(line, &samples, StreamPacker::of(line.alloc, form));
+    line.put('\n');
+    put_refused(line, refused);
+}
+
+/// Pushes samples to a new packer, adds the pieces, and tells whether memory was refused.
+fn put_stream(line: &mut Line<'_>, samples: &[i32], mut packer: StreamPacker) -> bool
+    requires { pushed packer ≡ 0 }
+{
     let mut refused = false;
-    print!(rt; "left")?;
+    line.put_text("left");
     for at in 0..samples.len() {
-        let Ok(piece) = push_twice(&mut packer, samples[at], &mut refused) else {
-            return println!(rt; "\nrefused {refused}");
-        };
-        put_pieces(rt, piece.as_slice())?;
+        match push_twice(&mut packer, samples[at], &mut refused) {
+            Ok(piece) => put_pieces(line, piece.as_slice()),
+            Err(_) => return refused,
+        }
     }
-    put_pieces(rt, packer.end().pieces.as_slice())?;
-    println!(rt; "\nrefused {refused}")
+    put_pieces(line, packer.end().pieces.as_slice());
+    refused
 }
 
 /// `append AFTER SEQUENCE BEFORE KIND LENGTH SAMPLES | ..`: the records of rows.
-fn records(rt: &HostRuntime, line: &mut Line<'_>) -> io::Result<()> {
+pub fn records(line: &mut Line<'_>) {
+    make_room(line);
     let (mut out, parts) = (Vec::new(line.alloc), line.rest);
     let mut refused = false;
     for part in parts.split(" | ") {
@@ -126,14 +143,17 @@ fn records(rt: &HostRuntime, line: &mut Line<'_>) -> io::Result<()> {
             }
         }
     }
-    put_left(rt, line, refused, format_args!(" {}", Hexadecimal(&out)))
+    put_left(line, refused);
+    line.put(' ');
+    line.put(Hexadecimal(&out));
 }
 
-/// Prints a segment that has ended.
-fn put_segment(rt: &HostRuntime, ended: Option<Segment>) -> io::Result<()> {
-    match ended {
-        Some(segment) => print!(rt; " {}+{}", segment.start, segment.samples.len()),
-        None => Ok(()),
+/// Adds a segment that has ended.
+fn put_segment(line: &mut Line<'_>, ended: Option<Segment>) {
+    if let Some(segment) = ended {
+        line.put(' ');
+        line.put_before(segment.start, '+');
+        line.put(segment.samples.len());
     }
 }
 
@@ -159,22 +179,21 @@ fn join_twice(
 
 /// `joins FACTOR,MULTIPLIER,START,COUNT ..`: the starts and the numbers of samples of the segments of rows, each of which
 /// is handed back if memory is refused.
-fn joins(rt: &HostRuntime, line: &mut Line<'_>) -> io::Result<()> {
+pub fn joins(line: &mut Line<'_>) {
+    make_room(line);
     let rows = rows_of(line);
-    if line.is_bad {
-        return println!(rt; "{NONE}");
-    }
     let mut joiner = Joiner::new(line.alloc, TOLERANCE);
     let mut refused = false;
-    print!(rt; "left")?;
+    line.put_text("left");
     for row in rows {
-        let Ok(ended) = join_twice(&mut joiner, row, &mut refused) else {
-            break;
-        };
-        put_segment(rt, ended)?;
+        match join_twice(&mut joiner, row, &mut refused) {
+            Ok(ended) => put_segment(line, ended),
+            Err(_) => break,
+        }
     }
-    put_segment(rt, joiner.finish())?;
-    println!(rt; "\nrefused {refused}")
+    put_segment(line, joiner.finish());
+    line.put('\n');
+    put_refused(line, refused);
 }
 
 /// Adds a file, and once more if memory is refused, which `refused` tells from then on.
@@ -193,24 +212,22 @@ fn add_twice(
     }
 }
 
-/// Totals that are printed: the first of them, at most so many.
-#[derive(Clone, Copy)]
-struct Shown<'a>(&'a Totals, usize);
-
-impl fmt::Display for Shown<'_> {
-    fn fmt<W: fmt::Write>(&self, f: &mut fmt::Formatter<W>) -> fmt::Result {
-        for place in 0..self.1 {
-            if let Some((name, total)) = self.0.get(place) {
-                let (files, read, written) = (total.files, total.read, total.written);
-                write!(f, " {name} {files} {read} {written}")?;
-            }
+/// Adds the first totals, at most so many.
+fn put_totals(line: &mut Line<'_>, totals: &Totals, most: usize) {
+    for place in 0..most {
+        if let Some((name, total)) = totals.get(place) {
+            line.put(' ');
+            line.put_before(name, ' ');
+            line.put_before(total.files, ' ');
+            line.put_before(total.read, ' ');
+            line.put(total.written);
         }
-        Ok(())
     }
 }
 
 /// `totals NAME,READ,WRITTEN ..`: the totals of the names, each of one file that is added.
-fn totals(rt: &HostRuntime, line: &mut Line<'_>) -> io::Result<()> {
+pub fn totals(line: &mut Line<'_>) {
+    make_room(line);
     let (mut totals, files) = (Totals::new(line.alloc), line.rest);
     let mut refused = false;
     for file in files.split_whitespace() {
@@ -221,28 +238,6 @@ fn totals(rt: &HostRuntime, line: &mut Line<'_>) -> io::Result<()> {
             break;
         }
     }
-    put_left(rt, line, refused, Shown(&totals, files.len()))
-}
-
-/// Such a row, by its name.
-#[derive(Clone, Copy)]
-pub enum Growing {
-    Push,
-    Extend,
-    Stream,
-    Append,
-    Joins,
-    Totals,
-}
-
-/// Answers such a row.
-pub fn tell(rt: &HostRuntime, row: Growing, line: &mut Line<'_>) -> io::Result<()> {
-    match row {
-        Growing::Push => push(rt, line),
-        Growing::Extend => extend(rt, line),
-        Growing::Stream => stream(rt, line),
-        Growing::Append => records(rt, line),
-        Growing::Joins => joins(rt, line),
-        Growing::Totals => totals(rt, line),
-    }
+    put_left(line, refused);
+    put_totals(line, &totals, files.len());
 }

@@ -151,18 +151,6 @@ fn place_of(next: &NextRecord) -> Place {
     }
 }
 
-fn put_place(line: &mut Line<'_>, place: &Place) {
-    match place {
-        Some((step, start, count)) => {
-            line.show(step);
-            line.put(' ');
-            line.put_before(*start, ' ');
-            line.put(*count);
-        }
-        None => line.put_text("None"),
-    }
-}
-
 /// The records that were read so far with their bytes, and what came after them: the end, or a fault.
 #[derive(Drop)]
 struct Told {
@@ -195,9 +183,12 @@ impl Told {
     /// Shows all records, and what came after them.
     fn put(&self, line: &mut Line<'_>) {
         for (length, place) in &self.rows {
-            line.put_before(*length, ' ');
-            put_place(line, place);
-            line.put_text(", ");
+            match place {
+                Some((step, start, count)) => {
+                    line.put(format_args!("{length} {step:?} {start} {count}, "));
+                }
+                None => line.put(format_args!("{length} None, ")),
+            }
         }
         match self.end {
             Some(Some(fault)) => line.put(fault),

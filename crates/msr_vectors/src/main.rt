@@ -20,12 +20,7 @@ use std::io;
 
 fn main(rt: HostRuntime) -> io::Result<()> {
     for text in rt.lines(rt.alloc()) {
-        let text = text?;
-        let text = text.as_str();
-        println!(&rt; "{text}")?;
-        if !text.is_empty() && !text.starts_with('#') {
-            rows::tell(&rt, text)?;
-        }
+        rows::tell(&rt, text?.as_str())?;
     }
     Ok(())
 }

@@ -45,17 +45,32 @@ fn change(line: &mut Line<'_>, order: Order, record: &mut Vec<u8>) {
     }
 }
 
-/// Adds the record of that name, and tells the order of its header's numbers.
-fn add_base(line: &mut Line<'_>, out: &mut Vec<u8>, name: &str) -> Order {
-    let (order, base) = match name {
-        "plain" => (Order::Big, record(&[])),
-        "steim" => (Order::Big, steim_record(&[])),
-        "int32" => (Order::Big, int32_record(&[])),
-        "little" => (Order::Little, little_record(&[])),
-        _ => {
-            line.is_bad |= name != "-";
-            return Order::Big;
-        }
+/// A record that is changed, or no bytes.
+#[derive(Clone, Copy)]
+enum Base {
+    Plain,
+    Steim,
+    Int32,
+    Little,
+    None,
+}
+
+const BASES: &[(&str, Base)] = &[
+    ("plain", Base::Plain),
+    ("steim", Base::Steim),
+    ("int32", Base::Int32),
+    ("little", Base::Little),
+    ("-", Base::None),
+];
+
+/// Adds the record that the next word names, and tells the order of its header's numbers.
+fn add_base(line: &mut Line<'_>, out: &mut Vec<u8>) -> Order {
+    let (order, base) = match line.named(BASES, Base::None) {
+        Base::Plain => (Order::Big, record(&[])),
+        Base::Steim => (Order::Big, steim_record(&[])),
+        Base::Int32 => (Order::Big, int32_record(&[])),
+        Base::Little => (Order::Little, little_record(&[])),
+        Base::None => return Order::Big,
     };
     line.extend(out, &base);
     order
@@ -63,8 +78,9 @@ fn add_base(line: &mut Line<'_>, out: &mut Vec<u8>, name: &str) -> Order {
 
 /// A record and what is changed of it; `-` stands for no bytes.
 pub fn record_of(line: &mut Line<'_>) -> Vec<u8> {
-    let (mut record, name, changes) = (Vec::new(line.alloc), line.word(), line.rest);
-    let order = add_base(line, &mut record, name);
+    let mut record = Vec::new(line.alloc);
+    let order = add_base(line, &mut record);
+    let changes = line.rest;
     for word in changes.split_whitespace() {
         line.rest = word;
         change(line, order, &mut record);

@@ -1,6 +1,5 @@
 //! Which row is answered by which call.
 
-use crate::growing::Growing;
 use crate::line::{Line, NONE};
 use crate::{areas, filling, fitting, growing, inputs, packing, records, reports, times, tools};
 use msr_words::Length;
@@ -53,7 +52,12 @@ enum Row {
     Options,
     Fault,
     Memory,
-    Growing(Growing),
+    Push,
+    Extend,
+    Stream,
+    Append,
+    Joins,
+    Totals,
     Unknown,
 }
 
@@ -102,12 +106,12 @@ const ROWS: &[(&str, Row)] = &[
     ("options", Row::Options),
     ("fault", Row::Fault),
     ("memory", Row::Memory),
-    ("push", Row::Growing(Growing::Push)),
-    ("extend", Row::Growing(Growing::Extend)),
-    ("stream", Row::Growing(Growing::Stream)),
-    ("append", Row::Growing(Growing::Append)),
-    ("joins", Row::Growing(Growing::Joins)),
-    ("totals", Row::Growing(Growing::Totals)),
+    ("push", Row::Push),
+    ("extend", Row::Extend),
+    ("stream", Row::Stream),
+    ("append", Row::Append),
+    ("joins", Row::Joins),
+    ("totals", Row::Totals),
 ];
 
 /// Answers a row of times, of areas, or of what fits a record; or another.
@@ -139,7 +143,7 @@ fn answer(row: Row, line: &mut Line<'_>) {
     }
 }
 
-/// Answers a row of groups, of records, of inputs or of tools.
+/// Answers a row of groups, of records, of inputs, of tools, or of what grows.
 fn answer_records(row: Row, line: &mut Line<'_>) {
     match row {
         Row::WordSize => fitting::word_size(line),
@@ -164,25 +168,31 @@ fn answer_records(row: Row, line: &mut Line<'_>) {
         Row::Options => tools::options(line),
         Row::Fault => tools::fault(line),
         Row::Memory => tools::memory(line),
+        Row::Push => growing::push(line),
+        Row::Extend => growing::extend(line),
+        Row::Stream => growing::stream(line),
+        Row::Append => growing::records(line),
+        Row::Joins => growing::joins(line),
+        Row::Totals => growing::totals(line),
         _ => line.is_bad = true,
+    }
+}
+
+/// Prints a line, and what is answered to it if it is a row.
+pub fn tell(rt: &HostRuntime, text: &str) -> io::Result<()> {
+    println!(rt; "{text}")?;
+    if text.is_empty() || text.starts_with('#') {
+        return Ok(());
+    }
+    match Length::new(256) {
+        Some(length) => tell_answer(rt, &mut Line::new(rt.alloc(), text, length)),
+        None => println!(rt; "{NONE}"),
     }
 }
 
 /// Answers a row, and prints that.
 fn tell_answer(rt: &HostRuntime, line: &mut Line<'_>) -> io::Result<()> {
-    match line.named(ROWS, Row::Unknown) {
-        Row::Growing(growing) => growing::tell(rt, growing, line),
-        row => {
-            answer(row, line);
-            println!(rt; "{}", line.told())
-        }
-    }
-}
-
-/// Prints what is answered to a row.
-pub fn tell(rt: &HostRuntime, text: &str) -> io::Result<()> {
-    match Length::new(256) {
-        Some(length) => tell_answer(rt, &mut Line::new(rt.alloc(), text, length)),
-        None => println!(rt; "{NONE}"),
-    }
+    let row = line.named(ROWS, Row::Unknown);
+    answer(row, line);
+    println!(rt; "{}", line.told())
 }
