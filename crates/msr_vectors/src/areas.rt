@@ -98,8 +98,7 @@ fn put_plain(
 
 /// Notes whether samples are shown one by one, and once more by a copy.
 fn agree_viewed(line: &mut Line<'_>, viewed: PlainSamples<'_>, samples: &[i32]) {
-    line.agree(gives(viewed.clone().unwrap(), samples));
-    line.agree(gives(viewed, samples));
+    line.agree(gives(viewed.clone().unwrap(), samples) & gives(viewed, samples));
 }
 
 /// Whether no sample was decoded.
@@ -114,21 +113,21 @@ fn are_all_before(samples: &[i32]) -> bool {
 
 /// Notes whether samples are shown one by one, from the first on, and after one of them from the second.
 fn agree_shown(line: &mut Line<'_>, mut viewed: SteimSamples<'_>, samples: &[i32], agrees: bool) {
-    line.agree(viewed.reverse_agrees() == agrees);
-    line.agree(gives(viewed.clone().unwrap(), samples));
+    let is_same = (viewed.reverse_agrees() == agrees) & gives(viewed.clone().unwrap(), samples);
     let (first, others) = match samples {
         [first, others @ ..] => (Some(*first), others),
         [] => (None, samples),
     };
-    line.agree(viewed.next() == first);
-    line.agree(viewed.reverse_agrees() == agrees);
-    line.agree(gives(viewed, others));
+    let is_first = (viewed.next() == first) & (viewed.reverse_agrees() == agrees);
+    line.agree(is_same & is_first & gives(viewed, others));
 }
 
 /// `steim VERSION ORDER COUNT AREA`: so many samples of an area of frames and whether its reverse constant agrees; or why
 /// it has not as many.
 pub fn steim(line: &mut Line<'_>) {
-    let (version, order, count) = (line.version(), line.order(), line.number());
+    let version = line.version();
+    let order = line.order();
+    let count = line.number();
     let area = line.bytes();
     let mut out = line.repeated(BEFORE, count);
     if count == 0 || out.is_empty() || area.len() > 1_048_576 {
@@ -173,7 +172,8 @@ fn put_steim(
 {
     match decode_steim(line.alloc, of.0, of.1, area, of.2) {
         Ok(found) => {
-            let (samples, agrees) = (found.samples.as_slice(), found.reverse_agrees);
+            let samples = found.samples.as_slice();
+            let agrees = found.reverse_agrees;
             line.agree((into == Ok(agrees)) & (out == samples));
             line.show(&samples);
             line.put(' ');
@@ -204,7 +204,8 @@ fn are_groups(version: Version, groups: &[Group]) -> bool
 
 /// Groups of differences with a `+` between them, each once or `DIFFERENCES*TIMES`.
 fn groups_of(line: &mut Line<'_>) -> Vec<Group> {
-    let (mut groups, text) = (Vec::new(line.alloc), line.word());
+    let mut groups = Vec::new(line.alloc);
+    let text = line.word();
     for part in text.split('+') {
         let (list, times) = part.split_once('*').unwrap_or((part, "1"));
         line.rest = list;
@@ -221,7 +222,9 @@ fn groups_of(line: &mut Line<'_>) -> Vec<Group> {
 
 /// `frames VERSION FIRST LAST GROUPS`: the area of 192 bytes with these groups between the two constants.
 pub fn frames(line: &mut Line<'_>) {
-    let (version, first, last) = (line.version(), line.number(), line.number());
+    let version = line.version();
+    let first = line.number();
+    let last = line.number();
     let groups = groups_of(line);
     if !are_groups(version, &groups) || groups.len() > 43 {
         return line.bad(());
@@ -233,28 +236,26 @@ pub fn frames(line: &mut Line<'_>) {
 
 /// `word VERSION DIFFERENCES`: the code and the word that hold them.
 pub fn written(line: &mut Line<'_>) {
-    let (version, differences) = (line.version(), line.samples());
+    let version = line.version();
+    let differences = line.samples();
     match write_word(version, &differences) {
         Some((code, word)) => line.put(format_args!("{code} {word:08x}")),
         None => line.put_text("None"),
     }
 }
 
-/// The word of four bytes.
-fn word_of(line: &mut Line<'_>) -> u32 {
-    match <[u8; 4]>::try_from(line.bytes().as_slice()) {
-        Ok(bytes) => u32::from_be_bytes(bytes),
-        Err(_) => line.bad(0),
-    }
-}
-
 /// `read VERSION CODE WORD`: the differences that a word holds.
 pub fn held(line: &mut Line<'_>) {
-    let (version, code, word) = (line.version(), line.number(), word_of(line));
+    let version = line.version();
+    let code = line.number();
+    let word = line.bytes();
+    let Ok(word) = <[u8; 4]>::try_from(word.as_slice()) else {
+        return line.bad(());
+    };
     if code > 3 {
         return line.bad(());
     }
-    match read_word(version, code, word) {
+    match read_word(version, code, u32::from_be_bytes(word)) {
         Ok(group) => line.show(&group.as_slice()),
         Err(fault) => line.put(fault),
     }
@@ -268,7 +269,8 @@ pub fn width(line: &mut Line<'_>) {
 
 /// `group VERSION last|inner DIFFERENCES`: whether they can be a group of a record, its last one or another.
 pub fn is_one(line: &mut Line<'_>) {
-    let (version, is_last) = (line.version(), line.word() == "last");
+    let version = line.version();
+    let is_last = line.word() == "last";
     let differences = line.numbers();
     line.put(is_group(version, is_last, &differences));
 }

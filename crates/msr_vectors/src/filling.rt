@@ -10,7 +10,9 @@ use msr_words::{Fitting, Kind, Length};
 
 /// `area1 BEFORE SAMPLES`: the area of Steim-1 of a record of 256 bytes.
 pub fn steim1(line: &mut Line<'_>) {
-    let (before, run, length) = (line.optional(), line.samples(), line.usual);
+    let before = line.optional();
+    let run = line.samples();
+    let length = line.usual;
     if length.bytes() != 256 || run.is_empty() || !Kind::Steim1.fits(before, &run, length) {
         return line.bad(());
     }
@@ -21,7 +23,8 @@ pub fn steim1(line: &mut Line<'_>) {
 
 /// `area2 BEFORE SAMPLES`: how many words of the area of Steim-2 of a record of 256 bytes have differences, and the area.
 pub fn steim2(line: &mut Line<'_>) {
-    let (before, run) = (line.optional(), line.samples());
+    let before = line.optional();
+    let run = line.samples();
     if run.is_empty() {
         return line.bad(());
     }
@@ -67,7 +70,8 @@ fn are_alike(samples: &[i32], start: usize) -> Option<bool>
 
 /// `told START SAMPLES`: whether the samples from that one on are written alike by told words and without.
 pub fn by_told_words(line: &mut Line<'_>) {
-    let (start, samples) = (line.number(), line.samples());
+    let start = line.number();
+    let samples = line.samples();
     if start >= samples.len() {
         return line.bad(());
     }

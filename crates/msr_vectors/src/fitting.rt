@@ -39,7 +39,9 @@ fn taken_by(line: &mut Line<'_>, kind: Kind, length: Length, sample: i32, of: &[
 
 /// `taken LENGTH SAMPLE DIFFERENCES KINDS`: how many pushes of that sample each tracker takes, with these differences.
 pub fn taken(line: &mut Line<'_>) {
-    let (length, sample, differences) = (line.length(), line.number(), line.numbers());
+    let length = line.length();
+    let sample = line.number();
+    let differences = line.numbers();
     let mut all = Vec::new(line.alloc);
     let kinds = line.rest;
     for _ in kinds.split_whitespace() {
@@ -57,7 +59,8 @@ fn codec<C: Codec + Drop>(length: Length) -> (u8, usize) {
 
 /// `kind LENGTH KIND`: the number of its encoding, how many samples it looks back, and the most that a record holds.
 pub fn kind(line: &mut Line<'_>) {
-    let (length, kind) = (line.length(), line.kind());
+    let length = line.length();
+    let kind = line.kind();
     let codec = match kind {
         Kind::Int16 => codec::<Int16>(length),
         Kind::Int24 => codec::<Int24>(length),
@@ -93,15 +96,20 @@ pub fn longest(line: &mut Line<'_>) {
 
 /// `fits KIND LENGTH BEFORE SAMPLES`: whether the run fits, after that sample.
 pub fn fits(line: &mut Line<'_>) {
-    let (kind, length) = (line.kind(), line.length());
-    let (before, run) = (line.optional(), line.samples());
+    let kind = line.kind();
+    let length = line.length();
+    let before = line.optional();
+    let run = line.samples();
     line.put(kind.fits(before, &run, length));
 }
 
 /// `run FORM KIND START END SAMPLES`: whether these samples of a segment fit.
 pub fn run(line: &mut Line<'_>) {
-    let (form, kind) = (line.form(), line.kind());
-    let (start, end, samples) = (line.number(), line.number(), line.samples());
+    let form = line.form();
+    let kind = line.kind();
+    let start = line.number();
+    let end = line.number();
+    let samples = line.samples();
     if start > end || end > samples.len() {
         return line.bad(());
     }
@@ -110,7 +118,8 @@ pub fn run(line: &mut Line<'_>) {
 
 /// `difference NUMBER SAMPLES`: the difference of a sample from the one before it.
 pub fn difference_at(line: &mut Line<'_>) {
-    let (at, samples) = (line.number(), line.samples());
+    let at = line.number();
+    let samples = line.samples();
     if at >= samples.len() {
         return line.bad(());
     }
@@ -128,7 +137,8 @@ fn longest_at(samples: &[i32], at: usize) -> usize
 /// `word_size NUMBER SAMPLES`: how many differences stand together in a Steim-2 word from that sample on, by a window of
 /// its own.
 pub fn word_size(line: &mut Line<'_>) {
-    let (at, samples) = (line.number(), line.samples());
+    let at = line.number();
+    let samples = line.samples();
     if at > samples.len() {
         return line.bad(());
     }
@@ -137,7 +147,9 @@ pub fn word_size(line: &mut Line<'_>) {
 
 /// `groups VERSION LENGTH DIFFERENCES`: the groups of the division that is written.
 pub fn divided(line: &mut Line<'_>) {
-    let (version, length, differences) = (line.version(), line.length(), line.numbers());
+    let version = line.version();
+    let length = line.length();
+    let differences = line.numbers();
     match groups(line.alloc, version, &differences, length) {
         Ok(found) => line.show(&found),
         Err(_) => line.is_bad = true,
@@ -146,7 +158,9 @@ pub fn divided(line: &mut Line<'_>) {
 
 /// `count VERSION LENGTH DIFFERENCES`: how many groups that are.
 pub fn counted(line: &mut Line<'_>) {
-    let (version, length, differences) = (line.version(), line.length(), line.numbers());
+    let version = line.version();
+    let length = line.length();
+    let differences = line.numbers();
     match groups(line.alloc, version, &differences, length) {
         Ok(Some(found)) => line.put(found.len()),
         Ok(None) => line.put_text("None"),

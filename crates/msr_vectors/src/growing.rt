@@ -106,7 +106,8 @@ fn put_pieces(line: &mut Line<'_>, pieces: &[Piece]) {
 /// `stream FORM NUMBERS`: the pieces of a packer to which they are pushed.
 pub fn stream(line: &mut Line<'_>) {
     make_room(line);
-    let (form, samples) = (line.form(), line.samples());
+    let form = line.form();
+    let samples = line.samples();
     let refused = put_stream(line, &samples, StreamPacker::of(line.alloc, form));
     line.put('\n');
     put_refused(line, refused);
@@ -131,7 +132,8 @@ fn put_stream(line: &mut Line<'_>, samples: &[i32], mut packer: StreamPacker) ->
 /// `append AFTER SEQUENCE BEFORE KIND LENGTH SAMPLES | ..`: the records of rows.
 pub fn records(line: &mut Line<'_>) {
     make_room(line);
-    let (mut out, parts) = (Vec::new(line.alloc), line.rest);
+    let mut out = Vec::new(line.alloc);
+    let parts = line.rest;
     let mut refused = false;
     for part in parts.split(" | ") {
         line.rest = part;
@@ -228,7 +230,8 @@ fn put_totals(line: &mut Line<'_>, totals: &Totals, most: usize) {
 /// `totals NAME,READ,WRITTEN ..`: the totals of the names, each of one file that is added.
 pub fn totals(line: &mut Line<'_>) {
     make_room(line);
-    let (mut totals, files) = (Totals::new(line.alloc), line.rest);
+    let mut totals = Totals::new(line.alloc);
+    let files = line.rest;
     let mut refused = false;
     for file in files.split_whitespace() {
         line.rest = file;

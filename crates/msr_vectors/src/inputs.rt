@@ -26,7 +26,8 @@ fn add_row(line: &mut Line<'_>, rows: &mut Vec<Row>) {
     let Some(rate) = rate else {
         return line.bad(());
     };
-    let (start, count) = (line.number_until(","), line.number());
+    let start = line.number_until(",");
+    let count = line.number();
     let row = Row {
         key: key_at(rate),
         start,
@@ -38,7 +39,8 @@ fn add_row(line: &mut Line<'_>, rows: &mut Vec<Row>) {
 
 /// Such rows.
 pub fn rows_of(line: &mut Line<'_>) -> Vec<Row> {
-    let (mut rows, words) = (Vec::new(line.alloc), line.rest);
+    let mut rows = Vec::new(line.alloc);
+    let words = line.rest;
     for word in words.split_whitespace() {
         line.rest = word;
         add_row(line, &mut rows);
@@ -62,7 +64,8 @@ impl Steps {
 
     /// Adds what a follower says of the next row, and the segment that the row ends. The joiner has to do what was said.
     fn add(&mut self, line: &mut Line<'_>, follow: &mut Follow, joiner: &mut Joiner, row: Row) {
-        let (start, count) = (row.start, row.samples.len());
+        let start = row.start;
+        let count = row.samples.len();
         if count < 1 || count > 65_535 || !is_instant(start) {
             return line.bad(());
         }
@@ -131,7 +134,9 @@ pub fn behaviors(line: &mut Line<'_>) -> Vec<Behavior> {
 
 /// The bytes of records with a `|` between them, before a `&` or up to the end.
 pub fn bytes_of(line: &mut Line<'_>) -> Vec<u8> {
-    let (mut bytes, records, rest) = (Vec::new(line.alloc), line.until(" & "), line.rest);
+    let mut bytes = Vec::new(line.alloc);
+    let records = line.until(" & ");
+    let rest = line.rest;
     for record in records.split(" | ") {
         line.rest = record;
         let record = record_of(line);
@@ -260,7 +265,8 @@ fn agree_on_end<R: Source>(
 )
     requires { CanCountCall (R.device source.old) }
 {
-    let (count, end) = (told.rows.len(), told.end);
+    let count = told.rows.len();
+    let end = told.end;
     told.end = None;
     told.add_record(line, reader, source);
     let is_again = (told.rows.len() == count) & (told.end == end);
@@ -304,7 +310,8 @@ fn put_records(
 /// again; and how many records were read, were empty, and had another reverse constant.
 pub fn read(line: &mut Line<'_>) {
     let strict = line.word() == "strict";
-    let (behavior, bytes) = (behavior(line), bytes_of(line));
+    let behavior = behavior(line);
+    let bytes = bytes_of(line);
     let outlines = outlined(line, strict, &bytes, behavior);
     put_records(line, strict, &bytes, behavior, &outlines);
 }
@@ -312,8 +319,10 @@ pub fn read(line: &mut Line<'_>) {
 /// `compare MOST INTERRUPTIONS FAILS MOST INTERRUPTIONS FAILS RECORD | .. & RECORD | ..`: what is answered for two inputs
 /// whose bytes come so.
 pub fn compared(line: &mut Line<'_>) {
-    let (one, other) = (behavior(line), behavior(line));
-    let (first, second) = (bytes_of(line), bytes_of(line));
+    let one = behavior(line);
+    let other = behavior(line);
+    let first = bytes_of(line);
+    let second = bytes_of(line);
     let mut one = TestSource::new(&first, one);
     let mut other = TestSource::new(&second, other);
     let settings = Settings {

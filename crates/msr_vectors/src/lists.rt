@@ -76,7 +76,8 @@ fn add_pairs(line: &mut Line<'_>, bytes: &mut Vec<u8>, digits: &str, times: u32)
     for pair in digits.as_bytes().chunks(2) {
         match pair {
             [high, low] => {
-                let (high, low) = (digit(line, *high), digit(line, *low));
+                let high = digit(line, *high);
+                let low = digit(line, *low);
                 line.push(&mut part, high.wrapping_mul(16).wrapping_add(low));
             }
             _ => line.is_bad = true,
@@ -103,21 +104,18 @@ impl Line<'_> {
         T: TryFrom<i64> + Default + Drop,
         T::Error: Drop,
     {
+        let mut wide = Vec::new(self.alloc);
         let mut numbers = Vec::new(self.alloc);
-        for number in &self.wide_numbers() {
+        let text = self.word();
+        if text != "-" {
+            for part in text.split('+') {
+                add_part(self, &mut wide, part);
+            }
+        }
+        for number in &wide {
             match T::try_from(*number) {
                 Ok(number) => self.push(&mut numbers, number),
                 Err(_) => self.is_bad = true,
-            }
-        }
-        numbers
-    }
-
-    fn wide_numbers(&mut self) -> Vec<i64> {
-        let (mut numbers, text) = (Vec::new(self.alloc), self.word());
-        if text != "-" {
-            for part in text.split('+') {
-                add_part(self, &mut numbers, part);
             }
         }
         numbers
@@ -130,7 +128,8 @@ impl Line<'_> {
 
     /// The bytes of parts with a `+` between them, each once or `DIGITS*TIMES`; `-` stands for none.
     pub fn bytes(&mut self) -> Vec<u8> {
-        let (mut bytes, text) = (Vec::new(self.alloc), self.word());
+        let mut bytes = Vec::new(self.alloc);
+        let text = self.word();
         if text != "-" {
             for part in text.split('+') {
                 let (digits, times) = part.split_once('*').unwrap_or((part, "1"));
@@ -143,7 +142,8 @@ impl Line<'_> {
 
     /// The bytes of a text up to a `&` or to the end, in which `\n` stands for a line's end; `-` stands for none.
     pub fn text(&mut self) -> Vec<u8> {
-        let (mut bytes, text) = (Vec::new(self.alloc), self.until(" & "));
+        let mut bytes = Vec::new(self.alloc);
+        let text = self.until(" & ");
         if text != "-" {
             for part in text.split("\\n") {
                 self.extend(&mut bytes, part.as_bytes());

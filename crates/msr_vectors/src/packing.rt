@@ -150,7 +150,8 @@ fn or_none(line: &mut Line<'_>, packing: Result<Packing, AllocError>) -> Packing
 
 /// `pack FORM SAMPLES`: the runs of the packing, and its separators.
 pub fn packed(line: &mut Line<'_>) {
-    let (form, samples) = (line.form(), line.samples());
+    let form = line.form();
+    let samples = line.samples();
     let whole = Streamed {
         packing: packing_of(line, &samples, form),
         samples,
@@ -165,7 +166,9 @@ pub fn packed(line: &mut Line<'_>) {
 
 /// `separates FORM SEPARATORS SAMPLES`: whether no record holds one of these samples with the next one.
 pub fn separated(line: &mut Line<'_>) {
-    let (form, separators, samples) = (line.form(), line.numbers(), line.samples());
+    let form = line.form();
+    let separators = line.numbers();
+    let samples = line.samples();
     let is = separates_in(&samples, form, &separators);
     if form.kinds == Kinds::All {
         line.agree(separates(&samples, form.length, &separators) == is);
@@ -175,10 +178,13 @@ pub fn separated(line: &mut Line<'_>) {
 
 /// Runs with a `+` between them, `START,END,KIND`.
 fn runs_of(line: &mut Line<'_>) -> Vec<Run> {
-    let (mut runs, text, rest) = (Vec::new(line.alloc), line.word(), line.rest);
+    let mut runs = Vec::new(line.alloc);
+    let text = line.word();
+    let rest = line.rest;
     for part in text.split('+') {
         line.rest = part;
-        let (start, end) = (line.number_until(","), line.number_until(","));
+        let start = line.number_until(",");
+        let end = line.number_until(",");
         let kind = line.kind();
         line.push(&mut runs, Run { start, end, kind });
     }
@@ -188,8 +194,10 @@ fn runs_of(line: &mut Line<'_>) -> Vec<Run> {
 
 /// `least FORM RUNS SEPARATORS SAMPLES`: whether the separators show that no packing of the samples has fewer runs.
 pub fn is_least(line: &mut Line<'_>) {
-    let (form, runs) = (line.form(), runs_of(line));
-    let (separators, samples) = (line.numbers(), line.samples());
+    let form = line.form();
+    let runs = runs_of(line);
+    let separators = line.numbers();
+    let samples = line.samples();
     let is = shows_least_in(&samples, form, &runs, &separators);
     if form.kinds == Kinds::All {
         line.agree(shows_least(&samples, form.length, &runs, &separators) == is);

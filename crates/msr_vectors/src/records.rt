@@ -110,8 +110,7 @@ fn agree_row(line: &mut Line<'_>, view: &RecordView<'_>, row: &Option<Row>) {
         Some(row) => (Some((row.key, row.start)), row.samples.as_slice()),
         None => (None, NO_SAMPLES),
     };
-    line.agree(view.place() == place);
-    line.agree(gives(view.samples(), samples));
+    line.agree((view.place() == place) & gives(view.samples(), samples));
 }
 
 /// Notes whether the record is shown as it was decoded, with an area of that many bytes.
@@ -122,16 +121,15 @@ fn agree_shown(line: &mut Line<'_>, bytes: &[u8], record: &Record, area: usize) 
     agree_row(line, &view, &record.row);
     let is_shown = (view.length() == record.length) & (view.area().len() == area);
     let agrees = view.reverse_agrees();
-    line.agree(is_shown & (agrees == record.reverse_agrees));
-    line.agree(reverse_in(bytes) == Some(agrees));
-    line.agree(read_header(bytes) == Ok(*view.header()));
+    let is_read = (reverse_in(bytes) == Some(agrees)) & (read_header(bytes) == Ok(*view.header()));
+    line.agree(is_shown & (agrees == record.reverse_agrees) & is_read);
 }
 
 /// Notes whether all calls refuse the record so. Whether the reverse constant agrees is asked of a record that is refused
 /// for its time, and of no other.
 fn agree_refused(line: &mut Line<'_>, bytes: &[u8], fault: FaultKind) {
-    line.agree(view_record(bytes).err() == Some(fault));
-    line.agree(reverse_in(bytes).is_some() == (fault == FaultKind::TimeRange));
+    let is_refused = view_record(bytes).err() == Some(fault);
+    line.agree(is_refused & (reverse_in(bytes).is_some() == (fault == FaultKind::TimeRange)));
     match (read_header(bytes), fault) {
         (Err(header), FaultKind::Header(other)) => {
             line.agree(header == other);
@@ -144,7 +142,8 @@ fn agree_refused(line: &mut Line<'_>, bytes: &[u8], fault: FaultKind) {
 
 /// `record AREA RECORD`: what it is decoded to, if its area has so many bytes; or why it is refused.
 pub fn decoded(line: &mut Line<'_>) {
-    let (area, bytes) = (line.number(), record_of(line));
+    let area = line.number();
+    let bytes = record_of(line);
     match decode_record(line.alloc, &bytes) {
         Ok(record) => {
             agree_shown(line, &bytes, &record, area);

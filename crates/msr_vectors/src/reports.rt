@@ -38,7 +38,9 @@ fn agree_report(line: &mut Line<'_>, text: &[u8]) {
 /// `report MOST INTERRUPTIONS FAILS MORE TEXT`: what the report says whose text, with these bytes after it, comes so; or
 /// why it is none.
 pub fn read(line: &mut Line<'_>) {
-    let (behavior, more, mut text) = (behavior(line), line.bytes(), line.text());
+    let behavior = behavior(line);
+    let more = line.bytes();
+    let mut text = line.text();
     line.extend(&mut text, &more);
     put_report(line, &text, behavior);
     if behavior.fails_at.is_none() {
@@ -62,7 +64,8 @@ fn put_taken(line: &mut Line<'_>, report: &Report, text: &[u8], behaviors: &[Beh
 
 /// `retold MOST INTERRUPTIONS FAILS TEXT`: how many bytes of the text of that report are written, and why not all.
 pub fn written(line: &mut Line<'_>) {
-    let (behaviors, text) = (behaviors(line), line.text());
+    let behaviors = behaviors(line);
+    let text = line.text();
     match report_of(line.alloc, &text) {
         Ok(report) => put_taken(line, &report, &text, &behaviors),
         Err(_) => line.is_bad = true,

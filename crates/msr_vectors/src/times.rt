@@ -26,7 +26,8 @@ pub fn instant(line: &mut Line<'_>) {
 
 /// A rate, if there is one of that factor and multiplier, which it has.
 fn rate(line: &mut Line<'_>) -> Option<Rate> {
-    let (factor, multiplier) = (line.number(), line.number());
+    let factor = line.number();
+    let multiplier = line.number();
     let rate = Rate::new(factor, multiplier);
     if let Some(rate) = &rate {
         line.agree((rate.factor() == factor) & (rate.multiplier() == multiplier));
@@ -44,7 +45,9 @@ pub fn period(line: &mut Line<'_>) {
 
 /// `nominal FACTOR MULTIPLIER START NUMBER`: the instant of the sample of that number after a start.
 pub fn nominal(line: &mut Line<'_>) {
-    let (rate, start, number) = (rate(line), line.number(), line.number());
+    let rate = rate(line);
+    let start = line.number();
+    let number = line.number();
     match rate {
         Some(rate) => line.show(&rate.nominal(start, number)),
         None => line.is_bad = true,
@@ -54,8 +57,10 @@ pub fn nominal(line: &mut Line<'_>) {
 /// `near FACTOR MULTIPLIER NUMBER INSTANT TOLERANCE`: whether the instant is near to the sample of that number after
 /// instant 0.
 pub fn near(line: &mut Line<'_>) {
-    let (rate, number) = (rate(line), line.number());
-    let (instant, tolerance) = (line.number(), line.number());
+    let rate = rate(line);
+    let number = line.number();
+    let instant = line.number();
+    let tolerance = line.number();
     match rate {
         Some(rate) => line.put(rate.near(0, number, instant, tolerance)),
         None => line.is_bad = true,

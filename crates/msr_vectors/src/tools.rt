@@ -160,8 +160,8 @@ fn ended(line: &mut Line<'_>, asked: &Asked<'_>, devices: Devices) -> Ended {
         }
         _ => fault_of_writing(alloc, asked, &mut records, &mut written, &mut told),
     };
-    line.agree(asked.written.starts_with(written.bytes()));
-    line.agree(asked.told.starts_with(told.bytes()));
+    let is_told = asked.told.starts_with(told.bytes());
+    line.agree(asked.written.starts_with(written.bytes()) & is_told);
     (fault, written.bytes().len(), told.bytes().len())
 }
 
@@ -221,8 +221,10 @@ pub fn called(line: &mut Line<'_>) {
         fails_at: None,
     };
     let odds = line.until(" & ");
-    let (records, report) = (bytes_of(line), line.text());
-    let (written, told) = (bytes_of(line), line.text());
+    let records = bytes_of(line);
+    let report = line.text();
+    let written = bytes_of(line);
+    let told = line.text();
     let asked = Asked {
         call,
         options,
@@ -241,9 +243,9 @@ pub fn options(line: &mut Line<'_>) {
         return line.put_text("None");
     };
     let strict = options.strict(true);
-    line.agree(strict.strict(false) == options);
-    line.agree(strict.length() == options.length());
-    line.agree(strict.tolerance() == options.tolerance());
+    let is_same = strict.strict(false) == options;
+    let is_length = strict.length() == options.length();
+    line.agree(is_same & is_length & (strict.tolerance() == options.tolerance()));
     line.put_before(options.length().bytes(), ' ');
     line.put_before(options.tolerance(), ' ');
     line.put_before(options.is_strict(), ' ');
