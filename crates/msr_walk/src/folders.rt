@@ -80,21 +80,25 @@ where
     /// the archive, by whatever links, mounts and names: outside its own folder, and outside that of the days, which
     /// may be a link that leads out of it.
     fn stands_apart(&self, folder: &str) -> Result<bool, AllocError> {
-        let (rt, alloc, folders) = (self.rt, self.alloc, self.archive.folders);
-        let days = join(alloc, folders.root, folder)?;
-        let Ok(root) = fs::metadata(rt, folders.root) else {
+        let folders = self.archive.folders;
+        let Ok(root) = fs::metadata(self.rt, folders.root) else {
             return Ok(false);
         };
-        let Ok(days) = fs::metadata(rt, days.as_str()) else {
+        let days = fs::metadata(self.rt, join(self.alloc, folders.root, folder)?.as_str());
+        let Ok(days) = days else {
             return Ok(false);
         };
-        let of_archive = [FileId::of(&root), FileId::of(&days)];
-        let records = join(alloc, folders.out, folder)?;
-        let reports = join(alloc, folders.reports, folder)?;
+        let own = [FileId::of(&root), FileId::of(&days)];
         Ok(
-            place_of(rt, alloc, records.as_str(), &of_archive)? == Place::Apart
-                && place_of(rt, alloc, reports.as_str(), &of_archive)? == Place::Apart,
+            self.place_in(folders.out, folder, &own)? == Place::Apart
+                && self.place_in(folders.reports, folder, &own)? == Place::Apart,
         )
+    }
+
+    /// Where a folder with that path from a root stands, or will stand, seen from the archive's own.
+    fn place_in(&self, root: &str, folder: &str, own: &[FileId]) -> Result<Place, AllocError> {
+        let path = join(self.alloc, root, folder)?;
+        place_of(self.rt, self.alloc, path.as_str(), own)
     }
 
     /// Handles a day, or refuses it if what is made of it may stand in the archive.
