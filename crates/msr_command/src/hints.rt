@@ -1,5 +1,5 @@
 //! What a person is told when a task has ended.
-ghost use Rattle.msr_command.specs.Hints.{HintsDone, HintsEnd, HintsEngine, HintsFault, HintsUnread};
+ghost use Rattle.msr_command.specs.Hints.{HintsDone, HintsEnd, HintsEngine, HintsUnread};
 
 use crate::done::Done;
 use crate::task_fault::TaskFault;
@@ -72,25 +72,13 @@ fn hint_of_unread<R: Files>(rt: &R, read: FilesRead<'_>) -> Option<Hint>
 fn hint_of_engine<R: Files>(rt: &R, read: FilesRead<'_>, fault: &ToolFault) -> Option<Hint>
     ensures { HintsEngine read.entry fault.now result }
 {
-    match fault {
-        ToolFault::Input(_) => hint_of_file(rt, read.records?),
-        ToolFault::Report(_) => hint_of_file(rt, read.report?),
-        ToolFault::Read => hint_of_unread(rt, read),
+    let name = match fault {
+        ToolFault::Input(_) => read.records,
+        ToolFault::Report(_) => read.report,
+        ToolFault::Read => return hint_of_unread(rt, read),
         ToolFault::Write | ToolFault::Memory => None,
-    }
-}
-
-fn hint_of_fault<R: Files>(rt: &R, read: FilesRead<'_>, fault: &TaskFault<'_>) -> Option<Hint>
-    ensures { HintsFault read.entry fault.now result }
-{
-    match fault {
-        TaskFault::CannotOpen(_, why) => Some(Hint::System(*why)),
-        TaskFault::Input(name, fault) => hint_of_engine(rt, FilesRead::of_input(name), fault),
-        TaskFault::Tool(fault) => hint_of_engine(rt, read, fault),
-        TaskFault::SameFile | TaskFault::SameOutput | TaskFault::Overlap | TaskFault::Closed => {
-            None
-        }
-    }
+    };
+    hint_of_file(rt, name?)
 }
 
 /// What is certain beside how a task ended.
@@ -103,6 +91,10 @@ pub(crate) fn hint_of<R: Files>(
 {
     match ended {
         Ok(done) => hint_of_done(done),
-        Err(fault) => hint_of_fault(rt, read, fault),
+        Err(TaskFault::CannotOpen(_, why)) => Some(Hint::System(*why)),
+        Err(TaskFault::Input(name, fault)) => hint_of_engine(rt, FilesRead::of_input(name), fault),
+        Err(TaskFault::Tool(fault)) => hint_of_engine(rt, read, fault),
+        Err(TaskFault::SameFile | TaskFault::SameOutput | TaskFault::Overlap | TaskFault::Closed) =>
+            { None }
     }
 }
