@@ -48,10 +48,15 @@ def run(words, folder, log, take):
     """Whether the command succeeds. Its lines go to the log and to `take`."""
     pipes = {"stdin": subprocess.DEVNULL, "stdout": subprocess.PIPE, "stderr": subprocess.STDOUT}
     with subprocess.Popen(words, cwd=folder, encoding="utf-8", errors="replace", **pipes) as command:
-        for line in command.stdout:
-            log.write(line)
-            log.flush()
-            take(line.rstrip("\n"))
+        try:
+            for line in command.stdout:
+                log.write(line)
+                log.flush()
+                take(line.rstrip("\n"))
+        except KeyboardInterrupt:
+            # `rt ci` would wait for the checks that run, some minutes; if it ends, they do.
+            command.kill()
+            raise
     return command.returncode == 0
 
 
