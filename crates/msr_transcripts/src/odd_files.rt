@@ -1,6 +1,5 @@
 //! The system's files, but for one folder, some names, and what standard input and output are redirected to.
 
-use crate::settings::value_of;
 use std::alloc::{Allocator, Global};
 use std::fs::{Metadata, OpenFile, OpenOptions};
 use std::io::{ErrorKind, Read};
@@ -11,78 +10,112 @@ use std::{fs, io};
 /// What another program writes to a file that it took.
 const TAKEN: &[u8] = b"another's";
 
-/// The names of a folder that cannot be opened, that cannot be read to its end, or that has a name that is not UTF-8; or
-/// names with control characters, and one without; or that of a day. Each is ended by a NUL.
-const FOLDERS: &[(&str, &[u8])] = &[
-    ("", b""),
-    ("closed", b""),
-    ("cut", b"XX.TEST.00.BHN"),
-    ("latin", b"a\0\xff\0"),
-    ("marked", b"a\nrefused b\0\t\0\x7f\x1f\0\xc3\xa9 ~\0"),
-    ("day", b"XX.TEST.00.BHZ.D.2020.001\0"),
-];
-
-/// The names of an odd folder of that kind, if there is such a kind.
-pub fn names_of(kind: &str) -> Option<&'static [u8]> {
-    for (name, names) in FOLDERS {
-        if *name == kind {
-            return Some(*names);
-        }
-    }
-    None
-}
-
-/// The folder with the path `folder`, which ends in a slash, has these `names`; without any it cannot be opened. If the
-/// last name is cut short, reading fails there. A file gets the name `later` only if `earlier` is there and `gone` is
-/// not. Once a file whose name matches `made` is there, `other` is opened in its place. When a new file is made whose
-/// name matches `when`, the file `taken` is replaced, as another program would. When a claim is made, the file `linked`
-/// gets the name beside that of the records, too. A file whose name matches `stays` cannot be removed. Standard input is
-/// redirected from the file `redirected`, and standard output to the file `redirecting`, if these are names.
+/// The folder with the path, which ends in a slash, has these names, each ended by a NUL; without any it cannot be
+/// opened. If the last name is cut short, reading fails there. A file gets the later name only if the earlier one is
+/// there and the one that is to be gone is not. Once a file whose name matches `made` is there, the other one is opened
+/// in its place. When a new file is made whose name matches `when`, the file `taken` is replaced, as another program
+/// would. When a claim is made, the file `linked` gets the name beside that of the records, too. A file whose name
+/// matches `stays` cannot be removed. Standard input is redirected from the file `redirected`, and standard output to
+/// the file `redirecting`, if these are names.
 #[derive(Clone, Copy)]
 pub struct OddFiles<'a> {
-    pub rt: &'a HostRuntime,
-    /// The settings of a run, which say what is odd.
-    pub settings: &'a str,
+    rt: &'a HostRuntime,
+    path: &'a str,
+    names: &'static [u8],
+    earlier: &'a str,
+    later: &'a str,
+    made: &'a str,
+    other: &'a str,
+    gone: &'a str,
+    taken: &'a str,
+    when: &'a str,
+    linked: &'a str,
+    stays: &'a str,
+    redirected: &'a str,
+    redirecting: &'a str,
 }
 
 impl<'a> OddFiles<'a> {
-    /// The value of a setting, or no text.
-    fn value(&self, name: &str) -> &'a str {
-        value_of(self.settings, name)
+    /// Files of which nothing is odd.
+    pub fn new(rt: &'a HostRuntime) -> OddFiles<'a> {
+        OddFiles {
+            rt,
+            path: "",
+            names: b"",
+            earlier: "",
+            later: "",
+            made: "",
+            other: "",
+            gone: "",
+            taken: "",
+            when: "",
+            linked: "",
+            stays: "",
+            redirected: "",
+            redirecting: "",
+        }
+    }
+
+    /// Adds one thing that is odd, by its name and value, if there are such.
+    pub fn set(&mut self, name: &str, value: &'a str) -> bool {
+        match name {
+            "folder" => self.path = value,
+            "names" => return self.set_names(value),
+            "earlier" => self.earlier = value,
+            "later" => self.later = value,
+            "made" => self.made = value,
+            "other" => self.other = value,
+            "gone" => self.gone = value,
+            "taken" => self.taken = value,
+            "when" => self.when = value,
+            "linked" => self.linked = value,
+            "stays" => self.stays = value,
+            "redirected" => self.redirected = value,
+            "redirecting" => self.redirecting = value,
+            _ => return false,
+        }
+        true
+    }
+
+    /// Takes the names of a folder that cannot be opened, that cannot be read to its end, or that has a name that is not
+    /// UTF-8; or names with control characters, and one without; or that of a day.
+    fn set_names(&mut self, kind: &str) -> bool {
+        self.names = match kind {
+            "closed" => b"",
+            "cut" => b"XX.TEST.00.BHN",
+            "latin" => b"a\0\xff\0",
+            "marked" => b"a\nrefused b\0\t\0\x7f\x1f\0\xc3\xa9 ~\0",
+            "day" => b"XX.TEST.00.BHZ.D.2020.001\0",
+            _ => return false,
+        };
+        true
     }
 
     /// The path of a file, also if it is that of standard input or output.
     fn followed<'p>(&'p self, path: &'p str) -> &'p str {
-        let other = match path {
-            "/dev/stdin" => self.value("redirected"),
-            "/dev/stdout" => self.value("redirecting"),
-            _ => "",
-        };
-        if other.is_empty() { path } else { other }
+        match path {
+            "/dev/stdin" if !self.redirected.is_empty() => self.redirected,
+            "/dev/stdout" if !self.redirecting.is_empty() => self.redirecting,
+            _ => path,
+        }
     }
 
     /// What other programs do once a file is made.
     fn others_do(&self, path: &str, file: &<HostRuntime as Files>::File) -> io::Result<()> {
-        if matches(self.value("when"), path) {
-            self.take()?;
+        if matches(self.when, path) {
+            self.rt.remove_file(self.taken)?;
+            fs::write(self.rt, self.taken, TAKEN)?;
         }
         match path.strip_suffix(".claim") {
-            Some(records) if !self.value("linked").is_empty() => self.link(records, file),
+            Some(records) if !self.linked.is_empty() => self.link(records, file.metadata()?.ino()),
             _ => Ok(()),
         }
     }
 
-    /// Replaces the file that is taken.
-    fn take(&self) -> io::Result<()> {
-        self.rt.remove_file(self.value("taken"))?;
-        fs::write(self.rt, self.value("taken"), TAKEN)
-    }
-
-    /// Gives the linked file the name under which the records are written by the walk with that claim.
-    fn link(&self, records: &str, claim: &<HostRuntime as Files>::File) -> io::Result<()> {
-        let number = claim.metadata()?.ino();
+    /// Gives the linked file the name under which the records are written by the walk whose claim has that number.
+    fn link(&self, records: &str, number: u64) -> io::Result<()> {
         let part = format!(in self.rt.alloc(); "{records}.{number}.part")?;
-        fs::hard_link(self.rt, self.value("linked"), part.as_str())
+        fs::hard_link(self.rt, self.linked, part.as_str())
     }
 }
 
@@ -132,8 +165,8 @@ impl<'a> Files for OddFiles<'a> {
     type Dir = Names;
 
     fn open_file(&self, how: &OpenOptions, path: &str) -> io::Result<Self::File> {
-        if matches(self.value("made"), path) && self.rt.metadata(path).is_ok() {
-            return self.rt.open_file(how, self.value("other"));
+        if matches(self.made, path) && self.rt.metadata(path).is_ok() {
+            return self.rt.open_file(how, self.other);
         }
         let file = self.rt.open_file(how, self.followed(path))?;
         if how.asks_create_new() {
@@ -143,13 +176,13 @@ impl<'a> Files for OddFiles<'a> {
     }
 
     fn open_dir(&self, path: &str) -> io::Result<Names> {
-        if path != self.value("folder") {
+        if path != self.path {
             return Ok(Names::Host(self.rt.open_dir(path)?));
         }
-        match names_of(self.value("names")) {
-            Some(names) if !names.is_empty() => Ok(Names::Odd(names)),
-            _ => Err(ErrorKind::PermissionDenied.into()),
+        if self.names.is_empty() {
+            return Err(ErrorKind::PermissionDenied.into());
         }
+        Ok(Names::Odd(self.names))
     }
 
     fn metadata(&self, path: &str) -> io::Result<Metadata> {
@@ -165,9 +198,9 @@ impl<'a> Files for OddFiles<'a> {
     }
 
     fn rename(&self, from: &str, to: &str) -> io::Result<()> {
-        if to == self.value("later") {
-            self.rt.metadata(self.value("earlier"))?;
-            if self.rt.metadata(self.value("gone")).is_ok() {
+        if to == self.later {
+            self.rt.metadata(self.earlier)?;
+            if self.rt.metadata(self.gone).is_ok() {
                 return Err(ErrorKind::Other.into());
             }
         }
@@ -175,7 +208,7 @@ impl<'a> Files for OddFiles<'a> {
     }
 
     fn remove_file(&self, path: &str) -> io::Result<()> {
-        if matches(self.value("stays"), path) {
+        if matches(self.stays, path) {
             return Err(ErrorKind::PermissionDenied.into());
         }
         self.rt.remove_file(path)

@@ -1,82 +1,73 @@
-//! What a run is given beside its words: settings, written `NAME=VALUE` or `terminal`, with spaces between them.
+//! What a run is given beside its words.
 
-use crate::odd_files::names_of;
+use crate::odd_files::OddFiles;
 use crate::stage::Stage;
 use msr_tool::Behavior;
 
-/// The names of all settings.
-const NAMES: &[&str] = &[
-    "from",
-    "cut",
-    "into",
-    "held",
-    "reading",
-    "writing",
-    "terminal",
-    "folder",
-    "names",
-    "earlier",
-    "later",
-    "made",
-    "other",
-    "gone",
-    "taken",
-    "when",
-    "linked",
-    "stays",
-    "redirected",
-    "redirecting",
-];
+/// A device that moves all that it is given, and never fails.
+const PLAIN: Behavior = Behavior {
+    most: usize::MAX,
+    interruptions: 0,
+    fails_at: None,
+};
 
-/// The name of a setting and its value; of one without a value its name.
-fn parts_of(setting: &str) -> (&str, &str) {
-    setting.split_once('=').unwrap_or((setting, setting))
-}
-
-/// The value of the setting with that name, or no text if it is not set.
-pub fn value_of<'a>(settings: &'a str, name: &str) -> &'a str {
-    for setting in settings.split_whitespace() {
-        let (found, value) = parts_of(setting);
-        if found == name {
-            return value;
-        }
-    }
-    ""
-}
-
-/// Whether there is a setting with that name.
-fn is_name(name: &str) -> bool {
-    for known in NAMES {
-        if *known == name {
-            return true;
-        }
-    }
-    false
-}
-
-/// Notes whether these are settings.
-pub fn check(stage: &mut Stage<'_>, settings: &str) {
-    for setting in settings.split_whitespace() {
-        let (name, _) = parts_of(setting);
-        stage.note(is_name(name));
-    }
-    stage.note(names_of(value_of(settings, "names")).is_some());
+/// What a run is given beside its words: the name of the file that is its standard input and how many of its bytes come
+/// at most, of the one that keeps what it prints, and of one that another program has locked, if there are such; how its
+/// streams behave, whether standard error is a terminal, and what is odd in the files that it sees.
+#[derive(Drop)]
+pub struct Settings<'a> {
+    pub from: &'a str,
+    pub cut: usize,
+    pub into: &'a str,
+    pub held: &'a str,
+    pub reading: Behavior,
+    pub writing: Behavior,
+    pub is_terminal: bool,
+    pub odd: OddFiles<'a>,
 }
 
 /// How a device behaves: with `100@3` it moves at most 100 bytes in a call, and fails at call 3, counted from 0. With
-/// `3` it moves all bytes; with no text it moves all that it is given, and never fails.
-pub fn behavior(stage: &mut Stage<'_>, text: &str) -> Behavior {
-    let (most, at) = match text.split_once('@') {
-        Some((most, at)) => (stage.count(most), at),
-        None => (usize::MAX, text),
-    };
-    let mut behavior = Behavior {
-        most,
-        interruptions: 0,
-        fails_at: None,
-    };
+/// `3` it moves all bytes.
+fn behavior(stage: &mut Stage<'_>, text: &str) -> Behavior {
+    let mut behavior = PLAIN;
+    let mut at = text;
+    if let Some((most, last)) = text.split_once('@') {
+        behavior.most = stage.count(most);
+        at = last;
+    }
     if !at.is_empty() {
         behavior.fails_at = Some(stage.count(at) as u64);
     }
     behavior
+}
+
+impl<'a> Settings<'a> {
+    /// Settings of which nothing is odd.
+    pub fn new(rt: &'a HostRuntime) -> Settings<'a> {
+        Settings {
+            from: "",
+            cut: usize::MAX,
+            into: "",
+            held: "",
+            reading: PLAIN,
+            writing: PLAIN,
+            is_terminal: false,
+            odd: OddFiles::new(rt),
+        }
+    }
+
+    /// Adds a setting, written `NAME=VALUE`, or `terminal`.
+    pub fn set(&mut self, stage: &mut Stage<'_>, setting: &'a str) {
+        let (name, value) = setting.split_once('=').unwrap_or((setting, ""));
+        match name {
+            "from" => self.from = value,
+            "cut" => self.cut = stage.count(value),
+            "into" => self.into = value,
+            "held" => self.held = value,
+            "reading" => self.reading = behavior(stage, value),
+            "writing" => self.writing = behavior(stage, value),
+            "terminal" => self.is_terminal = true,
+            _ => stage.note(self.odd.set(name, value)),
+        }
+    }
 }

@@ -4,7 +4,7 @@ use crate::names::Names;
 use crate::stage::Stage;
 use crate::{each, files, runs};
 
-/// A name for a text, or a step with files.
+/// What the line asks for once its names are replaced: a name for a text, or a step with files.
 fn named_step(stage: &mut Stage<'_>, names: &mut Names, line: &str) {
     let (verb, rest) = line.split_once(' ').unwrap_or((line, ""));
     let (one, other) = rest.split_once(' ').unwrap_or((rest, ""));
@@ -15,25 +15,21 @@ fn named_step(stage: &mut Stage<'_>, names: &mut Names, line: &str) {
     }
 }
 
-/// What the line asks for once its names are replaced: a run, `SETTINGS $ WORDS`, or one that is repeated; or another
+/// What the line asks for: a run, `SETTINGS $ WORDS`, or one that is repeated; nothing, `# TEXT` or no text; or another
 /// step.
-fn expanded_step(stage: &mut Stage<'_>, names: &mut Names, line: &str) {
-    if let Some(repeated) = line.strip_prefix("each ") {
-        each::step(stage, repeated);
-    } else if line.contains('{') {
-        stage.note(false);
-    } else if line.contains('$') {
-        runs::step(stage, line);
-    } else {
-        named_step(stage, names, line);
-    }
-}
-
-/// What the line asks for: nothing, `# TEXT` or no text; or a step.
 pub fn step(stage: &mut Stage<'_>, names: &mut Names, line: &str) {
     if line.is_empty() || line.starts_with('#') {
         return;
     }
     let line = names.expanded(stage, line);
-    expanded_step(stage, names, line.as_str());
+    let line = line.as_str();
+    if let Some(repeated) = line.strip_prefix("each ") {
+        each::step(stage, repeated);
+    } else if line.contains('{') {
+        stage.note(false);
+    } else if line.contains('$') {
+        runs::answer_to(stage, line).tell(stage);
+    } else {
+        named_step(stage, names, line);
+    }
 }
