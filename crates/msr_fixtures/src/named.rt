@@ -122,9 +122,13 @@ pub fn edit_by_name(order: Order, bytes: &mut [u8], name: &str, value: &str) -> 
     is_written.then_some(())
 }
 
-/// Makes these edits, one after another.
+/// Makes these edits, one after another. A field that is none, or has other numbers, leaves no header, so that what is
+/// tested with the record fails.
 pub(crate) fn edit_all(order: Order, bytes: &mut [u8], edits: &[Edit<'_>]) {
     for (name, value) in edits {
-        edit_by_name(order, bytes, name, value);
+        let is_written = edit_by_name(order, bytes, name, value).is_some();
+        if !is_written && name.parse::<usize>().is_err() {
+            put(bytes, 0, &[0; 64]);
+        }
     }
 }
