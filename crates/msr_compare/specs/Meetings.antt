@@ -6,6 +6,7 @@ use Rattle.msr_input.specs.Reading.{StopsReading}
 use Rattle.msr_input.specs.declared.settings.Settings.{Settings}
 use Rattle.msr_input.specs.declared.fault.ReadFault.{ReadFault}
 use Rattle.msr_input.specs.declared.fault.ReadFault.TheVariants as fault
+use Rattle.msr_segments.specs.Unequals.{UnequalAt}
 use Rattle.msr_segments.specs.declared.joiner.Segment.{Segment}
 use Rattle.msr_compare.specs.Answers.{CompareAnswers, HasSegments, IsOfFault}
 use Rattle.msr_compare.specs.declared.comparison.Which.TheVariants as which
@@ -18,7 +19,6 @@ use Rattle.msr_compare.specs.declared.fault.CompareFault.{CompareFault}
 use Rattle.msr_compare.specs.declared.fault.CompareFault.TheVariants as failing
 use Rattle.msr_compare.specs.declared.ahead.Next.{Next}
 use Rattle.msr_compare.specs.declared.ahead.Next.TheVariants as next
-use Rattle.msr_compare.specs.declared.meeting.Unequal.{Unequal}
 use Rattle.msr_compare.specs.declared.meeting.Met.{Met}
 use Rattle.msr_compare.specs.declared.meeting.Met.TheVariants as met
 use Rattle.msr_compare.specs.Symbols.{Symbol, Opens, Holds, held_in}
@@ -42,19 +42,6 @@ abbrev pub IsNext : Next → List Symbol → Type 0
 IsNext (next.Begins key start) ahead = BeginsNext key start ahead
 IsNext next.Samples ahead = HoldsNext ahead
 IsNext next.Nothing ahead = ahead ≡ []
-
--- two lists of samples differ first at that place
-pub record UnequalAt (ones others : List ℤ) (at : ℕ) (one other : ℤ) : Type 0 where
-  pub front : List ℤ
-  pub ones_after : List ℤ
-  pub others_after : List ℤ
-  pub ones_are : ones ≡ front ++ one ∷ ones_after
-  pub others_are : others ≡ front ++ other ∷ others_after
-  pub at_is : at ≡ length front
-  pub differ : one ≢ other
-
-abbrev pub UnequalIn : List ℤ → List ℤ → Unequal → Type 0
-UnequalIn ones others unequal = UnequalAt ones others unequal.at unequal.one unequal.other
 
 -- how many samples of the open segment were compared
 abbrev pub place_of : Standing → ℕ

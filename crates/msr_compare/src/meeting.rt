@@ -1,11 +1,12 @@
 //! Comparing what is ahead of two inputs.
-ghost use Rattle.std.specs.Prelude.{◌≡◌, min, length, take, IsTrue, MatchOption};
-ghost use Rattle.msr_compare.specs.Meetings.{BeginsNext, HoldsNext, Meets, UnequalIn, place_of};
+ghost use Rattle.std.specs.Prelude.{◌≡◌};
+ghost use Rattle.msr_compare.specs.Meetings.{BeginsNext, HoldsNext, Meets, place_of};
 
 use crate::ahead::Next;
 use crate::comparison::{Difference, DifferenceKind, Which};
 use crate::side::Side;
 use msr_rows::Key;
+use msr_segments::first_unequal;
 
 /// What was found.
 #[derive(Clone, Copy)]
@@ -16,49 +17,6 @@ pub(crate) enum Met {
     End,
     /// What is ahead differs.
     Differ(Difference),
-}
-
-/// Two samples that differ, and how many before them are the same.
-#[derive(Clone, Copy)]
-struct Unequal {
-    at: usize,
-    one: i32,
-    other: i32,
-}
-
-/// Whether the samples are the same, of as many as both lists have: no sample is left early, so that several are compared
-/// at once. The contract promises nothing if the answer is `false`.
-fn are_same(ones: &[i32], others: &[i32]) -> bool
-    ensures { IsTrue result → take (min (length ones.now) (length others.now)) ones.now
-        ≡ take (min (length ones.now) (length others.now)) others.now }
-{
-    let count = ones.len().min(others.len());
-    let mut same = true;
-    'places: for at in 0..count {
-        same &= ones[at] == others[at];
-    }
-    same
-}
-
-/// The first samples that differ, of as many as both lists have.
-fn first_unequal(ones: &[i32], others: &[i32]) -> Option<Unequal>
-    ensures { MatchOption result
-        (take (min (length ones.now) (length others.now)) ones.now
-        ≡ take (min (length ones.now) (length others.now)) others.now)
-        (UnequalIn ones.now others.now) }
-{
-    if are_same(ones, others) {
-        return None;
-    }
-    let count = ones.len().min(others.len());
-    'samples: for at in 0..count {
-        let one = ones[at];
-        let other = others[at];
-        if one != other {
-            return Some(Unequal { at, one, other });
-        }
-    }
-    None
 }
 
 /// The segment of a side is the first that differs, and in that.

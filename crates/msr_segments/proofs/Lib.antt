@@ -5,3 +5,4 @@ pub mod Histories
 pub mod KeyLemmas
 pub mod SpanLemmas
 pub mod StepLaws
+pub mod UnequalLemmas

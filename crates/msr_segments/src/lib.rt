@@ -9,6 +9,7 @@ mod follow;
 mod joiner;
 mod laws;
 mod span;
+mod unequal;
 
 pub use follow::{Follow, OutOfRange, Step};
 pub use joiner::{JoinFault, JoinKind, Joiner, Segment};
@@ -16,3 +17,4 @@ pub use laws::{
     cuts_grow_by_rows, cuts_keep_segments, followers_stand_with_joiners, overruns_are_out_of_range,
     rows_have_one_division, steps_are_pushes,
 };
+pub use unequal::{Unequal, first_unequal};

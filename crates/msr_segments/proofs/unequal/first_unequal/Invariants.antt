@@ -1,5 +1,5 @@
 use Rattle.std.proofs.Common.{◌≡◌, take}
-use Rattle.msr_compare.proofs.meeting.first_unequal.Given as goal
+use Rattle.msr_segments.proofs.unequal.first_unequal.Given as goal
 
 -- the samples so far are the same
 abbrev pub invariant-samples : goal.invariant-samples

@@ -1,6 +1,6 @@
 use Rattle.std.proofs.Common.{◌≡◌, arith, length}
 use Rattle.std.specs.Prelude.{min}
-use Rattle.msr_compare.proofs.meeting.are_same.Goals as goal
+use Rattle.msr_segments.proofs.unequal.are_same.Goals as goal
 
 pub returns : goal.returns
 returns c =

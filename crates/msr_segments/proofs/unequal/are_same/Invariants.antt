@@ -1,5 +1,5 @@
 use Rattle.std.proofs.Common.{◌≡◌, IsTrue, take}
-use Rattle.msr_compare.proofs.meeting.are_same.Given as goal
+use Rattle.msr_segments.proofs.unequal.are_same.Given as goal
 
 -- unless a difference was met, the samples so far are the same
 abbrev pub invariant-places : goal.invariant-places

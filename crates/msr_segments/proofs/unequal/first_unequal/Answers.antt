@@ -1,6 +1,6 @@
 use Rattle.std.proofs.Common.{arith, rules, get_or, pos, FitsSigned, w32}
-use Rattle.msr_compare.proofs.MeetingLemmas.{unequal_so}
-use Rattle.msr_compare.proofs.meeting.first_unequal.Goals as goal
+use Rattle.msr_segments.proofs.UnequalLemmas.{unequal_so}
+use Rattle.msr_segments.proofs.unequal.first_unequal.Goals as goal
 
 pub returns-then-one-other : goal.returns-then-one-other
 returns-then-one-other c =
