@@ -1,5 +1,6 @@
 pub mod Paths
 pub mod Days
+pub mod Found
 pub mod Named
 pub mod Totals
 pub mod Visits

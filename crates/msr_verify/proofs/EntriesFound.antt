@@ -5,6 +5,7 @@ use Rattle.msr_devices.specs.Device.{Device, HasFailed, Takes}
 use Rattle.msr_devices.specs.declared.fault.DeviceFault.{DeviceFault}
 use Rattle.msr_devices.specs.declared.fault.DeviceFault.TheVariants.{Failed, Memory}
 use Rattle.msr_devices.proofs.Chaining.{takes_append, calm_same, steady_sound}
+use Rattle.msr_folders.specs.Found.{Finds}
 use Rattle.msr_folders.specs.Visits.{StopsAt}
 use Rattle.msr_folders.specs.declared.found.WalkFound.{WalkFound}
 use Rattle.msr_folders.proofs.VisitLemmas as visits
@@ -100,6 +101,11 @@ pub stop_tells : (Part : Type 0) (out0 out : Device) (fault : DeviceFault) → S
     → IsErrOf {T = WalkFound} (Err (fault_of_writing fault)) Write ↔ HasFailed out0 out
 stop_tells Part out0 out Failed h = ((λ e. h.1), (λ has_failed. refl))
 stop_tells Part out0 out Memory h = ((λ e. absurd cc), (λ has_failed. absurd (steady_sound out0 out h.1 has_failed)))
+
+-- what the counts find is what the entries tell
+pub tells_end : (entries : List Entry) (tally : VerifyTally) (found : WalkFound) → IsVerifyTally entries tally
+    → Finds tally.unverified tally.verified found → TellsEnd entries found
+tells_end entries tally found counts finds = rw (counts.unverified, counts.verified) at finds
 
 pub walk_ends : (out0 out1 out : Device) (tally0 tally : VerifyTally) (found : WalkFound) →
     (told : Tells out0 out1 tally0 tally) → Takes out1 out (summary told.entries)

@@ -1,13 +1,13 @@
 -- What a walk prints, and how it ends.
-use Rattle.std.specs.Prelude.{◌≡◌, ℕ, ◌<◌, List, ◌++◌, codes, Result, Ok, Err}
+use Rattle.std.specs.Prelude.{◌≡◌, ℕ, List, ◌++◌, codes, Result, Ok, Err}
 use Rattle.std.specs.Fmt.{decimal}
 use Rattle.std.specs.List.{AllByRecursion}
 use Rattle.msr_devices.specs.Device.{Device, Takes}
 use Rattle.msr_devices.specs.declared.fault.DeviceFault.{DeviceFault}
 use Rattle.msr_folders.specs.Visits as visits
 use Rattle.msr_folders.specs.Visits.{StopsAt}
+use Rattle.msr_folders.specs.Found.{Finds}
 use Rattle.msr_folders.specs.declared.found.WalkFound.{WalkFound}
-use Rattle.msr_folders.specs.declared.found.WalkFound.TheVariants.{Well, Unwell, NoDay}
 use Rattle.msr_report.specs.Writing.{TakesPrefix}
 use Rattle.msr_tool.specs.declared.fault.ToolFault.{ToolFault}
 use Rattle.msr_tool.specs.declared.fault.ToolFault.TheVariants.{Input, Report, Read, Write, Memory}
@@ -58,9 +58,7 @@ pub record IsWalk (text : List ℕ) (entries : List Entry) : Type 0 where
 -- a walk that came to its end tells whether one of its entries is neither verified nor skipped, and if none is, whether
 -- one is verified
 abbrev pub TellsEnd : List Entry → WalkFound → Type 0
-TellsEnd entries Well = (counted is_unverified entries ≡ 0) × (0 < counted is_verified entries)
-TellsEnd entries Unwell = 0 < counted is_unverified entries
-TellsEnd entries NoDay = (counted is_unverified entries ≡ 0) × (counted is_verified entries ≡ 0)
+TellsEnd entries found = Finds (counted is_unverified entries) (counted is_verified entries) found
 
 -- A prefix of the text of a whole walk.
 pub record IsWalkInPart (printed : List ℕ) : Type 0 where

@@ -1,10 +1,10 @@
 //! The walk through the folders of an archive, and then through those of its records.
-ghost use Rattle.std.specs.Prelude.{◌↔◌, List, IfErr, IsErrOf, OnOk};
+ghost use Rattle.std.specs.Prelude.{◌↔◌, IfErr, IsErrOf, OnOk};
 ghost use Rattle.msr_devices.specs.Device.{CanCountCall, HasFailed};
 ghost use Rattle.msr_sds.specs.SdsPath.{ReadsAsDay, SdsPath};
 ghost use Rattle.msr_folders.proofs.VisitLemmas.{visitor_laws};
-ghost use Rattle.msr_verify.specs.Entries.{Entry, IsEntry, IsEntryLine, IsJudgementOf, IsVerifyTally};
-ghost use Rattle.msr_verify.specs.Walk.{StopsTelling, Tells, TellsEnd, Verifies};
+ghost use Rattle.msr_verify.specs.Entries.{IsEntry, IsEntryLine, IsJudgementOf, IsVerifyTally};
+ghost use Rattle.msr_verify.specs.Walk.{StopsTelling, Tells, Verifies};
 
 use crate::day::judge_day;
 use crate::judgement::{Judgement, Refusal};
@@ -163,19 +163,6 @@ fn walk_tree<R: Files, O: Sink>(
     visit_folders(&walk, out, tally)
 }
 
-/// What a walk with these counts found.
-fn end_of(tally: VerifyTally) -> WalkFound
-    ensures { (entries : List Entry) → IsVerifyTally entries tally → TellsEnd entries result }
-{
-    if 0 < tally.unverified {
-        WalkFound::Unwell
-    } else if tally.verified == 0 {
-        WalkFound::NoDay
-    } else {
-        WalkFound::Well
-    }
-}
-
 /// Walks the archive, or the folders of it that are asked for, and then the same folders of its records, and tells
 /// whether there is anything but days that are verified and what is skipped, and whether there is a day.
 pub fn verify<R: Files, O: Sink>(
@@ -194,5 +181,5 @@ pub fn verify<R: Files, O: Sink>(
     walk_tree(rt, alloc, archive, Tree::Root, out, &mut tally)?;
     walk_tree(rt, alloc, archive, Tree::Out, out, &mut tally)?;
     tally.write(alloc, out)?;
-    Ok(end_of(tally))
+    Ok(WalkFound::of(tally.unverified, tally.verified))
 }

@@ -182,7 +182,7 @@ impl Day {
         require_same(work.alloc, &mut input, &mut records, work.asked.options)
     }
 
-    /// Gives what was made its names. What is to be shown is shown, and what is to be compared is compared, before that.
+    /// Gives what was made its names; what is to be shown is shown, and what is to be compared is compared, before.
     fn keep<R: Files>(
         &self,
         work: &Work<'_, R>,

@@ -6,7 +6,7 @@ ghost use Rattle.msr_sds.specs.SdsPath.{ReadsAsDay};
 ghost use Rattle.msr_folders.proofs.VisitLemmas.{visitor_laws};
 ghost use Rattle.msr_walk.specs.Day.{IsOutcomeOfDay};
 ghost use Rattle.msr_walk.specs.Entries.{Entry, IsEntry, IsEntryLine, IsOutcomeOf, IsTally, channel_of};
-ghost use Rattle.msr_walk.specs.Walk.{StopsTelling, Tells, TellsEnd, Walks};
+ghost use Rattle.msr_walk.specs.Walk.{StopsTelling, Tells, Walks};
 
 use crate::claim::LockFile;
 use crate::day::Day;
@@ -150,8 +150,9 @@ where
         };
         visit_folders(&walk, out, tally)?;
         write_summary(self.alloc, out, &archive.days, tally)?;
+        let days = tally.done.saturating_add(tally.larger);
         Ok(Walked {
-            found: end_of(tally),
+            found: WalkFound::of(tally.refused, days),
             unopened: tally.unopened,
         })
     }
@@ -208,21 +209,8 @@ where
     }
 }
 
-/// What a walk with these counts found.
-fn end_of(tally: &Tally) -> WalkFound
-    ensures { (entries : List Entry) → IsTally entries tally.now → TellsEnd entries result }
-{
-    if 0 < tally.refused {
-        WalkFound::Unwell
-    } else if tally.done == 0 && tally.larger == 0 {
-        WalkFound::NoDay
-    } else {
-        WalkFound::Well
-    }
-}
-
-/// Walks the archive, or the folders of it that are asked for, and tells whether an entry was refused, whether there was
-/// a day, and what of the first one could not be opened.
+/// Walks the archive, or the folders of it that are asked for, and tells whether an entry was refused, whether there
+/// was a day, and what of the first one could not be opened.
 pub fn walk<R: Files, O: Sink>(
     rt: &R,
     alloc: Global,

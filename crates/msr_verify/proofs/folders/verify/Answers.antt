@@ -2,7 +2,7 @@ use Rattle.std.proofs.Common.{[]}
 use Rattle.std.proofs.lemmas.Result.{err_from_is_err_and}
 use Rattle.msr_devices.proofs.Chaining.{calm_calm}
 use Rattle.msr_tool.proofs.StoppedRepacks.{ok_tells}
-use Rattle.msr_verify.proofs.EntriesFound.{stop_tells, stops_entries, stops_more, stops_summary, summary_is, tells_more, walk_ends, walk_stops}
+use Rattle.msr_verify.proofs.EntriesFound.{stop_tells, stops_entries, stops_more, stops_summary, summary_is, tells_end, tells_more, walk_ends, walk_stops}
 use Rattle.msr_verify.proofs.folders.verify.Goals as goal
 
 pub returns-in_err-walk_tree-clause-answer : goal.returns-in_err-walk_tree-clause-answer
@@ -52,7 +52,7 @@ returns-clause-answer g c =
     let told = tells_more _ _ _ _ _ _ c.in_ok-walk_tree.ensures.told c.in_ok-walk_tree-2.ensures.told in
     let counts = told.counts [] c.new-tally.ensures in
     let line = summary_is told.entries _ counts in
-    walk_ends _ _ _ _ _ _ told (rw line at c.in_ok-write.ensures.all) (c.end_of.ensures told.entries counts)
+    walk_ends _ _ _ _ _ _ told (rw line at c.in_ok-write.ensures.all) (tells_end _ _ _ counts c.of.ensures)
 
 pub returns-clause-write : goal.returns-clause-write
 returns-clause-write g c =

@@ -3,7 +3,7 @@ use Rattle.std.proofs.lemmas.Result.{err_from_is_err_and}
 use Rattle.msr_devices.proofs.Chaining.{calm_calm}
 use Rattle.msr_tool.proofs.StoppedRepacks.{ok_tells}
 use Rattle.msr_walk.specs.Walk.{Tells}
-use Rattle.msr_walk.proofs.EntriesTold.{stop_tells, stops_entries, stops_summary, walk_ends, walk_stops}
+use Rattle.msr_walk.proofs.EntriesTold.{stop_tells, stops_entries, stops_summary, tells_end, walk_ends, walk_stops}
 use Rattle.msr_walk.proofs.folders.Walker.walk.Goals as goal
 
 pub returns-in_err-visit_folders-clause-answer : goal.returns-in_err-visit_folders-clause-answer
@@ -40,7 +40,7 @@ returns-clause-answer g c =
     let told : Tells c.args.self.now.archive.now.days _ _ _ _ = c.in_ok-visit_folders.ensures.told in
     let counts = told.counts [] c.requires.empty in
     walk_ends _ _ _ _ _ _ _ told (c.in_ok-write_summary.ensures.all told.entries counts)
-    (c.end_of.ensures told.entries counts) counts.unopened
+    (tells_end _ _ _ _ counts c.saturating_add-days.ensures c.of.ensures) counts.unopened
 
 pub returns-clause-write : goal.returns-clause-write
 returns-clause-write g c =
