@@ -1,5 +1,5 @@
 -- Walks put together from the entries that were told.
-use Rattle.std.proofs.Common.{◌≡◌, ◌↔◌, ◌⊎◌, ℕ, ◌+◌, ◌-◌, ◌^◌, ◌<◌, min, List, ◌++◌, ◌∙◌, arith, refl, ap, sym, append_assoc, Ok, Err, IsErrOf}
+use Rattle.std.proofs.Common.{◌≡◌, ◌↔◌, ℕ, ◌+◌, ◌-◌, ◌^◌, min, List, ◌++◌, ◌∙◌, arith, refl, ap, sym, append_assoc, Ok, Err, IsErrOf}
 use Rattle.msr_devices.specs.Device.{Device, HasFailed, Takes}
 use Rattle.msr_devices.specs.declared.fault.DeviceFault.{DeviceFault}
 use Rattle.msr_devices.specs.declared.fault.DeviceFault.TheVariants.{Failed, Memory}
@@ -13,7 +13,7 @@ use Rattle.msr_report.specs.Writing.{TakesPrefix}
 use Rattle.msr_tool.specs.Fault.{fault_of_writing}
 use Rattle.msr_tool.specs.declared.fault.ToolFault.TheVariants.{Write}
 use Rattle.msr_options.specs.declared.days.DayOptions.{DayOptions}
-use Rattle.msr_walk.specs.Entries.{Entry, IsEntry, IsEntryLine, IsTally, counted, first_unopened, is_done, is_larger, is_refused}
+use Rattle.msr_walk.specs.Entries.{Entry, IsEntry, IsEntryLine, IsTally, first_unopened}
 use Rattle.msr_walk.specs.Walk.{IsWalkInPart, StopsPrefix, StopsTelling, Tells, TellsEnd, TellsInPart, Walks, summary}
 use Rattle.msr_walk.specs.declared.folders.Walked.{Walked}
 use Rattle.msr_walk.specs.declared.tally.Tally.{Tally}
@@ -86,22 +86,14 @@ pub stop_tells : (Part : Type 0) (out0 out : Device) (fault : DeviceFault) → S
 stop_tells Part out0 out Failed h = ((λ e. h.1), (λ has_failed. refl))
 stop_tells Part out0 out Memory h = ((λ e. absurd cc), (λ has_failed. absurd (steady_sound out0 out h.1 has_failed)))
 
--- a day is done or larger if both together are some
-some_day : (done larger : ℕ) → 0 < min (done + larger) (2 ^ 64 - 1) → (0 < done) ⊎ (0 < larger)
-some_day done larger some = grind (arith, some)
-
 -- what the counts find is what the entries tell
-pub tells_end : (entries : List Entry) (tally : Tally) (days : ℕ) (found : WalkFound) → IsTally entries tally
-    → days ≡ min (tally.done + tally.larger) (2 ^ 64 - 1) → Finds tally.refused days found → TellsEnd entries found
-tells_end entries tally days found counts sum finds =
-    of_sum found (rw (sum, counts.refused, counts.done, counts.larger) at finds)
-  where
-    of_sum : (found : WalkFound)
-        → Finds (counted is_refused entries) (min (counted is_done entries + counted is_larger entries) (2 ^ 64 - 1))
-        found → TellsEnd entries found
-    of_sum Well finds = (finds.0, some_day (counted is_done entries) (counted is_larger entries) finds.1)
-    of_sum Unwell finds = finds
-    of_sum NoDay finds = (finds.0, omega (arith, finds.1), omega (arith, finds.1))
+pub tells_end : (entries : List Entry) (tally : Tally) (found : WalkFound) → IsTally entries tally
+    → Finds tally.refused (min (tally.done + tally.larger) (2 ^ 64 - 1)) found → TellsEnd entries found
+tells_end entries tally Well counts finds =
+    rw (← counts.refused, ← counts.done, ← counts.larger) (finds.0, grind (arith, finds.1))
+tells_end entries tally Unwell counts finds = rw (← counts.refused) finds
+tells_end entries tally NoDay counts finds = rw (← counts.refused, ← counts.done, ← counts.larger)
+    (finds.0, omega (arith, finds.1), omega (arith, finds.1))
 
 pub walk_ends : (asked : DayOptions) (out0 out1 out : Device) (tally0 tally : Tally) (walked : Walked) →
     (told : Tells asked out0 out1 tally0 tally) → Takes out1 out (summary asked told.entries)

@@ -40,7 +40,7 @@ returns-clause-answer g c =
     let told : Tells c.args.self.now.archive.now.days _ _ _ _ = c.in_ok-visit_folders.ensures.told in
     let counts = told.counts [] c.requires.empty in
     walk_ends _ _ _ _ _ _ _ told (c.in_ok-write_summary.ensures.all told.entries counts)
-    (tells_end _ _ _ _ counts c.saturating_add-days.ensures c.of.ensures) counts.unopened
+    (tells_end _ _ _ counts (rw c.saturating_add-days.ensures at c.of.ensures)) counts.unopened
 
 pub returns-clause-write : goal.returns-clause-write
 returns-clause-write g c =
