@@ -57,6 +57,4 @@ pub tells_distance : (rate : SampleRate) (t0 : ℤ) (n : ℕ) (t : ℤ) (fractio
     → told ≡ min ((apart + fraction.1 - 1) / fraction.1) 18_446_744_073_709_551_615
     → TellsDistance rate t0 n t told
 tells_distance rate t0 n t fraction apart told e some apart_is told_is =
-    distance_so rate t0 n t apart told (subst (λ (f : ℕ × ℕ). 1 ≤ f.1) e some)
-    (subst (λ (f : ℕ × ℕ). apart ≡ unsigned_abs ((t *ℤ pos f.1) -ℤ ((t0 *ℤ pos f.1) +ℤ pos (n * f.0)))) e apart_is)
-    (subst (λ (f : ℕ × ℕ). told ≡ min ((apart + f.1 - 1) / f.1) 18_446_744_073_709_551_615) e told_is)
+    distance_so rate t0 n t apart told (rw e at some) (rw e at apart_is) (rw e at told_is)

@@ -1,170 +1,90 @@
 -- From the first symbols that differ to the first difference of segments.
-use Rattle.std.proofs.Common.{◌≡◌, ◌≢◌, ℕ, ◌+◌, List, [], ◌∷◌, ◌++◌, length, map, refl, sym, ap, subst, ◌∙◌, arith, append_assoc, length-append, ℤ}
+use Rattle.std.proofs.Common.{◌≡◌, ◌≢◌, ℕ, ◌+◌, List, [], ◌∷◌, ◌++◌, length, map, refl, sym, ap, ap₂, ◌∙◌, arith, append_assoc, length-append, ℤ}
 use Rattle.std.proofs.lemmas.List.{append-nil}
 use Rattle.msr_rows.specs.declared.row.Key.{Key}
 use Rattle.msr_segments.specs.declared.joiner.Segment.{Segment}
-use Rattle.msr_compare.specs.Differences.{IsFirstDifference, IsLonger, IsOnlyIn}
+use Rattle.msr_compare.specs.Differences.{IsFirstDifference, ListsDiffer, SegmentsDiffer}
+use Rattle.msr_compare.specs.declared.comparison.Which.TheVariants as which
+use Rattle.msr_compare.specs.declared.comparison.DifferenceKind.{DifferenceKind}
 use Rattle.msr_compare.specs.declared.comparison.DifferenceKind.TheVariants as kind
 use Rattle.msr_compare.specs.Symbols.{Symbol, Opens, Holds, symbols_of, count_after}
 use Rattle.msr_compare.specs.Meetings.{HoldsNone}
-use Rattle.msr_compare.proofs.Symbols.{opened_in, opens_next, opens_so, holds_so, no_sample_first, no_symbols}
+use Rattle.msr_compare.proofs.Symbols.{opened_in, segment_so, opens_next, opens_so, holds_so, no_sample_first, no_symbols}
 
-abbrev pub segment_so : Key → ℤ → List ℤ → Segment
-segment_so key start samples = record { key = key; start = start; samples = samples }
-
--- Two lists of segments with the same first symbols: these end in a segment of both, the first of whose samples are the
--- same. `before` samples of the first segments stand before the symbols.
-pub record MeetIn (ones others : List Segment) (before : ℕ) (done ahead other_ahead : List Symbol) : Type 0 where
-  pub same : List Segment
+-- Symbols as segments: those that are whole, and the last one, of whose samples these are the first.
+pub record Begun : Type 0 where
+  pub whole : List Segment
   pub key : Key
   pub start : ℤ
   pub front : List ℤ
+
+-- the symbols after the beginning of a segment and some samples of it
+abbrev pub begun : Key → ℤ → List ℤ → List Symbol → Begun
+begun key start front [] = record { whole = []; key = key; start = start; front = front }
+begun key start front (Holds x ∷ done) = begun key start (front ++ x ∷ []) done
+begun key start front (Opens k t ∷ done) =
+    let b : Begun = begun k t [] done in
+    record b { whole = segment_so key start front ∷ b.whole }
+
+begun_opened : (key : Key) (start : ℤ) (front : List ℤ) (done : List Symbol)
+    → opened_in done ≡ length (begun key start front done).whole
+begun_opened key start front [] = refl
+begun_opened key start front (Holds x ∷ done) = begun_opened key start (front ++ x ∷ []) done
+begun_opened key start front (Opens k t ∷ done) = omega (arith, begun_opened k t [] done)
+
+begun_count : (key : Key) (start : ℤ) (front : List ℤ) (done : List Symbol)
+    → count_after (length front) done ≡ length (begun key start front done).front
+begun_count key start front [] = refl
+begun_count key start front (Holds x ∷ done) =
+    let size : length front + 1 ≡ length (front ++ x ∷ []) = omega (arith, length-append front (x ∷ [])) in
+    ap (λ (n : ℕ). count_after n done) size ∙ begun_count key start (front ++ x ∷ []) done
+begun_count key start front (Opens k t ∷ done) = begun_count k t [] done
+
+-- segments with these first symbols, and what is ahead of them
+record GoesOn (b : Begun) (segments : List Segment) (ahead : List Symbol) : Type 0 where
   pub left : List ℤ
-  pub other_left : List ℤ
   pub after : List Segment
-  pub other_after : List Segment
-  pub ones_are : ones ≡ same ++ segment_so key start (front ++ left) ∷ after
-  pub others_are : others ≡ same ++ segment_so key start (front ++ other_left) ∷ other_after
+  pub are : segments ≡ b.whole ++ segment_so b.key b.start (b.front ++ left) ∷ after
   pub ahead_is : map Holds left ++ symbols_of after ≡ ahead
-  pub other_is : map Holds other_left ++ symbols_of other_after ≡ other_ahead
-  pub opened : opened_in done ≡ length same
-  pub count : count_after before done ≡ length front
 
--- a segment before
-meet_later : (ones others : List Segment) (first : Segment) (before : ℕ) (key : Key) (start : ℤ)
-    (done ahead other_ahead : List Symbol) → MeetIn ones others 0 done ahead other_ahead
-    → MeetIn (first ∷ ones) (first ∷ others) before (Opens key start ∷ done) ahead other_ahead
-meet_later ones others first before key start done ahead other_ahead m = record {
-  same = first ∷ m.same;
-  key = m.key;
-  start = m.start;
-  front = m.front;
-  left = m.left;
-  other_left = m.other_left;
-  after = m.after;
-  other_after = m.other_after;
-  ones_are = ap (λ (l : List Segment). first ∷ l) m.ones_are;
-  others_are = ap (λ (l : List Segment). first ∷ l) m.others_are;
-  ahead_is = m.ahead_is;
-  other_is = m.other_is;
-  opened = omega (arith, m.opened);
-  count = m.count;
-}
+goes_on : {ahead : List Symbol} (key : Key) (start : ℤ) (front : List ℤ) (done : List Symbol) (left : List ℤ)
+    (after : List Segment) → map Holds left ++ symbols_of after ≡ done ++ ahead
+    → GoesOn (begun key start front done) (segment_so key start (front ++ left) ∷ after) ahead
+goes_on key start front [] left after e = record { left = left; after = after; are = refl; ahead_is = e }
+goes_on key start front (Holds x ∷ done) left after e =
+    let h = holds_so left after e in
+    let g = goes_on key start (front ++ x ∷ []) done h.after after h.rest_is in
+    rw (h.are, ← append_assoc front (x ∷ []) h.after) g
+goes_on key start front (Opens k t ∷ done) left after e =
+    let o = opens_next left after e in
+    let g = goes_on k t [] done o.1.samples o.1.after o.1.rest_is in
+    record {
+      left = g.left;
+      after = g.after;
+      are = ap₂ (λ (l : List ℤ) (a : List Segment). segment_so key start (front ++ l) ∷ a) o.0 o.1.are
+          ∙ ap₂ (λ (l : List ℤ) (a : List Segment). segment_so key start l ∷ a) (append-nil front) g.are;
+      ahead_is = g.ahead_is;
+    }
 
--- a sample before
-meet_held : (ones others : List Segment) (before : ℕ) (sample : ℤ) (done ahead other_ahead : List Symbol)
-    → MeetIn ones others (before + 1) done ahead other_ahead
-    → MeetIn ones others before (Holds sample ∷ done) ahead other_ahead
-meet_held ones others before sample done ahead other_ahead m = record {
-  same = m.same;
-  key = m.key;
-  start = m.start;
-  front = m.front;
-  left = m.left;
-  other_left = m.other_left;
-  after = m.after;
-  other_after = m.other_after;
-  ones_are = m.ones_are;
-  others_are = m.others_are;
-  ahead_is = m.ahead_is;
-  other_is = m.other_is;
-  opened = m.opened;
-  count = m.count;
-}
+from_start : {ahead : List Symbol} (key : Key) (start : ℤ) (done : List Symbol) (segments : List Segment)
+    → symbols_of segments ≡ Opens key start ∷ (done ++ ahead) → GoesOn (begun key start [] done) segments ahead
+from_start key start done segments e =
+    let o = opens_so segments e in
+    rw o.are (goes_on key start [] done o.samples o.after o.rest_is)
 
--- two segments with that key and start
-pub segment_is : (segment : Segment) (key : Key) (start : ℤ) → segment.key ≡ key → segment.start ≡ start
-    → segment_so key start segment.samples ≡ segment
-segment_is segment key start e f =
-    sym (ap (λ (k : Key). segment_so k segment.start segment.samples) e
-    ∙ ap (λ (t : ℤ). segment_so key t segment.samples) f)
+-- where a sample comes next
+record HoldsAt (b : Begun) (segments : List Segment) (sample : ℤ) : Type 0 where
+  pub left : List ℤ
+  pub after : List Segment
+  pub are : segments ≡ b.whole ++ segment_so b.key b.start (b.front ++ sample ∷ left) ∷ after
 
-shift : (front rest : List ℤ) (sample : ℤ) → (front ++ sample ∷ []) ++ rest ≡ front ++ sample ∷ rest
-shift front rest sample = append_assoc front (sample ∷ []) rest
-
-meet_in : (done : List Symbol) (key : Key) (start : ℤ) (front left other_left : List ℤ)
-    (after other_after : List Segment) (ahead other_ahead : List Symbol)
-    → map Holds left ++ symbols_of after ≡ done ++ ahead
-    → map Holds other_left ++ symbols_of other_after ≡ done ++ other_ahead
-    → MeetIn (segment_so key start (front ++ left) ∷ after) (segment_so key start (front ++ other_left) ∷ other_after)
-    (length front) done ahead other_ahead
-meet_in [] key start front left other_left after other_after ahead other_ahead e f = record {
-  same = [];
-  key = key;
-  start = start;
-  front = front;
-  left = left;
-  other_left = other_left;
-  after = after;
-  other_after = other_after;
-  ones_are = refl;
-  others_are = refl;
-  ahead_is = e;
-  other_is = f;
-  opened = refl;
-  count = refl;
-}
-meet_in (Opens k t ∷ done) key start front left other_left after other_after ahead other_ahead e f =
-    let a = opens_next left after k t (done ++ ahead) e in
-    let b = opens_next other_left other_after k t (done ++ other_ahead) f in
-    let inner = meet_in done k t [] a.opens.segment.samples b.opens.segment.samples a.opens.after b.opens.after ahead
-    other_ahead a.opens.rest_is b.opens.rest_is in
-    let first = segment_so key start (front ++ []) in
-    let whole : MeetIn (first ∷ a.opens.segment ∷ a.opens.after) (first ∷ b.opens.segment ∷ b.opens.after)
-    (length front) (Opens k t ∷ done) ahead other_ahead =
-    meet_later (a.opens.segment ∷ a.opens.after) (b.opens.segment ∷ b.opens.after) first (length front) k t done ahead
-    other_ahead
-    (subst (λ (s : Segment). MeetIn (s ∷ a.opens.after) (b.opens.segment ∷ b.opens.after) 0 done ahead other_ahead)
-    (segment_is a.opens.segment k t a.opens.key_is a.opens.start_is)
-    (subst (λ (s : Segment). MeetIn (segment_so k t a.opens.segment.samples ∷ a.opens.after) (s ∷ b.opens.after) 0 done
-    ahead other_ahead) (segment_is b.opens.segment k t b.opens.key_is b.opens.start_is) inner)) in
-    rw (a.none, b.none, a.opens.are, b.opens.are) whole
-meet_in (Holds x ∷ done) key start front left other_left after other_after ahead other_ahead e f =
-    let a = holds_so left after x (done ++ ahead) e in
-    let b = holds_so other_left other_after x (done ++ other_ahead) f in
-    let inner = meet_in done key start (front ++ x ∷ []) a.after b.after after other_after ahead other_ahead a.rest_is
-    b.rest_is in
-    let ones = segment_so key start (front ++ x ∷ a.after) ∷ after in
-    let others = segment_so key start (front ++ x ∷ b.after) ∷ other_after in
-    let moved : MeetIn ones others (length (front ++ x ∷ [])) done ahead other_ahead =
-    subst (λ (l : List ℤ). MeetIn (segment_so key start l ∷ after) others (length (front ++ x ∷ [])) done ahead
-    other_ahead) (shift front a.after x)
-    (subst (λ (l : List ℤ). MeetIn (segment_so key start ((front ++ x ∷ []) ++ a.after) ∷ after)
-    (segment_so key start l ∷ other_after) (length (front ++ x ∷ [])) done ahead other_ahead) (shift front b.after x)
-    inner) in
-    let size : length (front ++ x ∷ []) ≡ length front + 1 = omega (arith, length-append front (x ∷ [])) in
-    let whole : MeetIn ones others (length front) (Holds x ∷ done) ahead other_ahead =
-    meet_held ones others (length front) x done ahead other_ahead
-    (subst (λ (n : ℕ). MeetIn ones others n done ahead other_ahead) size moved) in
-    rw (a.are, b.are) whole
-
--- the same of whole lists
-pub meet_at : (ones others : List Segment) (key : Key) (start : ℤ) (done ahead other_ahead : List Symbol)
-    → symbols_of ones ≡ (Opens key start ∷ done) ++ ahead → symbols_of others ≡ (Opens key start ∷ done) ++ other_ahead
-    → MeetIn ones others 0 done ahead other_ahead
-meet_at ones others key start done ahead other_ahead e f =
-    let a = opens_so ones key start (done ++ ahead) e in
-    let b = opens_so others key start (done ++ other_ahead) f in
-    let inner = meet_in done key start [] a.segment.samples b.segment.samples a.after b.after ahead other_ahead a.rest_is
-    b.rest_is in
-    let moved : MeetIn (a.segment ∷ a.after) (b.segment ∷ b.after) 0 done ahead other_ahead =
-    subst (λ (s : Segment). MeetIn (s ∷ a.after) (b.segment ∷ b.after) 0 done ahead other_ahead)
-    (segment_is a.segment key start a.key_is a.start_is)
-    (subst (λ (s : Segment). MeetIn (segment_so key start a.segment.samples ∷ a.after) (s ∷ b.after) 0 done ahead
-    other_ahead) (segment_is b.segment key start b.key_is b.start_is) inner) in
-    rw (a.are, b.are) moved
-
--- Two lists of segments with the same first symbols, after which neither goes on with a sample: these are the symbols of
--- the same segments.
-pub record Boundary (ones others : List Segment) (done ahead other_ahead : List Symbol) : Type 0 where
-  pub same : List Segment
-  pub left : List Segment
-  pub other_left : List Segment
-  pub ones_are : ones ≡ same ++ left
-  pub others_are : others ≡ same ++ other_left
-  pub ahead_is : symbols_of left ≡ ahead
-  pub other_is : symbols_of other_left ≡ other_ahead
-  pub opened : opened_in done ≡ length same
+holds_at : {sample : ℤ} (key : Key) (start : ℤ) (done rest : List Symbol) (segments : List Segment)
+    → symbols_of segments ≡ Opens key start ∷ (done ++ Holds sample ∷ rest)
+    → HoldsAt (begun key start [] done) segments sample
+holds_at key start done rest segments e =
+    let g = from_start key start done segments e in
+    let h = holds_so g.left g.after g.ahead_is in
+    record { left = h.after; after = g.after; are = rw h.are at g.are }
 
 -- where no sample comes next, none is left before the next segment
 none_left : (left : List ℤ) (after : List Segment) (ahead : List Symbol) → map Holds left ++ symbols_of after ≡ ahead
@@ -172,223 +92,178 @@ none_left : (left : List ℤ) (after : List Segment) (ahead : List Symbol) → m
 none_left [] after ahead e none = refl
 none_left (x ∷ left) after ahead e none = absurd (none x (map Holds left ++ symbols_of after) (sym e))
 
-boundary_in : (ones others : List Segment) (before : ℕ) (done ahead other_ahead : List Symbol) (key : Key) (start : ℤ)
-    (m : MeetIn ones others before done ahead other_ahead) → HoldsNone ahead → HoldsNone other_ahead
-    → Boundary ones others (Opens key start ∷ done) ahead other_ahead
-boundary_in ones others before done ahead other_ahead key start m none other_none =
-    let empty = none_left m.left m.after ahead m.ahead_is none in
-    let other_empty = none_left m.other_left m.other_after other_ahead m.other_is other_none in
-    let last = segment_so m.key m.start (m.front ++ []) in
-    record {
-      same = m.same ++ last ∷ [];
-      left = m.after;
-      other_left = m.other_after;
-      ones_are = m.ones_are
-          ∙ ap (λ (l : List ℤ). m.same ++ segment_so m.key m.start (m.front ++ l) ∷ m.after) empty
-          ∙ sym (append_assoc m.same (last ∷ []) m.after);
-      others_are = m.others_are
-          ∙ ap (λ (l : List ℤ). m.same ++ segment_so m.key m.start (m.front ++ l) ∷ m.other_after) other_empty
-          ∙ sym (append_assoc m.same (last ∷ []) m.other_after);
-      ahead_is = subst (λ (l : List ℤ). map Holds l ++ symbols_of m.after ≡ ahead) empty m.ahead_is;
-      other_is = subst (λ (l : List ℤ). map Holds l ++ symbols_of m.other_after ≡ other_ahead) other_empty m.other_is;
-      opened = omega (arith, m.opened, length-append m.same (last ∷ []));
-    }
+record EndsSo (b : Begun) (segments : List Segment) (ahead : List Symbol) : Type 0 where
+  pub after : List Segment
+  pub are : segments ≡ b.whole ++ segment_so b.key b.start b.front ∷ after
+  pub ahead_is : symbols_of after ≡ ahead
 
-pub boundary : (ones others : List Segment) (done ahead other_ahead : List Symbol) → symbols_of ones ≡ done ++ ahead
-    → symbols_of others ≡ done ++ other_ahead → HoldsNone ahead → HoldsNone other_ahead
-    → Boundary ones others done ahead other_ahead
-boundary ones others [] ahead other_ahead e f none other_none = record {
-  same = [];
-  left = ones;
-  other_left = others;
+ends_so : {ahead : List Symbol} (key : Key) (start : ℤ) (done : List Symbol) (segments : List Segment)
+    → symbols_of segments ≡ Opens key start ∷ (done ++ ahead) → HoldsNone ahead
+    → EndsSo (begun key start [] done) segments ahead
+ends_so {ahead} key start done segments e none =
+    let b : Begun = begun key start [] done in
+    let g = from_start key start done segments e in
+    let empty = none_left g.left g.after ahead g.ahead_is none in
+    record { after = g.after; are = rw (empty, append-nil b.front) at g.are; ahead_is = rw empty at g.ahead_is }
+
+-- the segments of symbols of which the first is a beginning
+abbrev pub whole_in : List Symbol → List Segment
+whole_in [] = []
+whole_in (Holds x ∷ done) = whole_in done
+whole_in (Opens key start ∷ done) =
+    let b : Begun = begun key start [] done in
+    b.whole ++ segment_so b.key b.start b.front ∷ []
+
+whole_opened : (done : List Symbol) → opened_in done ≡ length (whole_in done)
+whole_opened [] = refl
+whole_opened (Holds x ∷ done) = whole_opened done
+whole_opened (Opens key start ∷ done) =
+    let b : Begun = begun key start [] done in
+    omega (arith, begun_opened key start [] done, length-append b.whole (segment_so b.key b.start b.front ∷ []))
+
+-- segments with these first symbols, after which no sample comes: they begin with the segments of the symbols
+record GoesPast (done : List Symbol) (segments : List Segment) (ahead : List Symbol) : Type 0 where
+  pub left : List Segment
+  pub are : segments ≡ whole_in done ++ left
+  pub ahead_is : symbols_of left ≡ ahead
+
+goes_past : {ahead : List Symbol} (done : List Symbol) (segments : List Segment) → symbols_of segments ≡ done ++ ahead
+    → HoldsNone ahead → GoesPast done segments ahead
+goes_past [] segments e none = record { left = segments; are = refl; ahead_is = e }
+goes_past {ahead} (Holds x ∷ done) segments e none = absurd (no_sample_first segments x (done ++ ahead) e)
+goes_past (Opens key start ∷ done) segments e none =
+    let g = ends_so key start done segments e none in
+    record { left = g.after; are = rw append_assoc g.are; ahead_is = g.ahead_is }
+
+-- where a segment begins next
+record BeginsAt (done : List Symbol) (segments : List Segment) (key : Key) (start : ℤ) : Type 0 where
+  pub samples : List ℤ
+  pub after : List Segment
+  pub are : segments ≡ whole_in done ++ segment_so key start samples ∷ after
+
+begins_at : {key : Key} {start : ℤ} (done rest : List Symbol) (segments : List Segment)
+    → symbols_of segments ≡ done ++ Opens key start ∷ rest → BeginsAt done segments key start
+begins_at done rest segments e =
+    let p = goes_past done segments e (λ sample after h. cc) in
+    let o = opens_so p.left p.ahead_is in
+    record { samples = o.samples; after = o.after; are = rw o.are at p.are }
+
+-- lists that go on with two segments that differ
+lists_differ : (how : DifferenceKind) (one other : Segment) (after other_after : List Segment)
+    → SegmentsDiffer one other how → ListsDiffer (one ∷ after) (other ∷ other_after) how
+lists_differ (kind.SegmentOnlyIn w) one other after other_after d = absurd d
+lists_differ how one other after other_after d = record {
+  one = one;
+  other = other;
+  ones_after = after;
+  others_after = other_after;
   ones_are = refl;
   others_are = refl;
-  ahead_is = e;
-  other_is = f;
-  opened = refl;
+  differ = d;
 }
-boundary ones others (Opens key start ∷ done) ahead other_ahead e f none other_none =
-    let m = meet_at ones others key start done ahead other_ahead e f in
-    boundary_in ones others 0 done ahead other_ahead key start m none other_none
-boundary ones others (Holds x ∷ done) ahead other_ahead e f none other_none =
-    absurd (no_sample_first ones x (done ++ ahead) e)
 
--- where a sample comes next in one of them, both are in a segment
-pub record Within (ones others : List Segment) (done ahead other_ahead : List Symbol) : Type 0 where
-  pub before : List Symbol
-  pub opened : opened_in done ≡ 1 + opened_in before
-  pub count : count_after 0 done ≡ count_after 0 before
-  pub at : MeetIn ones others 0 before ahead other_ahead
-
-pub within : (ones others : List Segment) (done ahead other_ahead rest : List Symbol) (sample : ℤ)
-    → symbols_of ones ≡ done ++ ahead → symbols_of others ≡ done ++ other_ahead → ahead ≡ Holds sample ∷ rest
-    → Within ones others done ahead other_ahead
-within ones others [] ahead other_ahead rest sample e f holds = absurd (no_sample_first ones sample rest (e ∙ holds))
-within ones others (Opens key start ∷ done) ahead other_ahead rest sample e f holds = record {
-  before = done;
-  opened = refl;
-  count = refl;
-  at = meet_at ones others key start done ahead other_ahead e f;
+firsts_so : {ones others : List Segment} {segment : ℕ} (how : DifferenceKind) (same : List Segment)
+    (one other : Segment) (after other_after : List Segment) → ones ≡ same ++ one ∷ after
+    → others ≡ same ++ other ∷ other_after → segment ≡ length same + 1 → SegmentsDiffer one other how
+    → IsFirstDifference ones others (record { segment = segment; kind = how })
+firsts_so how same one other after other_after e f number differ = record {
+  same = same;
+  ones_left = one ∷ after;
+  others_left = other ∷ other_after;
+  ones_are = e;
+  others_are = f;
+  segment_is = number;
+  differ = lists_differ how one other after other_after differ;
 }
-within ones others (Holds x ∷ done) ahead other_ahead rest sample e f holds =
-    absurd (no_sample_first ones x (done ++ ahead) e)
 
--- keys that differ
-pub keys_first : (ones others : List Segment) (done rest other_rest : List Symbol) (key other_key : Key)
-    (start other_start : ℤ) (segment : ℕ) → symbols_of ones ≡ done ++ Opens key start ∷ rest
-    → symbols_of others ≡ done ++ Opens other_key other_start ∷ other_rest → key ≢ other_key
-    → segment ≡ opened_in done + 1
-    → IsFirstDifference ones others (record { segment = segment; kind = kind.Key })
-keys_first ones others done rest other_rest key other_key start other_start segment e f differ number =
-    let b = boundary ones others done (Opens key start ∷ rest) (Opens other_key other_start ∷ other_rest) e f
-    (λ sample after h. cc) (λ sample after h. cc) in
-    let one = opens_so b.left key start rest b.ahead_is in
-    let other = opens_so b.other_left other_key other_start other_rest b.other_is in
-    record {
-      same = b.same;
-      ones_left = b.left;
-      others_left = b.other_left;
-      ones_are = b.ones_are;
-      others_are = b.others_are;
-      segment_is = omega (arith, number, b.opened);
-      differ = record {
-        one = one.segment;
-        other = other.segment;
-        ones_after = one.after;
-        others_after = other.after;
-        ones_are = one.are;
-        others_are = other.are;
-        differ = λ same. differ (sym one.key_is ∙ same ∙ other.key_is);
-      };
-    }
+-- keys or starts that differ
+pub begins_first : {ones others : List Segment} {segment : ℕ} (how : DifferenceKind) (key other_key : Key)
+    (start other_start : ℤ) (done rest other_rest : List Symbol) → symbols_of ones ≡ done ++ Opens key start ∷ rest
+    → symbols_of others ≡ done ++ Opens other_key other_start ∷ other_rest → segment ≡ opened_in done + 1
+    → ((samples other_samples : List ℤ)
+    → SegmentsDiffer (segment_so key start samples) (segment_so other_key other_start other_samples) how)
+    → IsFirstDifference ones others (record { segment = segment; kind = how })
+begins_first {ones} {others} how key other_key start other_start done rest other_rest e f number differ =
+    let one = begins_at done rest ones e in
+    let other = begins_at done other_rest others f in
+    firsts_so how (whole_in done) _ _ one.after other.after one.are other.are
+    (omega (arith, number, whole_opened done)) (differ one.samples other.samples)
 
--- starts that differ
-pub starts_first : (ones others : List Segment) (done rest other_rest : List Symbol) (key : Key)
-    (start other_start : ℤ) (segment : ℕ) → symbols_of ones ≡ done ++ Opens key start ∷ rest
-    → symbols_of others ≡ done ++ Opens key other_start ∷ other_rest → start ≢ other_start
-    → segment ≡ opened_in done + 1
-    → IsFirstDifference ones others (record { segment = segment; kind = kind.Start })
-starts_first ones others done rest other_rest key start other_start segment e f differ number =
-    let b = boundary ones others done (Opens key start ∷ rest) (Opens key other_start ∷ other_rest) e f
-    (λ sample after h. cc) (λ sample after h. cc) in
-    let one = opens_so b.left key start rest b.ahead_is in
-    let other = opens_so b.other_left key other_start other_rest b.other_is in
-    record {
-      same = b.same;
-      ones_left = b.left;
-      others_left = b.other_left;
-      ones_are = b.ones_are;
-      others_are = b.others_are;
-      segment_is = omega (arith, number, b.opened);
-      differ = record {
-        one = one.segment;
-        other = other.segment;
-        ones_after = one.after;
-        others_after = other.after;
-        ones_are = one.are;
-        others_are = other.are;
-        differ = (one.key_is ∙ sym other.key_is, λ same. differ (sym one.start_is ∙ same ∙ other.start_is));
-      };
-    }
-
--- a segment that only one list has
-pub only_first : (ones others : List Segment) (done rest : List Symbol) (key : Key) (start : ℤ)
+-- a segment that only the first list has
+pub only_first : {ones others : List Segment} {segment : ℕ} (key : Key) (start : ℤ) (done rest : List Symbol)
     → symbols_of ones ≡ done ++ Opens key start ∷ rest → symbols_of others ≡ done ++ []
-    → (b : Boundary ones others done (Opens key start ∷ rest) []) × IsOnlyIn b.left b.other_left
-only_first ones others done rest key start e f =
-    let b = boundary ones others done (Opens key start ∷ rest) [] e f (λ sample after h. cc) (λ sample after h. cc) in
-    let one = opens_so b.left key start rest b.ahead_is in (
-      b,
-      record {
-        one = one.segment;
+    → segment ≡ opened_in done + 1
+    → IsFirstDifference ones others (record { segment = segment; kind = kind.SegmentOnlyIn which.One })
+only_first {ones} {others} key start done rest e f number =
+    let one = begins_at done rest ones e in
+    let other = goes_past done others f (λ sample after h. cc) in
+    record {
+      same = whole_in done;
+      ones_left = segment_so key start one.samples ∷ one.after;
+      others_left = other.left;
+      ones_are = one.are;
+      others_are = other.are;
+      segment_is = omega (arith, number, whole_opened done);
+      differ = record {
+        one = segment_so key start one.samples;
         after = one.after;
-        ones_are = one.are;
-        none = no_symbols b.other_left b.other_is;
-      },
-    )
+        ones_are = refl;
+        none = no_symbols other.left other.ahead_is;
+      };
+    }
 
 -- samples that differ
-pub values_first : (ones others : List Segment) (done rest other_rest : List Symbol) (value other_value : ℤ)
-    (segment number : ℕ) → symbols_of ones ≡ done ++ Holds value ∷ rest
+pub values_first : {ones others : List Segment} {value other_value : ℤ} {segment number : ℕ}
+    (done rest other_rest : List Symbol) → symbols_of ones ≡ done ++ Holds value ∷ rest
     → symbols_of others ≡ done ++ Holds other_value ∷ other_rest → value ≢ other_value → segment ≡ opened_in done
     → number ≡ count_after 0 done
     → IsFirstDifference ones others (record { segment = segment; kind = kind.Sample number value other_value })
-values_first ones others done rest other_rest value other_value segment number e f differ segment_is number_is =
-    let w = within ones others done (Holds value ∷ rest) (Holds other_value ∷ other_rest) rest value e f refl in
-    let m = w.at in
-    let one = holds_so m.left m.after value rest m.ahead_is in
-    let other = holds_so m.other_left m.other_after other_value other_rest m.other_is in
-    record {
-      same = m.same;
-      ones_left = segment_so m.key m.start (m.front ++ m.left) ∷ m.after;
-      others_left = segment_so m.key m.start (m.front ++ m.other_left) ∷ m.other_after;
-      ones_are = m.ones_are;
-      others_are = m.others_are;
-      segment_is = omega (arith, segment_is, w.opened, m.opened);
-      differ = record {
-        one = segment_so m.key m.start (m.front ++ m.left);
-        other = segment_so m.key m.start (m.front ++ m.other_left);
-        ones_after = m.after;
-        others_after = m.other_after;
-        ones_are = refl;
-        others_are = refl;
-        differ = record {
-          front = m.front;
-          ones = one.after;
-          others = other.after;
-          alike = record {
-            key = refl;
-            start = refl;
-            one_is = ap (λ (l : List ℤ). m.front ++ l) one.are;
-            other_is = ap (λ (l : List ℤ). m.front ++ l) other.are;
-          };
-          number_is = number_is ∙ w.count ∙ m.count;
-          differ = differ;
-        };
-      };
-    }
+values_first {ones} {others} {value} {other_value} {number = number} (Opens key start ∷ done) rest other_rest e f differ
+    segment_is number_is =
+    let b : Begun = begun key start [] done in
+    let one = holds_at key start done rest ones e in
+    let other = holds_at key start done other_rest others f in
+    firsts_so (kind.Sample number value other_value) b.whole _ _ one.after other.after one.are other.are
+    (omega (arith, segment_is, begun_opened key start [] done)) (record {
+      front = b.front;
+      ones = one.left;
+      others = other.left;
+      alike = record { key = refl; start = refl; one_is = refl; other_is = refl };
+      number_is = number_is ∙ begun_count key start [] done;
+      differ = differ;
+    })
+values_first {ones} done rest other_rest e f differ segment_is number_is = absurd (no_sample_first ones _ _ e)
 
--- Samples that only one list has: both are in a segment with the same key and start, and one is longer.
-pub record LongerAt (ones others : List Segment) (segment number : ℕ) : Type 0 where
-  pub same : List Segment
-  pub longer : Segment
-  pub shorter : Segment
-  pub after : List Segment
-  pub other_after : List Segment
-  pub ones_are : ones ≡ same ++ longer ∷ after
-  pub others_are : others ≡ same ++ shorter ∷ other_after
-  pub segment_is : segment ≡ length same + 1
-  pub is_longer : IsLonger longer shorter number
+-- samples that only the first list has
+pub longer_first : {ones others : List Segment} {segment number : ℕ} (sample : ℤ) (done rest ahead : List Symbol)
+    → symbols_of ones ≡ done ++ Holds sample ∷ rest → symbols_of others ≡ done ++ ahead → HoldsNone ahead
+    → segment ≡ opened_in done → number ≡ count_after 0 done
+    → IsFirstDifference ones others (record { segment = segment; kind = kind.SampleOnlyIn number which.One })
+longer_first {ones} {others} {number = number} sample (Opens key start ∷ done) rest ahead e f none segment_is
+    number_is =
+    let b : Begun = begun key start [] done in
+    let one = holds_at key start done rest ones e in
+    let other = ends_so key start done others f none in
+    firsts_so (kind.SampleOnlyIn number which.One) b.whole _ _ one.after other.after one.are other.are
+    (omega (arith, segment_is, begun_opened key start [] done)) (record {
+      sample = sample;
+      rest = one.left;
+      alike = record { key = refl; start = refl; one_is = refl; other_is = sym (append-nil b.front) };
+      number_is = number_is ∙ begun_count key start [] done;
+    })
+longer_first {ones} sample done rest ahead e f none segment_is number_is = absurd (no_sample_first ones _ _ e)
 
-pub longer_at : (ones others : List Segment) (done rest other_ahead : List Symbol) (sample : ℤ) (segment number : ℕ)
-    → symbols_of ones ≡ done ++ Holds sample ∷ rest → symbols_of others ≡ done ++ other_ahead → HoldsNone other_ahead
-    → segment ≡ opened_in done → number ≡ count_after 0 done → LongerAt ones others segment number
-longer_at ones others done rest other_ahead sample segment number e f none segment_is number_is =
-    let w = within ones others done (Holds sample ∷ rest) other_ahead rest sample e f refl in
-    let m = w.at in
-    let one = holds_so m.left m.after sample rest m.ahead_is in
-    let empty = none_left m.other_left m.other_after other_ahead m.other_is none in
-    let all : m.front ++ m.other_left ≡ m.front =
-    ap (λ (l : List ℤ). m.front ++ l) empty ∙ append-nil m.front in
-    record {
-      same = m.same;
-      longer = segment_so m.key m.start (m.front ++ m.left);
-      shorter = segment_so m.key m.start (m.front ++ m.other_left);
-      after = m.after;
-      other_after = m.other_after;
-      ones_are = m.ones_are;
-      others_are = m.others_are;
-      segment_is = omega (arith, segment_is, w.opened, m.opened);
-      is_longer = record {
-        sample = sample;
-        rest = one.after;
-        alike = record {
-          key = refl;
-          start = refl;
-          one_is = ap (λ (l : List ℤ). m.front ++ l) one.are
-              ∙ ap (λ (l : List ℤ). l ++ sample ∷ one.after) (sym all);
-          other_is = sym (append-nil (m.front ++ m.other_left));
-        };
-        number_is = number_is ∙ w.count ∙ m.count ∙ sym (ap length all);
-      };
-    }
+-- what is found of two lists, of the same in the other order
+pub turned : {ones others : List Segment} {segment : ℕ} {how : DifferenceKind} (again : DifferenceKind)
+    (d : IsFirstDifference ones others (record { segment = segment; kind = how }))
+    → ListsDiffer d.others_left d.ones_left again
+    → IsFirstDifference others ones (record { segment = segment; kind = again })
+turned again d differ = record {
+  same = d.same;
+  ones_left = d.others_left;
+  others_left = d.ones_left;
+  ones_are = d.others_are;
+  others_are = d.ones_are;
+  segment_is = d.segment_is;
+  differ = differ;
+}

@@ -1,39 +1,30 @@
 -- The symbols of segments: their numbers, and what their beginnings are.
-use Rattle.std.proofs.Common.{◌≡◌, ℕ, ◌+◌, ◌≤◌, Bool, true, false, List, [], ◌∷◌, ◌++◌, length, map, drop, refl, sym, ap, ◌∙◌, arith, append_assoc, ℤ, Option, Some, None}
+use Rattle.std.proofs.Common.{◌≡◌, ℕ, ◌+◌, Bool, true, false, List, [], ◌∷◌, ◌++◌, length, map, drop, refl, sym, ap, ap₂, arith, append_assoc, ℤ, Option, Some, None}
 use Rattle.std.specs.List.{slice_range}
-use Rattle.std.proofs.lemmas.List.{append-nil, drop-drop, drop_all, take_all, length-drop}
+use Rattle.std.proofs.lemmas.List.{append-nil, take_all, length-drop}
 use Rattle.msr_rows.specs.declared.row.Key.{Key}
 use Rattle.msr_rows.specs.declared.row.Row.{Row}
 use Rattle.msr_segments.specs.declared.joiner.Segment.{Segment}
-use Rattle.msr_compare.specs.Symbols.{Symbol, Opens, Holds, symbols_of, held_in, count_after, opening_ahead, row_ahead}
+use Rattle.msr_compare.specs.Symbols.{Symbol, Opens, Holds, symbols_of, held_in, count_after, row_ahead}
 
 pub held_map : (xs : List ℤ) → held_in (map Holds xs) ≡ xs
 held_map [] = refl
 held_map (x ∷ xs) = ap (λ (l : List ℤ). x ∷ l) (held_map xs)
 
-held_opening : (begins : Bool) (row : Row) (rest : List Symbol) → held_in (opening_ahead begins row ++ rest) ≡ held_in rest
-held_opening true row rest = refl
-held_opening false row rest = refl
-
 -- what is held of a row at hand
 pub held_ahead : (row : Row) (begins : Bool) (passed : ℕ)
     → held_in (row_ahead (Some row) begins passed) ≡ drop passed row.samples
-held_ahead row begins passed =
-    held_opening begins row (map Holds (drop passed row.samples)) ∙ held_map (drop passed row.samples)
+held_ahead row true passed = held_map (drop passed row.samples)
+held_ahead row begins passed = held_map (drop passed row.samples)
 
 pub symbols_append : (xs ys : List Segment) → symbols_of (xs ++ ys) ≡ symbols_of xs ++ symbols_of ys
 symbols_append [] ys = refl
-symbols_append (x ∷ xs) ys =
-    ap (λ (l : List Symbol). Opens x.key x.start ∷ l)
-    (ap (λ (l : List Symbol). map Holds x.samples ++ l) (symbols_append xs ys)
-    ∙ sym (append_assoc (map Holds x.samples) (symbols_of xs) (symbols_of ys)))
+symbols_append (x ∷ xs) ys = rw (symbols_append xs ys, append_assoc) refl
 
 -- the symbols of one segment more
 pub symbols_snoc : (xs : List Segment) (x : Segment)
     → symbols_of (xs ++ x ∷ []) ≡ symbols_of xs ++ Opens x.key x.start ∷ map Holds x.samples
-symbols_snoc xs x =
-    symbols_append xs (x ∷ []) ∙ ap (λ (l : List Symbol). symbols_of xs ++ Opens x.key x.start ∷ l)
-    (append-nil (map Holds x.samples))
+symbols_snoc xs x = rw (symbols_append xs (x ∷ []), append-nil (map Holds x.samples)) refl
 
 -- how many segments symbols begin
 abbrev pub opened_in : List Symbol → ℕ
@@ -69,9 +60,7 @@ count_held n (x ∷ xs) = omega (arith, count_held (n + 1) xs)
 pub count_last : (n : ℕ) (segments : List Segment) (last : Segment)
     → count_after n (symbols_of (segments ++ last ∷ [])) ≡ length last.samples
 count_last n segments last =
-    ap (count_after n) (symbols_snoc segments last)
-    ∙ count_append n (symbols_of segments) (Opens last.key last.start ∷ map Holds last.samples)
-    ∙ count_held 0 last.samples ∙ omega arith
+    rw (symbols_snoc segments last, count_append n (symbols_of segments), count_held 0 last.samples) (omega arith)
 
 -- no list of segments begins with a sample
 pub no_sample_first : (segments : List Segment) (sample : ℤ) (rest : List Symbol)
@@ -84,34 +73,32 @@ pub no_symbols : (segments : List Segment) → symbols_of segments ≡ [] → se
 no_symbols [] e = refl
 no_symbols (x ∷ xs) e = cc
 
+abbrev pub segment_so : Key → ℤ → List ℤ → Segment
+segment_so key start samples = record { key = key; start = start; samples = samples }
+
 -- segments that begin so
 pub record OpensSo (segments : List Segment) (key : Key) (start : ℤ) (rest : List Symbol) : Type 0 where
-  pub segment : Segment
+  pub samples : List ℤ
   pub after : List Segment
-  pub are : segments ≡ segment ∷ after
-  pub key_is : segment.key ≡ key
-  pub start_is : segment.start ≡ start
-  pub rest_is : map Holds segment.samples ++ symbols_of after ≡ rest
+  pub are : segments ≡ segment_so key start samples ∷ after
+  pub rest_is : map Holds samples ++ symbols_of after ≡ rest
 
-pub opens_so : (segments : List Segment) (key : Key) (start : ℤ) (rest : List Symbol)
+pub opens_so : {key : Key} {start : ℤ} {rest : List Symbol} (segments : List Segment)
     → symbols_of segments ≡ Opens key start ∷ rest → OpensSo segments key start rest
-opens_so [] key start rest e = absurd cc
-opens_so (x ∷ xs) key start rest e =
+opens_so [] e = absurd cc
+opens_so {key} {start} {rest} (x ∷ xs) e =
     let k : x.key ≡ key = cc in
     let t : x.start ≡ start = cc in
     let r : map Holds x.samples ++ symbols_of xs ≡ rest = cc in
-    record { segment = x; after = xs; are = refl; key_is = k; start_is = t; rest_is = r }
+    let same = λ (k : Key) (t : ℤ). segment_so k t x.samples ∷ xs in
+    record { samples = x.samples; after = xs; are = ap₂ same k t; rest_is = r }
 
 -- samples and then segments: where a segment begins, no samples are before it
-pub record OpensNext (samples : List ℤ) (segments : List Segment) (key : Key) (start : ℤ) (rest : List Symbol)
-    : Type 0 where
-  pub none : samples ≡ []
-  pub opens : OpensSo segments key start rest
-
-pub opens_next : (samples : List ℤ) (segments : List Segment) (key : Key) (start : ℤ) (rest : List Symbol)
-    → map Holds samples ++ symbols_of segments ≡ Opens key start ∷ rest → OpensNext samples segments key start rest
-opens_next [] segments key start rest e = record { none = refl; opens = opens_so segments key start rest e }
-opens_next (x ∷ xs) segments key start rest e = absurd cc
+pub opens_next : {key : Key} {start : ℤ} {rest : List Symbol} (samples : List ℤ) (segments : List Segment)
+    → map Holds samples ++ symbols_of segments ≡ Opens key start ∷ rest
+    → (samples ≡ []) × OpensSo segments key start rest
+opens_next [] segments e = (refl, opens_so segments e)
+opens_next (x ∷ xs) segments e = absurd cc
 
 -- where a sample stands, it is the first of them
 pub record HoldsSo (samples : List ℤ) (segments : List Segment) (sample : ℤ) (rest : List Symbol) : Type 0 where
@@ -119,10 +106,10 @@ pub record HoldsSo (samples : List ℤ) (segments : List Segment) (sample : ℤ)
   pub are : samples ≡ sample ∷ after
   pub rest_is : map Holds after ++ symbols_of segments ≡ rest
 
-pub holds_so : (samples : List ℤ) (segments : List Segment) (sample : ℤ) (rest : List Symbol)
+pub holds_so : {sample : ℤ} {rest : List Symbol} (samples : List ℤ) (segments : List Segment)
     → map Holds samples ++ symbols_of segments ≡ Holds sample ∷ rest → HoldsSo samples segments sample rest
-holds_so [] segments sample rest e = absurd (no_sample_first segments sample rest e)
-holds_so (x ∷ xs) segments sample rest e =
+holds_so {sample} {rest} [] segments e = absurd (no_sample_first segments sample rest e)
+holds_so {sample} {rest} (x ∷ xs) segments e =
     let same : x ≡ sample = cc in
     let r : map Holds xs ++ symbols_of segments ≡ rest = cc in
     record { after = xs; are = ap (λ (y : ℤ). y ∷ xs) same; rest_is = r }
@@ -135,16 +122,3 @@ opened_ahead (Some row) begins passed = ap (map Holds) (sym (held_ahead row begi
 
 pub range_to_end : (xs : List ℤ) (at : ℕ) → slice_range xs at (length xs) ≡ drop at xs
 range_to_end xs at = take_all _ (drop at xs) (omega (arith, length-drop at xs))
-
--- a row at hand of which more is passed, or all
-pub passed_ahead : (row : Row) (begins : Bool) (passed count new : ℕ) → new ≡ passed + count
-    → row_ahead (Some row) false new ≡ map Holds (drop count (held_in (row_ahead (Some row) begins passed)))
-passed_ahead row begins passed count new e =
-    ap (λ (n : ℕ). map Holds (drop n row.samples)) e
-    ∙ ap (map Holds) (sym (drop-drop count passed row.samples) ∙ sym (ap (drop count) (held_ahead row begins passed)))
-
-pub all_passed : (row : Row) (begins : Bool) (passed count : ℕ) → length row.samples ≤ passed + count
-    → [] ≡ map Holds (drop count (held_in (row_ahead (Some row) begins passed)))
-all_passed row begins passed count all =
-    ap (map Holds) (sym (drop_all (passed + count) row.samples all) ∙ sym (drop-drop count passed row.samples)
-    ∙ sym (ap (drop count) (held_ahead row begins passed)))

@@ -6,15 +6,15 @@ use Rattle.msr_compare.proofs.ahead.Ahead.samples.Goals as goal
 
 pub returns-in-Some-get : goal.returns-in-Some-get
 returns-in-Some-get c =
+    let view = rw c.in-Some.is at c.self.view_is in
     c.in-Some-get.ensures.lookup.0.2 ∙ range_to_end c.as_slice.result.now c.self.inside.passed
     ∙ ap (λ (xs : List ℤ). drop c.self.inside.passed xs) c.as_slice.ensures
-    ∙ sym (held_row c.self.inside.row c.in-Some.row c.self.inside.begins c.self.inside.passed c.args.self.now
-    c.self.view_is c.in-Some.is)
+    ∙ held_row c.in-Some.row c.self.inside.begins c.self.inside.passed view
 
 pub returns-in-None : goal.returns-in-None
 returns-in-None c =
+    let view = rw c.in-Some.is at c.self.view_is in
     let all : length c.as_slice.result.now ≤ c.self.inside.passed = omega (arith, c.in-None.ensures.lookup.0) in
     sym (drop_all c.self.inside.passed c.as_slice.result.now all)
     ∙ ap (λ (xs : List ℤ). drop c.self.inside.passed xs) c.as_slice.ensures
-    ∙ sym (held_row c.self.inside.row c.in-Some.row c.self.inside.begins c.self.inside.passed c.args.self.now
-    c.self.view_is c.in-Some.is)
+    ∙ held_row c.in-Some.row c.self.inside.begins c.self.inside.passed view

@@ -1,32 +1,23 @@
-use Rattle.std.proofs.Common.{◌≡◌, ◌∙◌, ap, sym, true}
+use Rattle.std.proofs.Common.{◌∙◌, ap, sym}
 use Rattle.std.proofs.lemmas.Result.{err_from_is_err_and}
 use Rattle.msr_devices.proofs.Chaining.{steady_can_count, steady_then_few}
-use Rattle.msr_compare.specs.Sides.{Standing, HasBegun}
+use Rattle.msr_compare.specs.Sides.{Standing}
 use Rattle.msr_compare.proofs.Draining.{drained_before, draining, drains_no_more, drains_row, drains_to_end, is_draining, steady_few, still_draining}
 use Rattle.msr_compare.proofs.side.Side.drain.Goals as goal
 
 pub returns-then-self-clause-drained : goal.returns-then-self-clause-drained
 returns-then-self-clause-drained g c = λ settings start done h.
-    let ended : c.args.self.now.ended ≡ true = ap (λ (s : Standing). s.ended) (sym c.self.view_is) ∙ c.if-self.true in
-    drained_before settings start (g.R.Source.device c.args.source.now) c.args.self.now done h ended
+    drained_before h (ap (λ (s : Standing). s.ended) (sym c.self.view_is) ∙ c.if-self.true)
 
 pub returns-then-self-clause-few : goal.returns-then-self-clause-few
-returns-then-self-clause-few g c = λ settings start done h.
-    steady_few start (g.R.Source.device c.args.source.now) h.read.came.steady
+returns-then-self-clause-few g c = λ settings start done h. steady_few h.read.came.steady
 
 pub rows-init : goal.rows-init
 rows-init g c =
-    let at : Standing = record {
-      reading = c.self.inside.reader;
-      tally = c.self.inside.tally;
-      ahead = c.self.inside.ahead;
-      ended = c.self.inside.ended;
-    } in
-    let source = g.R.Source.device c.args.source.now in
-    let begun : HasBegun source at = rw (← c.self.view_is) at c.requires in
+    let begun = rw (← c.self.view_is) at c.requires in
     rw (← c.self.view_is) (record {
-      draining = λ settings start done h. draining settings start source at done h;
-      begun = is_draining source at begun;
+      draining = λ settings start done h. draining h;
+      begun = is_draining begun;
       open_still = c.if-self.false;
     })
 
@@ -38,50 +29,39 @@ next_outline-requires g c =
 pub returns-in_err-_next-clause-drained : goal.returns-in_err-_next-clause-drained
 returns-in_err-_next-clause-drained g c =
     let p = err_from_is_err_and c.from_residual.result c.from_residual.ensures.1 in
-    let source = g.R.Source.device c.rows.source in
-    let new = g.R.Source.device c.next_outline.new.source in
     rw (p.1, p.2) (λ settings start done h.
     let d = c.rows.invariant.draining settings start done h in
-    drains_no_more settings start source new c.rows.self-inside.reader _ c.in_err-_next.field-0.0 d
+    drains_no_more (g.R.Source.device c.next_outline.new.source) c.in_err-_next.field-0.0 d
     (c.in_err-_next.ensures.read start d.records d.answers d.read))
 
 pub returns-in_err-_next-clause-few : goal.returns-in_err-_next-clause-few
 returns-in_err-_next-clause-few g c = λ settings start done h.
-    let d = c.rows.invariant.draining settings start done h in
     steady_then_few start (g.R.Source.device c.rows.source) (g.R.Source.device c.next_outline.new.source)
-    d.read.came.steady c.next_outline.ensures.few
+    (c.rows.invariant.draining settings start done h).read.came.steady c.next_outline.ensures.few
 
 pub rows-preserved : goal.rows-preserved
 rows-preserved g c =
-    let source = g.R.Source.device c.rows.source in
-    let new = g.R.Source.device c.next_outline.new.source in
     let step = rw c.in-Some.is at c.in_ok-_next.ensures.step in
     record {
       draining = λ settings start done h.
           let d = c.rows.invariant.draining settings start done h in
           let one = rw c.in-Some.is at (c.in_ok-_next.ensures.read start d.records d.answers d.read) in
-          drains_row settings start source new c.rows.self-inside.reader c.next_outline.new.self _ c.in-Some._next d
-          one c.next_outline.ensures.settings step;
+          drains_row d one c.next_outline.ensures.settings step;
       begun =
           let b = c.rows.invariant.begun in
-          let one = rw c.in-Some.is at
-          (c.in_ok-_next.ensures.read b.start b.drains.records b.drains.answers b.drains.read) in
-          still_draining source new c.rows.self-inside.reader c.next_outline.new.self c.in-Some._next b one
-          c.next_outline.ensures.settings step;
+          let d = b.drains in
+          let one = rw c.in-Some.is at (c.in_ok-_next.ensures.read b.start d.records d.answers d.read) in
+          still_draining b one c.next_outline.ensures.settings step;
       open_still = c.rows.invariant.open_still;
     }
 
 pub returns-clause-drained : goal.returns-clause-drained
 returns-clause-drained g c = λ settings start done h.
-    let source = g.R.Source.device c.rows.source in
-    let new = g.R.Source.device c.next_outline.new.source in
     let d = c.rows.invariant.draining settings start done h in
     let all = rw c.in_default.is at (c.in_ok-_next.ensures.read start d.records d.answers d.read) in
-    drains_to_end settings start source new c.rows.self-inside.reader c.next_outline.new.self c.args.self.now.ended _ d
-    c.rows.invariant.open_still all c.next_outline.ensures.settings
+    drains_to_end d c.rows.invariant.open_still all c.next_outline.ensures.settings
 
 pub returns-clause-few : goal.returns-clause-few
 returns-clause-few g c = λ settings start done h.
-    let d = c.rows.invariant.draining settings start done h in
     steady_then_few start (g.R.Source.device c.rows.source) (g.R.Source.device c.next_outline.new.source)
-    d.read.came.steady c.next_outline.ensures.few
+    (c.rows.invariant.draining settings start done h).read.came.steady c.next_outline.ensures.few

@@ -1,48 +1,28 @@
-use Rattle.std.proofs.Common.{◌≡◌, ◌≤◌, [], ◌∙◌, arith, refl, false}
+use Rattle.std.proofs.Common.{◌∙◌, arith, refl}
 use Rattle.std.proofs.lemmas.Result.{err_from_is_err_and}
 use Rattle.msr_devices.proofs.Chaining.{steady_steady}
-use Rattle.msr_segments.specs.Segments.{row_segment}
-use Rattle.msr_input.specs.Reading.{IsWritable}
-use Rattle.msr_compare.specs.Sides.{Standing, HasTaken, weight}
-use Rattle.msr_compare.proofs.Taking.{ends_as, stops_taking, taken_end, taken_one, weighs_less}
+use Rattle.msr_compare.specs.Sides.{Standing}
+use Rattle.msr_compare.proofs.Draining.{draining, drains_no_more}
+use Rattle.msr_compare.proofs.Taking.{ends_as, taken_end, taken_one, weighs_less}
 use Rattle.msr_compare.proofs.side.Side.fetch.Goals as goal
 
 pub returns-in_err-next-clause-fetched : goal.returns-in_err-next-clause-fetched
 returns-in_err-next-clause-fetched g c =
     let p = err_from_is_err_and c.from_residual.result c.from_residual.ensures.1 in
-    let inside = c.self-in-records.inside in
-    let at : Standing = record { reading = inside.reader; tally = inside.tally; ahead = inside.ahead; ended = inside.ended } in
-    let source = g.R.Source.device c.records.source in
-    let new = g.R.Source.device c.next_record.new.source in
     rw (p.1, p.2) (λ settings start done h.
-    let taken : HasTaken settings start source at done =
-    rw (← c.self-in-records.view_is) at (c.records.invariant.taken settings start done h) in
-    stops_taking settings start source new at done c.in_err-next.field-0.0 taken
+    let taken = rw (← c.self-in-records.view_is) at (c.records.invariant.taken settings start done h) in
+    drains_no_more (g.R.Source.device c.next_record.new.source) c.in_err-next.field-0.0 (draining taken)
     (c.in_err-next.ensures.read start taken.records taken.answers taken.read))
 
 pub returns-in_default-clause-fetched : goal.returns-in_default-clause-fetched
-returns-in_default-clause-fetched g c =
-    let inside = c.self-in-records.inside in
-    let at : Standing = record { reading = inside.reader; tally = inside.tally; ahead = inside.ahead; ended = inside.ended } in
-    let source = g.R.Source.device c.records.source in
-    let new = g.R.Source.device c.next_record.new.source in
-    λ settings start done h.
-    let taken : HasTaken settings start source at done =
-    rw (← c.self-in-records.view_is) at (c.records.invariant.taken settings start done h) in
+returns-in_default-clause-fetched g c = λ settings start done h.
+    let taken = rw (← c.self-in-records.view_is) at (c.records.invariant.taken settings start done h) in
     let none = rw c.in_default.is at (c.in_ok-next.ensures.exact start taken.records taken.answers taken.read) in
-    record {
-      taken = taken_end settings start source new at c.next_record.new.self done taken none
-          c.next_record.ensures.settings;
-      some = λ e. refl;
-    }
+    record { taken = taken_end taken none c.next_record.ensures.settings; some = λ e. refl }
 
 pub returns-in_default-clause-weight : goal.returns-in_default-clause-weight
 returns-in_default-clause-weight g c =
-    let inside = c.self-in-records.inside in
-    let at : Standing = record { reading = inside.reader; tally = inside.tally; ahead = inside.ahead; ended = inside.ended } in
-    let source = g.R.Source.device c.records.source in
-    let before : weight source at ≤ weight (g.R.Source.device c.args.source.now) c.args.self.now =
-    rw (← c.self-in-records.view_is) at c.records.invariant.weight_is in
+    let before = rw (← c.self-in-records.view_is) at c.records.invariant.weight_is in
     omega (arith, before)
 
 pub records-preserved : goal.records-preserved
@@ -51,26 +31,23 @@ records-preserved g c =
     let at : Standing = record { reading = inside.reader; tally = inside.tally; ahead = inside.ahead; ended = inside.ended } in
     let source = g.R.Source.device c.records.source in
     let new = g.R.Source.device c.next_record.new.source in
-    let going : at.ended ≡ false = rw (← c.self-in-records.view_is) at c.records.invariant.open_still in
-    let none : at.ahead ≡ [] = c.is_empty.ensures.0 c.records-test.true in
+    let going = rw (← c.self-in-records.view_is) at c.records.invariant.open_still in
+    let none = c.is_empty.ensures.0 c.records-test.true in
+    let told = c.in-Some.next.row in
     let step = rw c.in-Some.is at c.in_ok-next.ensures.step in
     let row = rw c.in-Some.is at c.in_ok-next.ensures.row in
     let bounds = rw c.in-Some.is at c.in_ok-next.ensures.in_bounds in
     let less = rw c.in-Some.is at c.in_ok-next.ensures.less in
-    let before : weight source at ≤ weight (g.R.Source.device c.args.source.now) c.args.self.now =
-    rw (← c.self-in-records.view_is) at c.records.invariant.weight_is in
-    let after = weighs_less source new at c.take.new.self c.next_record.new.self c.in-Some.next.row
-    (λ found. IsWritable (row_segment found.row)) less going c.take.ensures row none in
+    let before = rw (← c.self-in-records.view_is) at c.records.invariant.weight_is in
+    let after = weighs_less source new at _ c.next_record.new.self told less going c.take.ensures row none in
     record {
       taken = λ settings start done h.
-          let taken : HasTaken settings start source at done =
-          rw (← c.self-in-records.view_is) at (c.records.invariant.taken settings start done h) in
+          let taken = rw (← c.self-in-records.view_is) at (c.records.invariant.taken settings start done h) in
           let one = rw c.in-Some.is at (c.in_ok-next.ensures.exact start taken.records taken.answers taken.read) in
-          taken_one settings start source new at c.take.new.self c.next_record.new.self done c.in-Some.next
-          (λ found. IsWritable (row_segment found.row)) taken going none one c.next_record.ensures.settings step row
-          bounds c.take.ensures;
+          taken_one told one.found taken going none one.row_is one.read c.next_record.ensures.settings step row bounds
+          c.take.ensures;
       weight_is = omega (arith, before, after);
       steady = steady_steady (g.R.Source.device c.args.source.now) source new c.records.invariant.steady
           c.in_ok-next.ensures.steady;
-      open_still = ends_as c.in-Some.next.row _ c.take.new.self c.take.ensures ∙ going;
+      open_still = ends_as _ c.take.new.self told c.take.ensures ∙ going;
     }
