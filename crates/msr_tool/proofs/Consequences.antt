@@ -1,43 +1,40 @@
 -- What follows from the answers.
-use Rattle.std.proofs.Common.{◌∙◌, Bool, true, false, ℕ, List, refl, sym, ap, Ok, Err}
-use Rattle.msr_rows.specs.declared.row.Record.{Record}
+use Rattle.std.proofs.Common.{◌≡◌, ◌≢◌, ◌∙◌, Bool, true, false, ℕ, List, refl, sym, ap, Result, Ok, Err}
+use Rattle.std.specs.Prelude.{IfErr}
 use Rattle.msr_base.specs.declared.counts.Counts.{Counts}
 use Rattle.msr_report.specs.declared.report.Report.{Report}
+use Rattle.msr_input.specs.declared.fault.Fault.{Fault}
 use Rattle.msr_input.specs.Input.{AllAgree, OneListOfRecords, OneFirstFault, ReadableHasNoFault, counts_of}
-use Rattle.msr_output.specs.Output.{OneOutput, Packed}
-use Rattle.msr_tool.specs.Answer.{IsReportOf, IsRepacked}
+use Rattle.msr_output.specs.Output.{OneOutput}
+use Rattle.msr_tool.specs.Answer.{Answers, IsRepacked}
+use Rattle.msr_tool.specs.Listing.{ListAnswers}
+use Rattle.msr_tool.specs.declared.fault.ToolFault.{ToolFault}
 use Rattle.msr_options.specs.Choice.{Choice, as_strict, form_chosen}
 use Rattle.msr_tool.specs.Settings.{settings_of}
 use Rattle.msr_tool.specs.Laws.{OneRepacking, OneRefusal, ReadableIsRepacked, ReadableIsListed, StrictWritesTheSame}
 use Rattle.msr_tool.specs.declared.fault.ToolFault.TheVariants as fault
 
+-- if the input has no fault and no device failed, there is no memory
+memory_left : {T : Type 0} (Says : Result T ToolFault → Type 0)
+    → ((found : Fault) → Says (Err (fault.Input found)) → ⊥) → ((line : ℕ) → Says (Err (fault.Report line)) → ⊥)
+    → (result : Result T ToolFault) → Says result → result ≢ Err fault.Read → result ≢ Err fault.Write
+    → IfErr result (λ found. found ≡ fault.Memory)
+memory_left Says input report (Ok value) says not_read not_write = tt
+memory_left Says input report (Err (fault.Input found)) says not_read not_write = absurd (input found says)
+memory_left Says input report (Err (fault.Report line)) says not_read not_write = absurd (report line says)
+memory_left Says input report (Err fault.Read) says not_read not_write = absurd (not_read refl)
+memory_left Says input report (Err fault.Write) says not_read not_write = absurd (not_write refl)
+memory_left Says input report (Err fault.Memory) says not_read not_write = refl
+
 pub readable_repacked : ReadableHasNoFault → ReadableIsRepacked
-readable_repacked law choice input written records segments (Ok report) readable answers not_read not_write = tt
-readable_repacked law choice input written records segments
-    (Err (fault.Input found)) readable answers not_read not_write =
-    absurd (law (settings_of choice) input records answers.records segments found readable answers.first)
-readable_repacked law choice input written records segments
-    (Err (fault.Report line)) readable answers not_read not_write = absurd answers
-readable_repacked law choice input written records segments (Err fault.Read) readable answers not_read not_write =
-    absurd (not_read refl)
-readable_repacked law choice input written records segments (Err fault.Write) readable answers not_read not_write =
-    absurd (not_write refl)
-readable_repacked law choice input written records segments
-    (Err fault.Memory) readable answers not_read not_write = refl
+readable_repacked law choice input written records segments result readable = memory_left (Answers choice input written)
+    (λ found is. law (settings_of choice) input records is.records segments found readable is.first)
+    (λ line is. is) result
 
 pub readable_listed : ReadableHasNoFault → ReadableIsListed
-readable_listed law form settings input written records segments (Ok counts) readable answers not_read not_write = tt
-readable_listed law form settings input written records segments
-    (Err (fault.Input found)) readable answers not_read not_write =
-    absurd (law settings input records answers.records segments found readable answers.first)
-readable_listed law form settings input written records segments
-    (Err (fault.Report line)) readable answers not_read not_write = absurd answers
-readable_listed law form settings input written records segments (Err fault.Read) readable answers not_read not_write =
-    absurd (not_read refl)
-readable_listed law form settings input written records segments (Err fault.Write) readable answers not_read not_write =
-    absurd (not_write refl)
-readable_listed law form settings input written records segments
-    (Err fault.Memory) readable answers not_read not_write = refl
+readable_listed law form settings input written records segments result readable =
+    memory_left (ListAnswers form settings input written)
+    (λ found is. law settings input records is.records segments found readable is.first) (λ line is. is) result
 
 pub repacking_alone : OneListOfRecords → OneOutput → OneRepacking
 repacking_alone records_law output_law choice input written other report another one two =
@@ -54,18 +51,6 @@ refusal_alone law choice input written other found another one two =
     (law (settings_of choice) input one.records two.records found another one.first two.first).1
 
 -- what was repacked, strictly or not
-report_as : (a b : Bool) (choice : Choice) (records : List Record) (packed : List Packed) (report : Report)
-    → IsReportOf (as_strict a choice) records packed report → IsReportOf (as_strict b choice) records packed report
-report_as a b choice records packed report is = record {
-  record_length = is.record_length;
-  kinds = is.kinds;
-  tolerance = is.tolerance;
-  counts = is.counts;
-  lines = is.lines;
-  proper = is.proper;
-  is_content = is.is_content;
-}
-
 repacked_as : (a b : Bool) (choice : Choice) (input written : List ℕ) (report : Report)
     (is : IsRepacked (as_strict a choice) input written report) → AllAgree b is.records
     → IsRepacked (as_strict b choice) input written report
@@ -79,15 +64,14 @@ repacked_as a b choice input written report is agree = record {
   };
   output = is.output;
   same_segments = is.same_segments;
-  is_report = report_as a b choice is.records is.packed report is.is_report;
+  is_report = assumption;
 }
 
 pub strict_writes : StrictWritesTheSame
 strict_writes choice input written report = (
   λ is. (
     repacked_as true false choice input written report is (λ strict. absurd cc),
-    ap
-        (λ (c : Counts). c.mismatched) is.is_report.counts ∙ is.readable.are_read.agree refl,
+    ap (λ (c : Counts). c.mismatched) is.is_report.counts ∙ is.readable.are_read.agree refl,
   ),
   λ both. repacked_as false true choice input written report both.0
       (λ strict. sym (ap (λ (c : Counts). c.mismatched) both.0.is_report.counts) ∙ both.1),

@@ -4,14 +4,15 @@ use Rattle.std.specs.Prelude.{option_map}
 use Rattle.std.specs.Option.{option_or, option_to_list}
 use Rattle.std.proofs.lemmas.List.{append-nil}
 use Rattle.msr_segments.specs.declared.joiner.Segment.{Segment}
-use Rattle.msr_devices.specs.Device.{Device, Takes, IsCalm}
+use Rattle.msr_devices.specs.Device.{Device, HasFailed, Takes, IsCalm}
 use Rattle.msr_devices.specs.WriteBuffer.{Passes}
-use Rattle.msr_devices.proofs.Chaining.{takes_append, calm_calm}
+use Rattle.msr_devices.proofs.Chaining.{takes_append, calm_calm, calm_failed}
 use Rattle.msr_report.specs.declared.json.ListedSegment.{ListedSegment}
 use Rattle.msr_options.specs.declared.task.ListForm.{ListForm}
 use Rattle.msr_base.specs.declared.counts.Counts.{Counts}
-use Rattle.msr_tool.specs.Listing.{AreLinesAfter, AreListLines, IsLine, last_line, listed_of}
-use Rattle.msr_tool.specs.ListWriting.{HasListed, HasListedAll, HasListedPrefix, HasListedCut, IsLastLine, last_after}
+use Rattle.msr_tool.specs.Listing.{AreLinesAfter, AreListLines, IsLine, IsPrefixOfList, last_line, listed_of}
+use Rattle.msr_tool.specs.ListWriting.{HasListed, HasListedAll, HasListedPrefix, HasListedCut, IsLastLine, StopsListing, StopsListingAll, last_after}
+use Rattle.msr_tool.specs.declared.fault.ToolFault.TheVariants as fault
 
 pub lists_snoc : (form : ListForm) (before : Option Segment) (segments : List Segment) (text line : List ℕ)
     (segment : Segment) → AreLinesAfter form before segments text
@@ -24,8 +25,7 @@ lists_snoc form before (one ∷ segments) text line segment are is = (
   record {
     line = are.1.line;
     is_line = are.1.is_line;
-    whole = ap (λ (t : List ℕ). t ++ line) are.1.whole
-        ∙ append_assoc are.1.line are.0 line;
+    whole = rw (are.1.whole, append_assoc are.1.line are.0 line) refl;
   },
   lists_snoc form (Some one) segments are.0 line segment are.2 is,
 )
@@ -55,126 +55,115 @@ last_with before segments None after = rw (append-nil segments) after
 last_with before segments (Some segment) after = rw (after_snoc None segments segment) refl
 
 -- a further text after the lines so far, some of which the sink accepts
-pub record Flows (start now : Device) (waiting : List ℕ) (text : List ℕ) : Type 0 where
-  pub taken : List ℕ
-  pub takes : Takes start now taken
-  pub whole : text ≡ taken ++ waiting
-
-pub flows_on : (form : ListForm) (start now next : Device) (waiting pushed waits more : List ℕ)
-    (before : Option ListedSegment) (segments : List Segment)
-    (h : HasListed form start now waiting before segments) → pushed ≡ waiting ++ more → Passes now next pushed [] waits
-    → Flows start next waits (h.text ++ more)
-flows_on form start now next waiting pushed waits more before segments h same passes = record {
-  taken = h.taken ++ passes.taken;
-  takes = takes_append start now next h.taken passes.taken h.takes passes.takes;
-  whole = ap (λ (t : List ℕ). t ++ more) h.whole
-      ∙ append_assoc h.taken waiting more
-      ∙ ap (λ (t : List ℕ). h.taken ++ t) (sym same ∙ sym (append-nil pushed) ∙ passes.whole)
-      ∙ sym (append_assoc h.taken passes.taken waits);
-}
-
--- there is no memory for a line
-pub prefix_listed : (form : ListForm) (start now : Device) (waiting : List ℕ) (before : Option ListedSegment)
-    (segments others : List Segment)
-    → HasListed form start now waiting before segments → HasListedPrefix form start now (segments ++ others)
-prefix_listed form start now waiting before segments others h = record {
-  taken = h.taken;
-  takes = h.takes;
-  prefix = record {
-    first = segments;
-    others = others;
-    tail = waiting;
-    some_first = refl;
-    lines = rw (← h.whole) h.lines;
-  };
-}
+record Flows (start now : Device) (waiting : List ℕ) (text : List ℕ) : Type 0 where
+  taken : List ℕ
+  takes : Takes start now taken
+  whole : text ≡ taken ++ waiting
 
 -- a prefix of a longer list of segments
-pub prefix_wider : (form : ListForm) (start now : Device) (segments others all : List Segment)
-    → HasListedPrefix form start now segments
-    → all ≡ segments ++ others → HasListedPrefix form start now all
-prefix_wider form start now segments others all h same = record {
+pub prefix_wider : {form : ListForm} {start now : Device} {segments : List Segment} (others : List Segment)
+    → HasListedPrefix form start now segments → HasListedPrefix form start now (segments ++ others)
+prefix_wider others h = record {
   taken = h.taken;
   takes = h.takes;
   prefix = record {
     first = h.prefix.first;
     others = h.prefix.others ++ others;
     tail = h.prefix.tail;
-    some_first = same ∙ ap (λ (s : List Segment). s ++ others) h.prefix.some_first
+    some_first = ap (λ (s : List Segment). s ++ others) h.prefix.some_first
         ∙ append_assoc h.prefix.first h.prefix.others others;
     lines = h.prefix.lines;
   };
 }
 
--- the line of one more segment waits
-pub listed_pushed : (form : ListForm) (start now : Device) (waiting pushed line : List ℕ)
-    (before : Option ListedSegment) (segments : List Segment)
-    (current : Option Segment) → HasListed form start now waiting before segments
-    → IsLastLine form before (option_map listed_of current) line → pushed ≡ waiting ++ line
-    → HasListed form start now pushed (option_or (option_map listed_of current) before)
-    (segments ++ option_to_list current)
-listed_pushed form start now waiting pushed line before segments current h is same = record {
-  text = h.text ++ line;
-  taken = h.taken;
-  lines = lists_last form segments h.text line before current h.lines h.last is;
-  takes = h.takes;
-  whole = ap (λ (t : List ℕ). t ++ line) h.whole ∙ append_assoc h.taken waiting line
-      ∙ ap (λ (t : List ℕ). h.taken ++ t) (sym same);
-  calm = h.calm;
-  last = last_with before segments current h.last;
-}
+module _ {form : ListForm} {start now : Device} {waiting : List ℕ} {before : Option ListedSegment}
+    {segments : List Segment} (h : HasListed form start now waiting before segments) where
+  pub prefix_listed : (others : List Segment) → HasListedPrefix form start now (segments ++ others)
+  prefix_listed others = record {
+    taken = h.taken;
+    takes = h.takes;
+    prefix = record {
+      first = segments;
+      others = others;
+      tail = waiting;
+      some_first = refl;
+      lines = rw (← h.whole) h.lines;
+    };
+  }
 
--- what waited was written, or some of it
-pub listed_passed : (form : ListForm) (start now next : Device) (waiting waits : List ℕ) (before : Option ListedSegment)
-    (segments : List Segment)
-    → HasListed form start now waiting before segments → Passes now next waiting [] waits → IsCalm now next
-    → HasListed form start next waits before segments
-listed_passed form start now next waiting waits before segments h passes calm =
-    let f = flows_on form start now next waiting waiting waits [] before segments h (sym (append-nil waiting)) passes in
-    record {
-      text = h.text;
-      taken = f.taken;
-      lines = h.lines;
-      takes = f.takes;
-      whole = sym (append-nil h.text)
-          ∙ f.whole;
-      calm = calm_calm start now next h.calm calm;
-      last = h.last;
-    }
+  -- there is no memory for a line
+  pub listed_refused : (others : List Segment) → StopsListing form start now (segments ++ others) fault.Memory
+  listed_refused others = (prefix_listed others, h.calm.steady)
 
-pub listed_cut : (form : ListForm) (start now next : Device) (waiting waits : List ℕ) (before : Option ListedSegment)
-    (segments : List Segment)
-    → HasListed form start now waiting before segments → Passes now next waiting [] waits
-    → HasListedPrefix form start next segments
-listed_cut form start now next waiting waits before segments h passes =
-    let f = flows_on form start now next waiting waiting waits [] before segments h (sym (append-nil waiting)) passes in
-    record {
-      taken = f.taken;
-      takes = f.takes;
-      prefix = record {
-        first = segments;
-        others = [];
-        tail = waits;
-        some_first = sym (append-nil segments);
-        lines = rw (← (sym (append-nil h.text) ∙ f.whole)) h.lines;
-      };
-    }
+  -- the line of one more segment waits
+  pub listed_pushed : {pushed : List ℕ} {last : Option ListedSegment} (current : Option Segment)
+      → last ≡ option_map listed_of current
+      → (line : List ℕ) × (IsLastLine form before last line × (pushed ≡ waiting ++ line))
+      → HasListed form start now pushed (option_or last before) (segments ++ option_to_list current)
+  listed_pushed current is line = record {
+    text = h.text ++ line.0;
+    taken = h.taken;
+    lines = lists_last form segments h.text line.0 before current h.lines h.last (rw is at line.1.0);
+    takes = h.takes;
+    whole = rw (h.whole, append_assoc h.taken waiting line.0, ← line.1.1) refl;
+    calm = h.calm;
+    last = rw is (last_with before segments current h.last);
+  }
 
--- the line of the counts
-pub listed_all : (form : ListForm) (start now next : Device) (waiting pushed waits : List ℕ)
-    (before : Option ListedSegment) (segments : List Segment)
-    (counts : Counts) → HasListed form start now waiting before segments → pushed ≡ waiting ++ last_line form counts
-    → Passes now next pushed [] waits → waits ≡ [] → IsCalm now next → HasListedAll form start next segments counts
-listed_all form start now next waiting pushed waits before segments counts h same passes none calm =
-    let f = flows_on form start now next waiting pushed waits (last_line form counts) before segments h same passes in
-    let all : h.text ++ last_line form counts ≡ f.taken = f.whole ∙ ap (λ (t : List ℕ). f.taken ++ t) none
-    ∙ append-nil f.taken in
-    record { text = h.text; lines = h.lines; takes = rw all f.takes; calm = calm_calm start now next h.calm calm }
+  flows_on : (next : Device) (pushed waits more : List ℕ) → pushed ≡ waiting ++ more → Passes now next pushed [] waits
+      → Flows start next waits (h.text ++ more)
+  flows_on next pushed waits more same passes =
+      let all = sym (append-nil pushed) ∙ passes.whole in
+      record {
+        taken = h.taken ++ passes.taken;
+        takes = takes_append start now next h.taken passes.taken h.takes passes.takes;
+        whole = rw (h.whole, append_assoc h.taken waiting more, ← same, all, append_assoc h.taken passes.taken waits)
+            refl;
+      }
 
-pub listed_all_cut : (form : ListForm) (start now next : Device) (waiting pushed waits : List ℕ)
-    (before : Option ListedSegment) (segments : List Segment)
-    (counts : Counts) → HasListed form start now waiting before segments → pushed ≡ waiting ++ last_line form counts
-    → Passes now next pushed [] waits → HasListedCut form start next segments counts
-listed_all_cut form start now next waiting pushed waits before segments counts h same passes =
-    let f = flows_on form start now next waiting pushed waits (last_line form counts) before segments h same passes in
-    record { text = h.text; taken = f.taken; tail = waits; lines = h.lines; takes = f.takes; whole = f.whole }
+  -- the line of the counts
+  pub listed_all : {next : Device} {pushed : List ℕ} (counts : Counts) → pushed ≡ waiting ++ last_line form counts
+      → Passes now next pushed [] [] → IsCalm now next → HasListedAll form start next segments counts
+  listed_all {next} {pushed} counts same passes calm =
+      let f = flows_on next pushed [] (last_line form counts) same passes in
+      let all = f.whole ∙ append-nil f.taken in
+      record { text = h.text; lines = h.lines; takes = rw all f.takes; calm = calm_calm start now next h.calm calm }
+
+  module _ {next : Device} {waits : List ℕ} where
+    -- what waited was written, or some of it
+    pub listed_passed : Passes now next waiting [] waits → IsCalm now next
+        → HasListed form start next waits before segments
+    listed_passed passes calm =
+        let f = flows_on next waiting waits [] (sym (append-nil waiting)) passes in
+        record {
+          text = h.text;
+          taken = f.taken;
+          lines = h.lines;
+          takes = f.takes;
+          whole = rw (append-nil h.text) at f.whole;
+          calm = calm_calm start now next h.calm calm;
+          last = h.last;
+        }
+
+    pub listed_cut : Passes now next waiting [] waits → HasFailed now next
+        → StopsListing form start next segments fault.Write
+    listed_cut passes failed =
+        let f = flows_on next waiting waits [] (sym (append-nil waiting)) passes in
+        let whole = rw (append-nil h.text) at f.whole in
+        let prefix : IsPrefixOfList form segments f.taken = record {
+          first = segments;
+          others = [];
+          tail = waits;
+          some_first = sym (append-nil segments);
+          lines = rw (← whole) h.lines;
+        } in
+        (record { taken = f.taken; takes = f.takes; prefix = prefix }, calm_failed start now next h.calm failed)
+
+    pub listed_all_cut : {pushed : List ℕ} (counts : Counts) → pushed ≡ waiting ++ last_line form counts
+        → Passes now next pushed [] waits → HasFailed now next
+        → StopsListingAll form start next segments counts fault.Write
+    listed_all_cut {pushed} counts same passes failed =
+        let f = flows_on next pushed waits (last_line form counts) same passes in
+        let cut : HasListedCut form start next segments counts =
+        record { text = h.text; taken = f.taken; tail = waits; lines = h.lines; takes = f.takes; whole = f.whole } in
+        (cut, calm_failed start now next h.calm failed)

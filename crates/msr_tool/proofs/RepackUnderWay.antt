@@ -1,38 +1,35 @@
 -- The state of repacking between two rows.
-use Rattle.std.proofs.Common.{◌≡◌, ◌⊎◌, inl, inr, ℕ, ◌*◌, ◌^◌, ◌<◌, ◌≤◌, List, [], ◌∷◌, ◌++◌, ◌∙◌, length, map, All, refl, sym, subst, Ok, Err, IsErrOf, Option, IfSome, arith}
+use Rattle.std.proofs.Common.{◌≡◌, ◌⊎◌, inl, inr, ℕ, ◌*◌, ◌^◌, ◌<◌, ◌≤◌, List, [], ◌∷◌, ◌++◌, ◌∙◌, length, map, All, refl, Ok, Err, IsErrOf, IfSome, arith}
 use Rattle.std.proofs.Math.Nat.{mul-le-mul_right}
 use Rattle.std.proofs.lemmas.List.Elements.{All-cons, All-head, All-nil, All-tail}
 use Rattle.std.specs.Option.{option_to_list}
-use Rattle.msr_kinds.specs.declared.forms.Form.{Form}
 use Rattle.msr_kinds.specs.Lengths.{bytes_of}
 use Rattle.msr_segments.specs.declared.joiner.Segment.{Segment}
 use Rattle.msr_segments.specs.Joining.{Joining}
-use Rattle.msr_devices.specs.Device.{Device, HasFailed, IsCalm}
+use Rattle.msr_devices.specs.Device.{Device, IsCalm}
 use Rattle.msr_devices.proofs.Chaining.{left_of, steady_sound}
 use Rattle.msr_base.specs.declared.counts.Counts.{Counts}
 use Rattle.msr_report.specs.declared.report.Report.{Report}
 use Rattle.msr_report.specs.declared.report.SegmentLine.{SegmentLine}
 use Rattle.msr_report.specs.Proper.{IsProperLine}
 use Rattle.msr_report_reader.specs.Content.{IsFirst}
-use Rattle.msr_input.specs.Input.{AllAgree, NoneOverruns, rows_of_records}
+use Rattle.msr_input.specs.Input.{rows_of_records}
 use Rattle.msr_input.specs.Reading.{GaveReadable, HoldsRecord, IsWritable, StopsReading}
 use Rattle.msr_input.specs.Records.{HaveComeShort}
 use Rattle.msr_input.specs.Rows.{RowReading}
-use Rattle.msr_input.specs.declared.settings.Settings.{Settings}
 use Rattle.msr_input.specs.declared.fault.ReadFault.{ReadFault}
 use Rattle.msr_input.specs.declared.fault.ReadFault.TheVariants as read
-use Rattle.msr_input.specs.declared.row_reader.NextRow.{NextRow}
 use Rattle.msr_output.specs.Output.{Packed, OutputKeepsSegments, OutputHasSize, segment_of_packed, count_of_runs}
-use Rattle.msr_output.specs.Decided.{IsDecidedOutput, IsEncoded}
+use Rattle.msr_output.specs.Decided.{IsEncoded}
 use Rattle.msr_options.specs.Choice.{Choice, form_chosen, size_of}
 use Rattle.msr_tool.specs.Settings.{settings_of}
-use Rattle.msr_tool.specs.Writing.{Lined, GoesOn, HasLined, LinesMore, LinesAll, current_with, ended_with}
+use Rattle.msr_tool.specs.Writing.{Lined, GoesOn, HasLined, LinesAll}
 use Rattle.msr_tool.specs.Answer.{Answers, AreLinesOf}
 use Rattle.msr_tool.specs.Fault.{fault_of_reading}
 use Rattle.msr_tool.specs.KeepingUp.{HasKeptUp}
 use Rattle.msr_tool.specs.declared.fault.ToolFault.TheVariants as fault
-use Rattle.msr_tool.proofs.Lines.{calm_lined, lined_decided, records_of_lines}
-use Rattle.msr_tool.proofs.RowsSoFar.{RowsSoFar, RecordMore, rows_begun}
+use Rattle.msr_tool.proofs.Lines.{lined_decided, records_of_lines}
+use Rattle.msr_tool.proofs.RowsSoFar.{RowsSoFar, rows_begun}
 use Rattle.msr_tool.proofs.StoppedRepacks.{IsAnswered}
 
 pub record UnderWay (choice : Choice) (source0 source sink0 sink : Device) (reading : RowReading)
@@ -46,44 +43,6 @@ pub record UnderWay (choice : Choice) (source0 source sink0 sink : Device) (read
   pub form : so_far.writing.form ≡ form_chosen choice
   pub calm : IsCalm sink0 sink
 
--- one more record is read and written
-pub more : (choice : Choice) (source0 source' sink0 sink' : Device) (reading' : RowReading) (so_far' : Lined)
-    (packed : List Packed) (joining : Joining) (next : Option NextRow)
-    → RecordMore (settings_of choice) source0 source' reading' (map segment_of_packed packed) joining next
-    → LinesMore sink0 sink' so_far' packed (option_to_list (ended_with next joining.current))
-    (current_with next joining.current) → IfSome so_far'.last (GoesOn so_far'.writing.form)
-    → IfSome so_far'.last IsEncoded → so_far'.writing.form ≡ form_chosen choice
-    → UnderWay choice source0 source' sink0 sink' reading' so_far'
-more choice source0 source' sink0 sink' reading' so_far' packed joining next m wrote goes_on encoded form = record {
-  packed = wrote.all;
-  joining = m.new;
-  rows = subst (λ (given : List Segment). RowsSoFar (settings_of choice) source0 source' reading' given m.new)
-      (sym wrote.same) m.rows;
-  lined = subst (λ (current : Option Segment). HasLined sink0 sink' so_far' wrote.all current)
-      (sym m.current) wrote.after;
-  goes_on = goes_on;
-  encoded = encoded;
-  form = form;
-  calm = calm_lined sink0 sink' so_far' wrote.all (current_with next joining.current) wrote.after;
-}
-
--- what waits is written
-pub flushed : (choice : Choice) (source0 source sink0 sink sink' : Device) (reading : RowReading)
-    (so_far so_far' : Lined) (u : UnderWay choice source0 source sink0 sink reading so_far)
-    → HasLined sink0 sink' so_far' u.packed u.joining.current → so_far'.last ≡ so_far.last
-    → so_far'.writing.form ≡ so_far.writing.form
-    → UnderWay choice source0 source sink0 sink' reading so_far'
-flushed choice source0 source sink0 sink sink' reading so_far so_far' u wrote last form = record {
-  packed = u.packed;
-  joining = u.joining;
-  rows = u.rows;
-  lined = wrote;
-  goes_on = rw (last, form) u.goes_on;
-  encoded = rw last u.encoded;
-  form = form ∙ u.form;
-  calm = calm_lined sink0 sink' so_far' u.packed u.joining.current wrote;
-}
-
 abbrev HasSome : Packed → Type 0
 HasSome packed = 1 ≤ length packed.segment.samples
 
@@ -94,12 +53,9 @@ proper_lines [] lines writable are = rw are (All-nil IsProperLine)
 proper_lines (one ∷ packed) [] writable are = absurd are
 proper_lines (one ∷ packed) (its ∷ lines) writable are =
     let head : IsWritable one.segment = All-head IsWritable one.segment (map segment_of_packed packed) writable in
-    let first : IsProperLine its = record {
-      quality = rw are.0.key head.quality;
-      start = rw are.0.start head.in_time.first_in;
-    } in
-    All-cons IsProperLine its lines first (proper_lines packed lines
-    (All-tail IsWritable one.segment (map segment_of_packed packed) writable) are.1)
+    All-cons IsProperLine its lines
+    (record { quality = rw are.0.key head.quality; start = rw are.0.start head.in_time.first_in })
+    (proper_lines packed lines (All-tail IsWritable one.segment (map segment_of_packed packed) writable) are.1)
 
 some_samples : (packed : List Packed) → All IsWritable (map segment_of_packed packed) → All HasSome packed
 some_samples [] writable = All-nil HasSome
@@ -167,61 +123,51 @@ done choice source0 sink0 sink segments lines counts report gave can wrote least
 abbrev pub IsReady : RowReading → Lined → Type 0
 IsReady reading so_far = HoldsRecord reading.position.waiting ⊎ (so_far.writing.waiting ≡ [])
 
--- a reader that fails when nothing waits
-kept_up_so : (choice : Choice) (source0 source source' sink0 sink : Device) (reading reading' : RowReading)
-    (so_far : Lined) (u : UnderWay choice source0 source sink0 sink reading so_far) → so_far.writing.waiting ≡ []
-    → HaveComeShort source0 source' u.rows.records reading'.position.waiting
-    → (HoldsRecord reading'.position.waiting → ⊥) → HasKeptUp choice source0 source' sink0 sink
-kept_up_so choice source0 source source' sink0 sink reading reading' so_far u none came short =
-    let left = left_of source' in
-    let begun = came.begins left.0 left.1 in
-    let wrote = lined_decided sink0 sink so_far u.packed u.joining.current u.goes_on u.encoded none u.lined in
-    let given = rows_begun (settings_of choice) source0 source reading
-    (map segment_of_packed u.packed) u.joining u.rows in
-    record {
-      input = begun.0;
-      records = u.rows.records;
-      waiting = reading'.position.waiting;
-      rest = left.0;
-      segments = map segment_of_packed u.packed ++ option_to_list u.joining.current;
-      written = wrote.bytes;
-      left = begun.1;
-      are_read = record {
-        begins = begun.2;
-        in_range = subst (λ (settings : Settings). NoneOverruns settings.tolerance u.rows.records) u.rows.same
-            u.rows.has_read.in_range;
-        agree = subst (λ (settings : Settings). AllAgree settings.strict u.rows.records) u.rows.same
-            u.rows.has_read.came.agree;
-      };
-      came = came.moved;
-      none_whole = short;
-      are_segments = given;
-      takes = wrote.takes;
-      went = wrote.went;
-      decided = subst (λ (f : Form). IsDecidedOutput f
-          (map segment_of_packed u.packed ++ option_to_list u.joining.current) wrote.bytes) u.form wrote.decided;
-    }
-
 read_fault : (why : ReadFault) → IsErrOf {T = Report} (Err (fault_of_reading why)) fault.Read → why ≡ read.Read
 read_fault (read.Input other) e = absurd cc
 read_fault read.Read e = refl
 read_fault read.Memory e = absurd cc
 
--- when a read failed, nothing waited
-pub kept_up : (choice : Choice) (source0 source source' sink0 sink : Device) (reading reading' : RowReading)
-    (so_far : Lined) (why : ReadFault) (u : UnderWay choice source0 source sink0 sink reading so_far)
-    → IsReady reading so_far → IsErrOf {T = Report} (Err (fault_of_reading why)) fault.Read
-    → StopsReading (settings_of choice) source0 source'
-    (map segment_of_packed u.packed ++ option_to_list u.joining.current) why
-    → (HoldsRecord reading.position.waiting → source' ≡ source)
-    → (why ≡ read.Read → HaveComeShort source0 source' u.rows.records reading'.position.waiting)
-    → (why ≡ read.Read → HoldsRecord reading'.position.waiting → ⊥) → HasKeptUp choice source0 source' sink0 sink
-kept_up choice source0 source source' sink0 sink reading reading' so_far why u (inl holds) e stops unread came short =
-    let is = read_fault why e in
-    let failed = subst (λ (w : ReadFault). StopsReading (settings_of choice) source0 source'
-    (map segment_of_packed u.packed ++ option_to_list u.joining.current) w) is stops in
-    absurd (steady_sound source0 source u.rows.has_read.came.steady
-    (subst (λ (d : Device). HasFailed source0 d) (unread holds) failed.1))
-kept_up choice source0 source source' sink0 sink reading reading' so_far why u (inr none) e stops unread came short =
-    let is = read_fault why e in
-    kept_up_so choice source0 source source' sink0 sink reading reading' so_far u none (came is) (short is)
+module _ {choice : Choice} {source0 source source' sink0 sink : Device} {reading : RowReading}
+    {so_far : Lined} (reading' : RowReading) (u : UnderWay choice source0 source sink0 sink reading so_far) where
+  -- a reader that fails when nothing waits
+  kept_up_so : so_far.writing.waiting ≡ [] → HaveComeShort source0 source' u.rows.records reading'.position.waiting
+      → (HoldsRecord reading'.position.waiting → ⊥) → HasKeptUp choice source0 source' sink0 sink
+  kept_up_so none came short =
+      let left = left_of source' in
+      let begun = came.begins left.0 left.1 in
+      let wrote = lined_decided u.lined u.encoded none in
+      record {
+        input = begun.0;
+        records = u.rows.records;
+        waiting = reading'.position.waiting;
+        rest = left.0;
+        segments = map segment_of_packed u.packed ++ option_to_list u.joining.current;
+        written = wrote.bytes;
+        left = begun.1;
+        are_read = rw (← u.rows.same) (record {
+          begins = begun.2;
+          in_range = u.rows.has_read.in_range;
+          agree = u.rows.has_read.came.agree;
+        });
+        came = came.moved;
+        none_whole = short;
+        are_segments = rows_begun u.rows;
+        takes = wrote.takes;
+        went = wrote.went;
+        decided = rw (← u.form) wrote.decided;
+      }
+
+  -- when a read failed, nothing waited
+  pub kept_up : (why : ReadFault) → IsReady reading so_far
+      → IsErrOf {T = Report} (Err (fault_of_reading why)) fault.Read → StopsReading (settings_of choice) source0 source'
+      (map segment_of_packed u.packed ++ option_to_list u.joining.current) why
+      → (HoldsRecord reading.position.waiting → source' ≡ source)
+      → (why ≡ read.Read → HaveComeShort source0 source' u.rows.records reading'.position.waiting)
+      → (why ≡ read.Read → HoldsRecord reading'.position.waiting → ⊥) → HasKeptUp choice source0 source' sink0 sink
+  kept_up why (inl holds) e stops unread came short =
+      let failed = rw (read_fault why e) at stops in
+      absurd (steady_sound source0 source u.rows.has_read.came.steady (rw (unread holds) at failed.1))
+  kept_up why (inr none) e stops unread came short =
+      let is = read_fault why e in
+      kept_up_so none (came is) (short is)

@@ -1,9 +1,8 @@
 -- What was repacked is readable, with the segments of the input.
-use Rattle.std.proofs.Common.{◌≡◌, ◌∙◌, ℕ, ◌^◌, ◌≤◌, lit<, List, [], ◌∷◌, ◌++◌, drop, length, length-append, map, arith, refl, sym, ap, subst, Option, None, Some, IfNone, IfSome, Ok}
+use Rattle.std.proofs.Common.{◌≡◌, ◌∙◌, ℕ, ◌^◌, ◌≤◌, lit<, List, [], ◌∷◌, ◌++◌, drop, length, length-append, map, arith, refl, sym, ap, Option, None, Some, IfNone, IfSome, Ok}
 use Rattle.std.proofs.Math.Nat.{pow-le-pow_right}
 use Rattle.std.proofs.lemmas.List.{drop_at}
 use Rattle.std.specs.List.{flat_map}
-use Rattle.std.specs.Prelude.{All}
 use Rattle.msr_kinds.specs.Lengths.{bytes_of}
 use Rattle.msr_kinds.specs.RecordLength.{IsRecordLength}
 use Rattle.msr_header.specs.Reading.{header_of}
@@ -13,49 +12,26 @@ use Rattle.msr_rows.specs.declared.row.Record.{Record}
 use Rattle.msr_rows.specs.declared.row.Row.{Row}
 use Rattle.msr_rows.proofs.HeaderFacts.{one_header}
 use Rattle.msr_rows.proofs.OneAnswer.{one_record, one_row}
-use Rattle.msr_segments.specs.Segments.{AreSegments, IsDivision}
-use Rattle.msr_segments.specs.declared.joiner.Segment.{Segment}
 use Rattle.msr_segments.proofs.DivisionLaws.{one_list}
-use Rattle.msr_input.specs.Input.{BeginsWith, IsReadable, OneListOfRecords, mismatch_count, rows_of_records}
+use Rattle.msr_input.specs.Input.{BeginsWith, OneListOfRecords, rows_of_records}
 use Rattle.msr_input.proofs.Records.{nothing_begins}
 use Rattle.msr_output.specs.Output.{AreWritten, Cut, cuts_of, next_number, segment_of_packed}
 use Rattle.msr_tool.specs.Repacked.{ReadableHasSegments, RepackedHasSegments}
 use Rattle.msr_options.specs.Choice.{form_chosen}
-use Rattle.msr_tool.specs.Settings.{settings_of}
-use Rattle.msr_tool.specs.Shown.{EndsBeforeTheLast}
-use Rattle.msr_tool.proofs.ShownRows.{AreWithin, bytes_begin, cuts_within, lines_within, record_of, records_rows}
-use Rattle.msr_tool.proofs.ShownLeast.{none_overruns}
-
--- the reverse constant of each record that is written agrees
-all_agree : (size : ℕ) (rows : List Row) → mismatch_count (map (record_of size) rows) ≡ 0
-all_agree size [] = refl
-all_agree size (row ∷ rows) = omega (arith, all_agree size rows)
+use Rattle.msr_tool.proofs.ShownRows.{record_of, records_rows}
+use Rattle.msr_tool.proofs.ShownLeast.{read_again}
 
 pub repacked_segments : OneListOfRecords → RepackedHasSegments
 repacked_segments law choice strict input written report records segments r readable before =
-    let form = form_chosen choice in
-    let size = bytes_of form.length in
-    let parts = r.same_segments.parts in
-    let same : segments ≡ map segment_of_packed r.packed =
-    (law (settings_of choice) input records r.records segments
-    (map segment_of_packed r.packed) readable r.readable).1 in
-    let before_packed = subst (λ (s : List Segment). All EndsBeforeTheLast s) same before in
-    let within = lines_within r.packed report.segments.items r.is_report.lines r.is_report.proper.lines before_packed in
-    let cuts = cuts_within form r.packed r.output.packings within in
-    let begins = bytes_begin size 1 (flat_map cuts_of r.packed) r.rows written cuts r.output.records in
-    let found = map (record_of size) r.rows in
-    let division : IsDivision choice.tolerance (rows_of_records found) parts =
-    subst (λ (rows : List Row). IsDivision choice.tolerance rows parts)
-    (sym (records_rows size r.rows)) r.same_segments.division in
-    let within_parts = subst (λ (s : List Segment). AreWithin s) r.same_segments.each within in (
-      found,
+    let again = read_again law r readable before in (
+      map (record_of (bytes_of choice.record_length)) r.rows,
       record {
-        are_read = record {
-          begins = begins;
-          in_range = none_overruns choice.tolerance found parts division within_parts;
-          agree = λ is_strict. all_agree size r.rows;
+        are_read = again.are_read strict;
+        are_segments = record {
+          parts = r.same_segments.parts;
+          division = again.division;
+          each = again.each;
         };
-        are_segments = record { parts = parts; division = division; each = same ∙ r.same_segments.each };
       },
     )
 
@@ -67,7 +43,7 @@ in_time_by bytes None h row read none some time is =
     let count = ap (λ (g : Header). g.samples) (one_header bytes h is.header read is.has_area.has_samples.read) in
     absurd (omega (arith, count, none, is.has_area.has_samples.some))
 in_time_by bytes (Some other) h row read none some time is =
-    subst (λ (r : Row). RowIsInTime r) (one_row bytes other row some is) time
+    rw (← one_row bytes other row some is) time
 
 -- and that record is the one that was written
 first_written : (bytes : List ℕ) (size : ℕ) (row : Row) (found : Record) → IsRowOf bytes row
@@ -86,23 +62,18 @@ read_as_written : (size n : ℕ) (cuts : List Cut) (rows : List Row) (bytes : Li
     → AreWritten size n cuts rows bytes → BeginsWith records bytes [] → records ≡ map (record_of size) rows
 read_as_written size n [] rows bytes [] are begins = rw (are.0) refl
 read_as_written size n [] rows bytes (found ∷ records) are begins =
-    absurd (nothing_begins found (subst (λ (l : List ℕ). IsRecordOf l found) are.1 begins.0))
+    absurd (nothing_begins found (rw are.1 at begins.0))
 read_as_written size n (cut ∷ cuts) rows bytes [] are begins =
     let w = are.2 in
     absurd (some_bytes size w.first are.1 w.is_record.written.power w.is_record.size_is (sym w.all_bytes ∙ begins))
 read_as_written size n (cut ∷ cuts) rows bytes (found ∷ records) are begins =
     let w = are.2 in
-    let is : IsRecordOf (w.first ++ are.1) found = subst (λ (l : List ℕ). IsRecordOf l found) w.all_bytes begins.0 in
-    let same : found ≡ record_of size w.row =
-    first_written (w.first ++ are.1) size w.row found (w.is_record.decodes are.1) (w.is_record.reads are.1) is in
-    let left : drop size bytes ≡ are.1 = ap (drop size) w.all_bytes ∙ drop_at w.first are.1 size w.is_record.size_is in
+    let same : found ≡ record_of size w.row = first_written (w.first ++ are.1) size w.row found
+    (w.is_record.decodes are.1) (w.is_record.reads are.1) (rw w.all_bytes at begins.0) in
     let after : drop found.length bytes ≡ are.1 =
-    ap (λ (record_read : Record). drop record_read.length bytes) same ∙ left in
-    let others = read_as_written size (next_number n) cuts are.0 are.1 records are.3
-    (subst (λ (l : List ℕ). BeginsWith records l []) after begins.1) in
-    ap (λ (first : Record). first ∷ records) same
-    ∙ ap (λ (rest : List Record). record_of size w.row ∷ rest) others
-    ∙ ap (λ (all : List Row). map (record_of size) all) (sym w.all_rows)
+    rw (same, w.all_bytes) (drop_at w.first are.1 size w.is_record.size_is) in
+    let others = read_as_written size (next_number n) cuts are.0 are.1 records are.3 (rw after at begins.1) in
+    rw (same, others, w.all_rows) refl
 
 pub readable_segments : ReadableHasSegments
 readable_segments choice strict input written report found segments r readable =
@@ -111,10 +82,6 @@ readable_segments choice strict input written report found segments r readable =
     read_as_written size 1 (flat_map cuts_of r.packed) r.rows written found r.output.records
     readable.are_read.begins in
     let rows : rows_of_records found ≡ r.rows = ap rows_of_records same ∙ records_rows size r.rows in
-    let are : AreSegments choice.tolerance r.rows segments =
-    subst (λ (all : List Row). AreSegments choice.tolerance all segments) rows readable.are_segments in
-    let packed : segments ≡ map segment_of_packed r.packed =
-    one_list choice.tolerance r.rows segments (map segment_of_packed r.packed) are r.same_segments in (
-      r.records,
-      subst (λ (all : List Segment). IsReadable (settings_of choice) input r.records all) (sym packed) r.readable,
-    )
+    let packed = one_list choice.tolerance r.rows segments (map segment_of_packed r.packed)
+    (rw rows at readable.are_segments) r.same_segments in
+    (r.records, rw packed r.readable)

@@ -1,5 +1,5 @@
 -- The parts of the rows of an output are its segments, in their runs.
-use Rattle.std.proofs.Common.{◌≡◌, ℕ, ◌+◌, ◌-◌, List, [], ◌∷◌, ◌++◌, ◌∙◌, length, map, arith, refl, sym, ap, subst, length-append}
+use Rattle.std.proofs.Common.{◌≡◌, ℕ, ◌+◌, ◌-◌, List, [], ◌∷◌, ◌++◌, ◌∙◌, length, map, arith, refl, sym, ap, length-append}
 use Rattle.std.specs.List.{flat_map}
 use Rattle.std.specs.Prelude.{All}
 use Rattle.std.proofs.lemmas.List.Elements.{All-head, All-tail}
@@ -7,46 +7,38 @@ use Rattle.msr_kinds.specs.declared.forms.Form.{Form}
 use Rattle.msr_kinds.specs.Lengths.{bytes_of}
 use Rattle.msr_words.proofs.Runs.{same_run}
 use Rattle.msr_words.specs.declared.kinds.Run.{Run}
-use Rattle.msr_words.specs.Fit.{records_of}
-use Rattle.msr_words.specs.Packing.{Joins, IsSeparating}
+use Rattle.msr_words.specs.Packing.{Joins}
 use Rattle.msr_rows.specs.declared.row.Row.{Row}
 use Rattle.msr_segments.specs.declared.joiner.Segment.{Segment}
 use Rattle.msr_segments.specs.Segments.{Part, rows_of, segment_of}
-use Rattle.msr_segments.proofs.Divisions.{no_empty}
 use Rattle.msr_report.specs.declared.report.SegmentLine.{SegmentLine}
 use Rattle.msr_output.specs.Output.{Packed, IsPacked, AreWritten, next_number, number_after, cuts_at, cuts_of, segment_of_packed}
 use Rattle.msr_output.specs.Writing.{IsLineOf}
 use Rattle.msr_output.proofs.CutRows.{IsFitting, written_split}
+use Rattle.msr_output.proofs.Existing.{all_left, all_right}
 use Rattle.msr_verdict.specs.Packed.{runs_of_rows, IsShownAs, IsShownBy, AreShownBy}
 use Rattle.msr_verdict.proofs.Runs.{samples_of, segment_samples}
 use Rattle.msr_tool.specs.Answer.{AreLinesOf}
-use Rattle.msr_tool.proofs.ShownRows.{IsSound, AreSound, range_length}
-
-first_sound : (xs ys : List Row) → AreSound (xs ++ ys) → AreSound xs
-first_sound [] ys sound = tt
-first_sound (x ∷ xs) ys sound = (sound.0, first_sound xs ys sound.1)
-
-sound_rest : (xs ys : List Row) → AreSound (xs ++ ys) → AreSound ys
-sound_rest [] ys sound = sound
-sound_rest (x ∷ xs) ys sound = sound_rest xs ys sound.1
+use Rattle.msr_tool.proofs.ShownRows.{IsSound, range_length}
 
 some_samples : (row : Row) (rows : List Row) → IsSound row → 0 ≡ length (samples_of (row ∷ rows)) → ⊥
 some_samples row rows is e = omega (arith, e, is.some, length-append row.samples (samples_of rows))
 
 -- prefixes of the same rows with as many samples are the same prefix, since each row has some
-same_prefix : (xs ys u v : List Row) → xs ++ u ≡ ys ++ v → AreSound xs → AreSound ys
+same_prefix : (xs ys u v : List Row) → xs ++ u ≡ ys ++ v → All IsSound xs → All IsSound ys
     → length (samples_of xs) ≡ length (samples_of ys) → (xs ≡ ys) × (u ≡ v)
 same_prefix [] [] u v e first second size = (refl, e)
-same_prefix [] (y ∷ ys) u v e first second size = absurd (some_samples y ys second.0 size)
-same_prefix (x ∷ xs) [] u v e first second size = absurd (some_samples x xs first.0 (sym size))
+same_prefix [] (y ∷ ys) u v e first second size = absurd (some_samples y ys (All-head IsSound y ys second) size)
+same_prefix (x ∷ xs) [] u v e first second size =
+    absurd (some_samples x xs (All-head IsSound x xs first) (sym size))
 same_prefix (x ∷ xs) (y ∷ ys) u v e first second size =
     let h : x ≡ y = cc in
     let t : xs ++ u ≡ ys ++ v = cc in
     let count : length x.samples ≡ length y.samples = ap (λ (r : Row). length r.samples) h in
     let rest : length (samples_of xs) ≡ length (samples_of ys) =
     omega (arith, size, count, length-append x.samples (samples_of xs), length-append y.samples (samples_of ys)) in
-    let same = same_prefix xs ys u v t first.1 second.1 rest in
-    (ap (λ (r : Row). r ∷ xs) h ∙ ap (λ (r : List Row). y ∷ r) same.0, same.1)
+    let same = same_prefix xs ys u v t (All-tail IsSound x xs first) (All-tail IsSound y ys second) rest in
+    (rw (h, same.0) refl, same.1)
 
 -- The rows of a segment's records are its runs, and have all its samples.
 record AreRuns (a : ℕ) (runs : List Run) (end : ℕ) (rows : List Row) : Type 0 where
@@ -58,8 +50,7 @@ are_runs : (form : Form) (n : ℕ) (segment : Segment) (runs : List Run) (a : �
     → AreWritten (bytes_of form.length) n (cuts_at segment runs) rows bytes
     → AreRuns a runs (length segment.samples) rows
 are_runs form n segment [] a rows bytes fitting joined are =
-    subst (λ (r : List Row). AreRuns a [] (length segment.samples) r) (sym are.0)
-    (record { same = refl; size = omega (arith, joined) })
+    rw are.0 (record { same = refl; size = omega (arith, joined) })
 are_runs form n segment (run ∷ runs) a rows bytes fitting joined are =
     let w = are.2 in
     let is_row = w.is_record.of_run in
@@ -72,14 +63,10 @@ are_runs form n segment (run ∷ runs) a rows bytes fitting joined are =
     (All-tail (IsFitting form segment.samples) run runs fitting) joined.1 are.3 in
     let first : Run = record { start = a; end = a + length w.row.samples; kind = w.row.kind } in
     let is_first : first ≡ run = same_run first run (sym start) end is_row.kind in
-    let others : runs_of_rows (a + length w.row.samples) are.0 ≡ runs = ap (λ (m : ℕ). runs_of_rows m are.0) end
-    ∙ rest.same in
-    let all : AreRuns a (run ∷ runs) (length segment.samples) (w.row ∷ are.0) = record {
-      same = ap (λ (r : Run). r ∷ runs_of_rows (a + length w.row.samples) are.0) is_first
-          ∙ ap (λ (rs : List Run). run ∷ rs) others;
+    rw w.all_rows (record {
+      same = rw (is_first, end, rest.same) refl;
       size = omega (arith, end, rest.size, length-append w.row.samples (samples_of are.0));
-    } in
-    subst (λ (r : List Row). AreRuns a (run ∷ runs) (length segment.samples) r) (sym w.all_rows) all
+    })
 
 -- the line of a packed segment shows it
 is_shown : (form : Form) (packed : Packed) (line : SegmentLine) → IsPacked form packed → IsLineOf packed line
@@ -90,24 +77,20 @@ is_shown form packed line is its = record {
   samples = its.samples;
   records = its.records;
   packing = is.packing;
-  separating = subst (λ (s : List ℕ). IsSeparating (records_of form) packed.segment.samples s) (sym its.separators)
-      is.separating;
-  as_many = is.as_many ∙ ap length (sym its.separators);
+  separating = rw its.separators is.separating;
+  as_many = rw its.separators is.as_many;
 }
 
 -- the parts of the rows are shown by the lines of the segments
 pub are_shown : (form : Form) (n : ℕ) (packed : List Packed) (lines : List SegmentLine) (parts : List Part)
     (rows : List Row) (bytes : List ℕ) → All (IsPacked form) packed → AreLinesOf packed lines
-    → map segment_of_packed packed ≡ map segment_of parts → rows ≡ flat_map rows_of parts → AreSound rows
+    → map segment_of_packed packed ≡ map segment_of parts → rows ≡ flat_map rows_of parts → All IsSound rows
     → AreWritten (bytes_of form.length) n (flat_map cuts_of packed) rows bytes → AreShownBy form parts lines
 are_shown form n [] [] [] rows bytes packings lines_are each whole sound are = tt
-are_shown form n [] [] (p ∷ ps) rows bytes packings lines_are each whole sound are =
-    absurd (no_empty [] (map segment_of ps) (segment_of p) each)
-are_shown form n [] (line ∷ lines) parts rows bytes packings lines_are each whole sound are =
-    absurd (no_empty [] lines line (sym lines_are))
+are_shown form n [] [] (p ∷ ps) rows bytes packings lines_are each whole sound are = absurd cc
+are_shown form n [] (line ∷ lines) parts rows bytes packings lines_are each whole sound are = absurd cc
 are_shown form n (one ∷ packed) [] parts rows bytes packings lines_are each whole sound are = absurd lines_are
-are_shown form n (one ∷ packed) (line ∷ lines) [] rows bytes packings lines_are each whole sound are =
-    absurd (no_empty [] (map segment_of_packed packed) one.segment (sym each))
+are_shown form n (one ∷ packed) (line ∷ lines) [] rows bytes packings lines_are each whole sound are = absurd cc
 are_shown form n (one ∷ packed) (line ∷ lines) (p ∷ ps) rows bytes packings lines_are each whole sound are =
     let head : one.segment ≡ segment_of p = cc in
     let tail : map segment_of_packed packed ≡ map segment_of ps = cc in
@@ -116,18 +99,16 @@ are_shown form n (one ∷ packed) (line ∷ lines) (p ∷ ps) rows bytes packing
     let runs = are_runs form n one.segment one.runs 0 split.first_rows split.first_bytes is.packing.each_fits
     is.packing.joined split.first in
     let two : split.first_rows ++ split.other_rows ≡ rows_of p ++ flat_map rows_of ps = sym split.whole ∙ whole in
-    let sound_first = subst (λ (r : List Row). AreSound r) split.whole sound in
-    let sound_parts = subst (λ (r : List Row). AreSound r) whole sound in
+    let sound_first = rw split.whole at sound in
     let total : length (samples_of (rows_of p)) ≡ length one.segment.samples = ap length (sym (segment_samples p))
     ∙ ap (λ (s : Segment). length s.samples) (sym head) in
     let same = same_prefix split.first_rows (rows_of p) split.other_rows (flat_map rows_of ps) two
-    (first_sound split.first_rows split.other_rows sound_first)
-    (first_sound (rows_of p) (flat_map rows_of ps) sound_parts) (omega (arith, total, runs.size)) in
+    (all_left IsSound split.first_rows split.other_rows sound_first)
+    (all_left IsSound (rows_of p) (flat_map rows_of ps) (rw whole at sound)) (omega (arith, total, runs.size)) in
     let its_runs : one.runs ≡ runs_of_rows 0 (rows_of p) = sym runs.same ∙ ap (runs_of_rows 0) same.0 in
-    let shown : IsShownBy form p line = subst (λ (r : List Run). IsShownAs form (segment_of p) r line) its_runs
-    (subst (λ (s : Segment). IsShownAs form s one.runs line) head (is_shown form one line is lines_are.0)) in (
+    let shown : IsShownBy form p line = rw (← its_runs, ← head) (is_shown form one line is lines_are.0) in (
       shown,
       are_shown form (number_after n (cuts_of one)) packed lines ps split.other_rows split.other_bytes
           (All-tail (IsPacked form) one packed packings) lines_are.1 tail same.1
-          (sound_rest split.first_rows split.other_rows sound_first) split.others,
+          (all_right IsSound split.first_rows split.other_rows sound_first) split.others,
     )

@@ -1,11 +1,11 @@
 -- The last segment of a prefix of some rows is a prefix of a segment of all of them.
-use Rattle.std.proofs.Common.{◌≡◌, ◌⊎◌, inl, inr, ℕ, ◌+◌, ◌≤◌, List, [], ◌∷◌, ◌++◌, ◌∙◌, length, map, arith, refl, sym, ap, subst, append_assoc, length-append}
+use Rattle.std.proofs.Common.{◌≡◌, ◌⊎◌, inl, inr, ℕ, ◌≤◌, List, [], ◌∷◌, ◌++◌, ◌∙◌, length, map, arith, refl, sym, ap, subst, append_assoc, length-append}
 use Rattle.std.specs.List.{flat_map}
 use Rattle.std.proofs.lemmas.Grind.{flat_map-append}
 use Rattle.std.proofs.lemmas.List.{append-nil, map-append}
 use Rattle.msr_rows.specs.declared.row.Row.{Row}
 use Rattle.msr_segments.specs.declared.joiner.Segment.{Segment}
-use Rattle.msr_segments.specs.Segments.{Part, rows_of, segment_of, ContinuesSegment, IsJoined, IsDivision, AreSegments}
+use Rattle.msr_segments.specs.Segments.{Part, rows_of, segment_of, IsJoined, IsDivision, AreSegments}
 use Rattle.msr_segments.proofs.Divisions.{no_empty, cases_last, last_same}
 use Rattle.msr_segments.proofs.DivisionLaws.{one_list}
 
@@ -33,20 +33,6 @@ pub record IsCutIn (parts : List Part) (prefix : List Row) : Type 0 where
   pub rows : part.1 ≡ kept ++ left
   pub prefix_is : prefix ≡ flat_map rows_of before ++ part.0 ∷ kept
 
-cut_later : (p : Part) (ps : List Part) (prefix : List Row) (c : IsCutIn ps prefix)
-    → IsCutIn (p ∷ ps) (rows_of p ++ prefix)
-cut_later p ps prefix c = record {
-  before = p ∷ c.before;
-  after = c.after;
-  part = c.part;
-  kept = c.kept;
-  left = c.left;
-  whole = ap (λ (xs : List Part). p ∷ xs) c.whole;
-  rows = c.rows;
-  prefix_is = ap (λ (r : List Row). rows_of p ++ r) c.prefix_is
-      ∙ sym (append_assoc (rows_of p) (flat_map rows_of c.before) (c.part.0 ∷ c.kept));
-}
-
 cut_parts : (parts : List Part) (first : Row) (prefix rest : List Row)
     → flat_map rows_of parts ≡ first ∷ (prefix ++ rest) → IsCutIn parts (first ∷ prefix)
 cut_parts [] first prefix rest e = absurd (no_empty [] (prefix ++ rest) first e)
@@ -65,10 +51,22 @@ cut_parts (p ∷ ps) first prefix rest e =
         prefix_is = ap (λ (r : Row). r ∷ prefix) (sym h);
       }
       | inr w ↦
-          let later = cut_later p ps (w.0 ∷ w.1) (cut_parts ps w.0 w.1 rest w.3) in
-          let same : rows_of p ++ w.0 ∷ w.1 ≡ first ∷ prefix = ap (λ (r : Row). r ∷ (p.1 ++ w.0 ∷ w.1)) h
-          ∙ ap (λ (r : List Row). first ∷ r) (sym w.2) in
-          subst (λ (r : List Row). IsCutIn (p ∷ ps) r) same later
+          let c = cut_parts ps w.0 w.1 rest w.3 in
+          record {
+            before = p ∷ c.before;
+            after = c.after;
+            part = c.part;
+            kept = c.kept;
+            left = c.left;
+            whole = ap (λ (xs : List Part). p ∷ xs) c.whole;
+            rows = c.rows;
+            prefix_is = rw (
+              ← h,
+              w.2,
+              c.prefix_is,
+              append_assoc (rows_of p) (flat_map rows_of c.before) (c.part.0 ∷ c.kept),
+            ) refl;
+          }
     ]
 
 -- the last part of the rows that are left
@@ -84,23 +82,23 @@ cut_division tolerance rows parts prefix c d =
     λ before after row e. d.joined c.before c.after c.part c.whole before (after ++ c.left) row
     (c.rows ∙ ap (λ (r : List Row). r ++ c.left) e ∙ append_assoc before (row ∷ after) c.left) in
     record {
-      whole = c.prefix_is ∙ ap (λ (r : List Row). flat_map rows_of c.before ++ r) (sym (append-nil (rows_of last)))
-          ∙ sym (flat_map-append rows_of c.before (last ∷ []));
+      whole = rw (c.prefix_is, flat_map-append rows_of c.before (last ∷ []), append-nil (rows_of last)) refl;
       joined = λ before after p e. elim (cases_last c.before before after last p e) [
         | inl w ↦ subst (λ (q : Part). IsJoined tolerance q) w.2 last_joined
         | inr w ↦ d.joined before (w.0 ++ c.part ∷ c.after) p
-            (c.whole ∙ ap (λ (ps : List Part). ps ++ c.part ∷ c.after) w.2
-            ∙ append_assoc before (p ∷ w.0) (c.part ∷ c.after))
+            (rw (c.whole, w.2, append_assoc before (p ∷ w.0) (c.part ∷ c.after)) refl)
       ];
       apart = λ before after p next e h. elim (cases_last c.before (before ++ p ∷ []) after last next
           (e ∙ sym (append_assoc before (p ∷ []) (next ∷ after)))) [
-            | inl w ↦ d.apart before c.after p c.part (c.whole ∙ ap (λ (ps : List Part). ps ++ c.part ∷ c.after) w.1
-                ∙ append_assoc before (p ∷ []) (c.part ∷ c.after)) (subst
-                (λ (q : Part). ContinuesSegment tolerance (segment_of p) q.0) (sym w.2) h)
+            | inl w ↦ d.apart before c.after p c.part
+                (rw (c.whole, w.1, append_assoc before (p ∷ []) (c.part ∷ c.after)) refl) (rw (← w.2) at h)
             | inr w ↦ d.apart before (w.0 ++ c.part ∷ c.after) p next
-                (c.whole ∙ ap (λ (ps : List Part). ps ++ c.part ∷ c.after)
-                (w.2 ∙ append_assoc before (p ∷ []) (next ∷ w.0))
-                ∙ append_assoc before (p ∷ next ∷ w.0) (c.part ∷ c.after)) h
+                (rw (
+                  c.whole,
+                  w.2,
+                  append_assoc before (p ∷ []) (next ∷ w.0),
+                  append_assoc before (p ∷ next ∷ w.0) (c.part ∷ c.after),
+                ) refl) h
           ];
     }
 
@@ -115,12 +113,10 @@ kept_prefix : (part : Part) (kept left : List Row) → part.1 ≡ kept ++ left
 unfolding segment_of
 kept_prefix part kept left e =
     let samples = λ (r : Row). r.samples in
-    let all : flat_map samples (rows_of part) ≡ flat_map samples (part.0 ∷ kept) ++ flat_map samples left =
-    ap (λ (rs : List Row). flat_map samples (part.0 ∷ rs)) e ∙ flat_map-append samples (part.0 ∷ kept) left in
-    let size : length (flat_map samples (rows_of part))
-    ≡ length (flat_map samples (part.0 ∷ kept)) + length (flat_map samples left) = ap length all
-    ∙ length-append (flat_map samples (part.0 ∷ kept)) (flat_map samples left) in
-    record { key = refl; start = refl; fewer = omega (arith, size) }
+    let all = ap (λ (rs : List Row). flat_map samples (part.0 ∷ rs)) e
+    ∙ flat_map-append samples (part.0 ∷ kept) left in
+    let size = length-append (flat_map samples (part.0 ∷ kept)) (flat_map samples left) in
+    record { key = refl; start = refl; fewer = omega (arith, ap length all, size) }
 
 -- the last segment of the start begins one of the segments of all rows
 pub record BeginsOne (last : Segment) (parts : List Part) : Type 0 where
@@ -148,6 +144,5 @@ last_of_prefix tolerance rows parts first prefix rest segments last d e a =
       after = c.after;
       part = c.part;
       whole = c.whole;
-      is_prefix = subst (λ (s : Segment). IsPrefixOf s (segment_of c.part)) (sym same)
-          (kept_prefix c.part c.kept c.left c.rows);
+      is_prefix = rw same (kept_prefix c.part c.kept c.left c.rows);
     }

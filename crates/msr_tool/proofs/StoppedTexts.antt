@@ -90,12 +90,6 @@ check_stops packed report out input text why left left_text a = record {
   answers = unspoken input text why a;
 }
 
--- there is no memory for the line of the verdict
-pub line_refused : (packed report out : Device) (input text : List ℕ) → HasLeft packed input → HasLeft report text →
-    Tells packed report out out (Err fault.Memory)
-line_refused packed report out input text left left_text =
-    check_stops packed report out input text fault.Memory left left_text tt
-
 -- the line of the verdict is not written whole
 pub line_cut : (packed report out0 out : Device) (input text line : List ℕ) (n : ℕ) (verdict : Verdict) →
     HasLeft packed input → HasLeft report text → IsChecked input text (Ok verdict) → line ≡ verdict_line verdict →

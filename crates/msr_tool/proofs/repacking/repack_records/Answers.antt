@@ -1,4 +1,4 @@
-use Rattle.std.proofs.Common.{inl, inr, ◌++◌, [], None, map, refl, ap, subst, rules}
+use Rattle.std.proofs.Common.{inl, inr, ◌∙◌, ◌++◌, [], None, map, refl, ap, subst, rules}
 use Rattle.std.proofs.lemmas.Result.{err_from_is_err_and}
 use Rattle.std.specs.Option.{option_to_list}
 use Rattle.msr_kinds.specs.Lengths.{bytes_of}
@@ -10,10 +10,10 @@ use Rattle.msr_devices.proofs.Chaining.{calm_same, steady_can_count}
 use Rattle.msr_output.specs.Output.{segment_of_packed}
 use Rattle.msr_tool.specs.Settings.{settings_of}
 use Rattle.msr_tool.specs.Writing.{StopsLining}
-use Rattle.msr_tool.proofs.Lines.{can_take_row, prefix_lined}
+use Rattle.msr_tool.proofs.Lines.{calm_lined, can_take_row, prefix_lined}
 use Rattle.msr_tool.proofs.RowsSoFar.{RecordMore, more_read, no_rows, record_more, rows_end, rows_read, rows_stop}
 use Rattle.msr_tool.proofs.StoppedRepacks.{all_ends, ok_unread, read_ends, read_failed, write_ends, write_failed, write_unread}
-use Rattle.msr_tool.proofs.RepackUnderWay.{UnderWay, done, flushed, kept_up, more}
+use Rattle.msr_tool.proofs.RepackUnderWay.{UnderWay, done, kept_up}
 use Rattle.msr_tool.proofs.repacking.repack_records.Given as given
 use Rattle.msr_tool.proofs.repacking.repack_records.Goals as goal
 use Rattle.msr_tool.proofs.repacking.repack_records.Goals.{After-must_flush, After-take}
@@ -42,12 +42,11 @@ one_read : (g : given.Over) (c : After-take g)
     (map segment_of_packed c.records.invariant.under.packed) c.records.invariant.under.joining c.in-Some.next.row
 one_read g c =
     let u = c.records.invariant.under in
-    let reads = rw c.in-Some.is at (c.in_ok-next.ensures.read
-    (g.R.Source.device c.args.source.now) u.rows.records u.rows.answers u.rows.has_read) in
+    let reads = rw c.in-Some.is at (c.in_ok-next.ensures.read _ _ _ u.rows.has_read) in
     let step = rw c.in-Some.is at c.in_ok-next.ensures.step in
     let bounds = rw c.in-Some.is at c.in_ok-next.ensures.in_bounds in
     let row = rw c.in-Some.is at c.in_ok-next.ensures.row in
-    record_more _ _ _ _ _ _ _ _ c.in-Some.next.row u.rows reads step c.next_record.ensures.settings bounds row
+    record_more u.rows _ _ c.in-Some.next.row reads step c.next_record.ensures.settings bounds row
 
 -- and its samples are written
 one_taken : (g : given.Over) (c : After-must_flush g)
@@ -58,9 +57,17 @@ one_taken : (g : given.Over) (c : After-must_flush g)
     (g.W.Sink.device c.args.sink.now) (g.W.Sink.device c.take.new.sink) c.next_record.new.self c.take.new.self
 one_taken g c m =
     let u = c.records.invariant.under in
-    more _ _ _ _ _ _ _ u.packed u.joining c.in-Some.next.row m
-    (c.in_ok-take.ensures.written _ u.packed u.joining.current u.lined) c.in_ok-take.ensures.last
-    (c.in_ok-take.ensures.encoded u.encoded) (rw c.in_ok-take.ensures.form u.form)
+    let wrote = c.in_ok-take.ensures.written _ _ _ u.lined in
+    record {
+      packed = wrote.all;
+      joining = m.new;
+      rows = rw wrote.same m.rows;
+      lined = rw m.current wrote.after;
+      goes_on = c.in_ok-take.ensures.last;
+      encoded = c.in_ok-take.ensures.encoded u.encoded;
+      form = rw c.in_ok-take.ensures.form u.form;
+      calm = calm_lined wrote.after;
+    }
 
 pub returns-in_err-next : goal.returns-in_err-next
 returns-in_err-next g c =
@@ -68,17 +75,15 @@ returns-in_err-next g c =
     let u = c.records.invariant.under in
     let given = map segment_of_packed u.packed ++ option_to_list u.joining.current in
     let why = c.in_err-next.field-0.0 in
-    let stops = rows_stop _ _ _ _ _ _ _ why u.rows
-    (c.in_err-next.ensures.read _ u.rows.records u.rows.answers u.rows.has_read) in
-    let prefix = rw u.form at (prefix_lined _ _ c.records.writer u.packed u.joining.current u.goes_on u.lined) in
+    let stops = rows_stop u.rows _ why (c.in_err-next.ensures.read _ _ _ u.rows.has_read) in
+    let prefix = rw u.form at (prefix_lined u.lined u.goes_on) in
     rw (p.1, p.2) (
-      read_ends _ (settings_of c.args.options) _ _ _ _ _ given why u.rows.has_read.came.steady
-          c.next_record.ensures.few u.calm.steady stops (read_failed c.args.options _ _ _ _ given why stops prefix),
-      λ is_before_reads e. kept_up _ _ _ _ _ _ _ c.next_record.new.self _ why u
+      read_ends u.rows.has_read.came.steady u.calm.steady (settings_of c.args.options) given why
+          c.next_record.ensures.few stops (read_failed c.args.options _ _ _ given _ why stops prefix),
+      λ is_before_reads e. kept_up c.next_record.new.self u why
           (c.records.invariant.ready is_before_reads) e stops c.in_err-next.ensures.unread
-          (λ read. c.in_err-next.ensures.failed
-          (g.R.Source.device c.args.source.now) u.rows.records u.rows.answers u.rows.has_read
-          (rw read refl)) (λ read. c.in_err-next.ensures.awaited (rw read refl)),
+          (λ read. c.in_err-next.ensures.failed _ _ _ u.rows.has_read (rw read refl))
+          (λ read. c.in_err-next.ensures.awaited (rw read refl)),
     )
 
 pub take-requires-clause-count : goal.take-requires-clause-count
@@ -89,8 +94,7 @@ take-requires-clause-row g c =
     let u = c.records.invariant.under in
     let step = rw c.in-Some.is at c.in_ok-next.ensures.step in
     let row = rw c.in-Some.is at c.in_ok-next.ensures.row in
-    can_take_row _ _ _ u.packed u.joining.current c.records.reader.following
-    c.next_record.new.self.following c.in-Some.next.row u.lined
+    can_take_row u.lined c.records.reader.following c.next_record.new.self.following c.in-Some.next.row
     (ap (λ (f : Following). f.current) u.rows.stands) u.rows.in_bounds step row
 
 pub returns-in_err-take : goal.returns-in_err-take
@@ -98,12 +102,13 @@ returns-in_err-take g c =
     let p = err_from_is_err_and c.from_residual-in_err-take.result c.from_residual-in_err-take.ensures.1 in
     let u = c.records.invariant.under in
     let m = one_read g (goal.at.returns-in_err-take g c).After-take in
-    let stops = rw u.form at (c.in_err-take.ensures.written
-    (g.W.Sink.device c.args.sink.now) u.packed u.joining.current u.lined) in
-    let after = more_read _ _ _ _ _ u.joining c.in-Some.next.row m in
-    let ends = write_ends _ _ _ _ _ _ _ _ c.in_err-take.field-0.0 m.rows.has_read.came.steady u.calm.steady
-    c.take.ensures.few stops (write_failed c.args.options _ _ _ _ _ after stops) in
-    rw (p.1, p.2) (ends, λ is_before_reads. write_unread _ _ _ _ _ stops)
+    let stops = rw u.form at (c.in_err-take.ensures.written _ _ _ u.lined) in
+    let after = more_read _ u.joining c.in-Some.next.row m in
+    rw (p.1, p.2) (
+      write_ends m.rows.has_read.came.steady u.calm.steady _ _ c.in_err-take.field-0.0 c.take.ensures.few stops
+          (write_failed c.args.options _ _ _ _ _ after stops),
+      λ is_before_reads. write_unread _ _ _ _ _ stops,
+    )
 
 pub returns-in_err-flush : goal.returns-in_err-flush
 returns-in_err-flush g c =
@@ -113,11 +118,12 @@ returns-in_err-flush g c =
     let why = c.in_err-flush.field-0.0 in
     let given = map segment_of_packed taken.packed ++ option_to_list taken.joining.current in
     let stops = subst (λ (form : Form). StopsLining form (g.W.Sink.device c.args.sink.now)
-    (g.W.Sink.device c.flush.new.sink) given why) taken.form
-    (c.in_err-flush.ensures.written _ taken.packed taken.joining.current taken.lined) in
-    let ends = write_ends _ _ _ _ _ _ _ _ why taken.rows.has_read.came.steady taken.calm.steady c.flush.ensures.few stops
-    (write_failed c.args.options _ _ _ _ why (rows_read _ _ _ _ _ taken.joining taken.rows) stops) in
-    rw (p.1, p.2) (ends, λ is_before_reads. write_unread _ _ _ _ why stops)
+    (g.W.Sink.device c.flush.new.sink) given why) taken.form (c.in_err-flush.ensures.written _ _ _ taken.lined) in
+    rw (p.1, p.2) (
+      write_ends taken.rows.has_read.came.steady taken.calm.steady _ _ why c.flush.ensures.few stops
+          (write_failed c.args.options _ _ _ _ why (rows_read taken.rows) stops),
+      λ is_before_reads. write_unread _ _ _ _ why stops,
+    )
 
 pub flush-requires-clause-count : goal.flush-requires-clause-count
 flush-requires-clause-count g c =
@@ -129,10 +135,18 @@ pub records-preserved-in-Continue-branch-4 : goal.records-preserved-in-Continue-
 records-preserved-in-Continue-branch-4 g c =
     let at = goal.at.records-preserved-in-Continue-branch-4 g c in
     let taken = one_taken g at.After-must_flush (one_read g at.After-take) in
+    let wrote = c.in_ok-flush.ensures.written _ _ _ taken.lined in
     rw c.give_back.ensures (record {
-      under = flushed _ _ _ _ _ _ _ _ _ taken
-          (c.in_ok-flush.ensures.written _ taken.packed taken.joining.current taken.lined)
-          c.flush.ensures.last c.flush.ensures.form;
+      under = record {
+        packed = taken.packed;
+        joining = taken.joining;
+        rows = taken.rows;
+        lined = wrote;
+        goes_on = rw (c.flush.ensures.last, c.flush.ensures.form) taken.goes_on;
+        encoded = rw c.flush.ensures.last taken.encoded;
+        form = c.flush.ensures.form ∙ taken.form;
+        calm = calm_lined wrote;
+      };
       ready = λ is_before_reads. inr c.in_ok-flush.ensures.none_wait;
     })
 
@@ -150,32 +164,23 @@ pub returns-in_err-segments : goal.returns-in_err-segments
 returns-in_err-segments g c =
     let p = err_from_is_err_and c.from_residual-in_err-segments.result c.from_residual-in_err-segments.ensures.1 in
     let u = c.records.invariant.under in
-    let end = rw c.in_default.is at (c.in_ok-next.ensures.read
-    (g.R.Source.device c.args.source.now) u.rows.records u.rows.answers u.rows.has_read) in
-    let stops = rw u.form at (c.in_err-segments.ensures.written
-    (g.W.Sink.device c.args.sink.now) u.packed u.joining.current u.lined) in
-    let ends = write_ends _ _ _ _ _ _ _ _ c.in_err-segments.field-0.0 end.none.read.came.steady u.calm.steady
-    c.finish.ensures.few stops (write_failed c.args.options _ _ _ _ _ (rows_read _ _ _ _ _ u.joining u.rows) stops) in
-    rw (p.1, p.2) (ends, λ is_before_reads. write_unread _ _ _ _ _ stops)
+    let end = rw c.in_default.is at (c.in_ok-next.ensures.read _ _ _ u.rows.has_read) in
+    let stops = rw u.form at (c.in_err-segments.ensures.written _ _ _ u.lined) in
+    rw (p.1, p.2) (
+      write_ends end.none.read.came.steady u.calm.steady _ _ c.in_err-segments.field-0.0 c.finish.ensures.few stops
+          (write_failed c.args.options _ _ _ _ _ (rows_read u.rows) stops),
+      λ is_before_reads. write_unread _ _ _ _ _ stops,
+    )
 
 pub returns : goal.returns
 returns g c =
     let u = c.records.invariant.under in
-    let end = rw c.in_default.is at (c.in_ok-next.ensures.read
-    (g.R.Source.device c.args.source.now) u.rows.records u.rows.answers u.rows.has_read) in
-    let gave = rows_end _ _ _ _ _ _ _ _ c.counts-counts.result u.rows end c.next_record.ensures.settings
-    c.counts-counts.ensures in
-    let wrote = rw u.form at (c.in_ok-segments.ensures.written
-    (g.W.Sink.device c.args.sink.now) u.packed u.joining.current u.lined) in
-    let is_first : IsFirst (bytes_of c.length.result) c.tolerance.result c.counts-counts.result = record {
-      is_length = is_length c.length.result;
-      least = c.tolerance.ensures.in_range.0;
-      most = c.tolerance.ensures.in_range.1;
-      read = search rules;
-      empty = search rules;
-      mismatched = search rules;
-    } in (
-      all_ends _ _ _ _ _ _ end.none.read.came.steady wrote.written.calm.steady
+    let end = rw c.in_default.is at (c.in_ok-next.ensures.read _ _ _ u.rows.has_read) in
+    let gave = rows_end u.rows _ _ _ end c.next_record.ensures.settings c.counts-counts.ensures in
+    let wrote = rw u.form at (c.in_ok-segments.ensures.written _ _ _ u.lined) in
+    let is_first : IsFirst (bytes_of c.length.result) c.tolerance.result c.counts-counts.result =
+    search (rules, is_length, c.tolerance.ensures.in_range) in (
+      all_ends end.none.read.came.steady wrote.written.calm.steady _
           (done c.args.options _ _ _ _ _ c.counts-counts.result _ gave u.rows.writable wrote
           (rw c.tolerance.ensures.same at c.tolerance.ensures.in_range.0)
           (rw c.tolerance.ensures.same at c.tolerance.ensures.in_range.1) c.length.ensures.least

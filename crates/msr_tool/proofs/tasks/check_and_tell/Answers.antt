@@ -1,8 +1,9 @@
 use Rattle.std.proofs.Common.{rules, ◌≡◌}
 use Rattle.std.proofs.lemmas.Result.{err_from_is_err_and}
 use Rattle.msr_tool.specs.Tasks.{verdict_line}
+use Rattle.msr_tool.specs.declared.fault.ToolFault.TheVariants.{Memory}
 use Rattle.msr_tool.proofs.StoppedRepacks.{ok_unread}
-use Rattle.msr_tool.proofs.StoppedTexts.{check_stops, line_refused, line_cut}
+use Rattle.msr_tool.proofs.StoppedTexts.{check_stops, line_cut}
 use Rattle.msr_tool.proofs.tasks.check_and_tell.Goals as goal
 
 pub returns-in_err-verdict-clause-answer : goal.returns-in_err-verdict-clause-answer
@@ -15,7 +16,7 @@ pub returns-in_err-line-clause-answer : goal.returns-in_err-line-clause-answer
 returns-in_err-line-clause-answer g c =
     let p = err_from_is_err_and c.from_residual-in_err-line.result c.from_residual-in_err-line.ensures.1 in
     let a = c.in_ok-verdict.ensures.answer in
-    rw (p.1, p.2) (line_refused _ _ _ a.0 a.1 a.2 a.3)
+    rw (p.1, p.2) (check_stops _ _ _ a.0 a.1 Memory a.2 a.3 tt)
 
 pub returns-in_err-write_all-clause-answer : goal.returns-in_err-write_all-clause-answer
 returns-in_err-write_all-clause-answer g c =

@@ -1,15 +1,14 @@
 use Rattle.std.proofs.Common.{rules, FitsSigned, w64, to_z-of_z}
-use Rattle.msr_output.specs.Opened.{empty_segment}
-use Rattle.msr_tool.proofs.Lines.{grows_new, lined_begun}
+use Rattle.msr_tool.proofs.Lines.{grows_new}
 use Rattle.msr_tool.proofs.lined_writer.LinedWriter.begin.Goals as goal
 
 pub returns-clause-begun : goal.returns-clause-begun
 returns-clause-begun c = λ start now packed h.
     let fits : FitsSigned w64 c.args.row.now.start = search rules in
     let begun = rw (to_z-of_z fits) at c.begin.ensures.begun in
-    lined_begun start now _ packed c.begin.result (empty_segment c.args.row.now.key c.args.row.now.start)
-    (rw (← c.self.view_is) at c.requires.last) (λ rows wrote. begun start now packed rows wrote)
-    (rw (← c.self.view_is) at h)
+    let l = rw (← c.self.view_is) at h in
+    let wrote = rw (rw (← c.self.view_is) at c.requires.last) at l.written in
+    record { written = begun start now packed wrote.0 wrote.1; are_lines = l.are_lines; contents = l.contents }
 
 pub returns-clause-grows : goal.returns-clause-grows
 returns-clause-grows c =

@@ -1,7 +1,7 @@
 use Rattle.std.proofs.Common.{◌∙◌}
 use Rattle.std.proofs.lemmas.List.{append-nil}
 use Rattle.std.proofs.lemmas.Result.{err_from_is_err_and}
-use Rattle.msr_tool.proofs.Lines.{lined_none, written_now}
+use Rattle.msr_tool.proofs.Lines.{written_now}
 use Rattle.msr_tool.proofs.lined_writer.LinedWriter.finish.Goals as goal
 
 pub returns-in_err-flush-clause-written : goal.returns-in_err-flush-clause-written
@@ -15,14 +15,14 @@ pub returns-clause-written : goal.returns-clause-written
 returns-clause-written g c = λ start packed current h.
     let m = c.in_ok-end_last.ensures.written start packed current h in
     let l = c.in_ok-flush.ensures.written start m.all _ m.after in
-    let wrote = lined_none _ _ c.flush.new.self _ (c.flush.ensures.last ∙ c.in_ok-end_last.ensures.last) l in
+    let wrote = rw (c.flush.ensures.last ∙ c.in_ok-end_last.ensures.last) at l.written in
     rw c.replace.ensures.value (record {
       packed = m.all;
       rows = wrote.0;
       writing = c.flush.new.self.writing;
       same = m.same;
       same_form = c.flush.ensures.form ∙ c.in_ok-end_last.ensures.form;
-      written = written_now _ _ _ _ wrote.0 c.in_ok-flush.ensures.none_wait wrote.1;
+      written = written_now c.in_ok-flush.ensures.none_wait wrote.1;
       are_lines = rw (← c.self.view_is) at l.are_lines;
       contents = rw (← c.self.view_is) at l.contents;
     })
