@@ -1,3 +1,6 @@
+pub mod Adding
 pub mod Apart
 pub mod Named
+pub mod Parsed
+pub mod Refused
 pub mod Slash

@@ -9,10 +9,8 @@ use Rattle.msr_options.specs.Choice.{Choice, size_of}
 use Rattle.msr_arguments.specs.declared.words.LineFault.{LineFault}
 use Rattle.msr_arguments.specs.declared.words.LineFault.TheVariants.{SameFile, OneStandardInput, NotBelow, Overlap}
 use Rattle.msr_options.specs.declared.days.DayOptions.{DayOptions}
-use Rattle.msr_kinds.specs.RecordLength.{IsRecordLength}
 use Rattle.msr_kinds.specs.declared.kinds.Kinds.{Kinds}
 use Rattle.msr_kinds.specs.declared.kinds.Kinds.TheVariants.{All, WithoutInt24}
-use Rattle.msr_options.specs.Tasks.{IsTolerance}
 use Rattle.msr_options.specs.declared.task.Archiving.{Archiving}
 use Rattle.msr_options.specs.declared.task.Checking.{Checking}
 use Rattle.msr_options.specs.declared.task.Folders.{Folders}
@@ -30,17 +28,17 @@ abbrev pub IsNumberOf : (text : Option (List ℕ)) → (number : Option ℕ) →
 IsNumberOf None number = number ≡ None
 IsNumberOf (Some text) number = ParsesUnsigned 32 10 text (ok_or number text)
 
--- whether a flag is set, by its text; clap gives it no other
+-- whether a flag is set, by its text; it is assumed that clap gives it no other
 abbrev pub IsFlagOf : (text : Option (List ℕ)) → (flag : Bool) → Type 0
 IsFlagOf None flag = flag ≡ false
 IsFlagOf (Some text) flag = (text ≡ codes "true" → flag ≡ true) × (text ≡ codes "false" → flag ≡ false)
 
--- the kinds of records that are written, by the text of the flag that leaves 24-bit integers out; clap gives it no other
+-- the kinds of records that are written, by the text of the flag that leaves 24-bit integers out
 abbrev pub IsKindsOf : (text : Option (List ℕ)) → (kinds : Kinds) → Type 0
 IsKindsOf None kinds = kinds ≡ All
 IsKindsOf (Some text) kinds = (text ≡ codes "true" → kinds ≡ WithoutInt24) × (text ≡ codes "false" → kinds ≡ All)
 
--- the form of a list, by the text of the flag that asks for JSON; clap gives it no other
+-- the form of a list, by the text of the flag that asks for JSON
 abbrev pub IsFormOf : (text : Option (List ℕ)) → (form : ListForm) → Type 0
 IsFormOf None form = form ≡ Words
 IsFormOf (Some text) form = (text ≡ codes "true" → form ≡ Json) × (text ≡ codes "false" → form ≡ Words)
@@ -70,15 +68,6 @@ pub record AsksOptions (found : Found) (text : Option (List ℕ)) (options : Cho
   pub length_is : IsLengthOf text (size_of options)
   pub strict : IsFlagOf (one_text found (codes "strict")) options.strict
   pub kinds : IsKindsOf (one_text found (codes "no-int24")) options.kinds
-
--- the numbers that were found, and that of the text, are those of options
-pub record HoldsOptions (found : Found) (text : Option (List ℕ)) : Type 0 where
-  pub tolerance : ℕ
-  pub tolerance_in : IsToleranceIn found tolerance
-  pub is_tolerance : IsTolerance tolerance
-  pub bytes : ℕ
-  pub length_in : IsLengthOf text bytes
-  pub is_length : IsRecordLength bytes
 
 -- each folder is the one of its name
 pub record AsksFolders (found : Found) (folders : Folders) : Type 0 where
@@ -156,19 +145,24 @@ IsBadLine Memory = ⊤
 abbrev pub IsShown : ErrorKind → Type 0
 IsShown kind = (kind ≡ DisplayHelp) ⊎ (kind ≡ DisplayVersion)
 
--- what clap found in place of a task ends with this status, unless memory is refused
+-- what clap says of a line that it does not let through ends with this status, unless memory is refused
 abbrev pub EndsWith : ErrorKind → (status : ℕ) → NoTask → Type 0
 EndsWith kind status (Ending ending) = (kind ≢ OutOfMemory) × (ending.status ≡ status)
 EndsWith kind status NotALength = ⊥
 EndsWith kind status Memory = ⊤
 
--- what clap found in place of a task ends with status 0 for help and the version, and else with 2, unless memory is
--- refused
+-- it ends with status 0 for help and the version, and else with 2, unless memory is refused
 abbrev pub EndsFor : ErrorKind → NoTask → Type 0
 EndsFor kind (Ending ending) =
     (kind ≢ OutOfMemory) × (((ending.status ≡ 0) × IsShown kind) ⊎ ((ending.status ≡ 2) × ¬ (IsShown kind)))
 EndsFor kind NotALength = ⊥
 EndsFor kind Memory = ⊤
+
+-- one or the other
+abbrev pub IsToldByClap : NoTask → Type 0
+IsToldByClap (Ending ending) = (ending.status ≡ 0) ⊎ (ending.status ≡ 2)
+IsToldByClap NotALength = ⊥
+IsToldByClap Memory = ⊤
 
 -- what is said of a line that asks for what is not done
 abbrev pub text_of : LineFault → Option (List ℕ)

@@ -1,6 +1,11 @@
 //! The commands and options that the program knows.
 //!
 //! Each step at a `Command` that may fail costs the check of its function seconds, so there are few.
+ghost use Rattle.std.specs.Prelude.{◌≡◌, IfOk, Some, false, map};
+ghost use Rattle.clap.specs.Words.{app_of, new_rule, rule_of};
+ghost use Rattle.msr_arguments.specs.Rules.{app_with, flag_rule, option_rule, program_app, rule_for, rules_of};
+ghost use Rattle.msr_options.specs.Tasks.{word_of};
+
 use crate::texts;
 use clap::builder::ValueParser;
 use clap::{Arg, ArgAction, Command, value_parser};
@@ -23,8 +28,8 @@ pub(crate) enum Argument<'a> {
     DayLength(&'a str, &'a str),
 }
 
-/// What the help of a command says, a line, what it does, and at its end examples; and what the command takes, in the
-/// order in which its help tells it.
+/// What the help of a command says, a line, what it does, and at its end examples; and what the command takes: options,
+/// then files, each in the order of its help.
 #[derive(Clone, Copy)]
 pub(crate) struct About<'a> {
     pub about: &'a str,
@@ -33,7 +38,9 @@ pub(crate) struct About<'a> {
     pub arguments: &'a [Argument<'a>],
 }
 
-fn about_of<'a>(verb: Verb) -> About<'a> {
+fn about_of<'a>(verb: Verb) -> About<'a>
+    ensures { map rule_for result.arguments.now ≡ rules_of verb }
+{
     match verb {
         Verb::Repack => texts::REPACK,
         Verb::List => texts::LIST,
@@ -45,7 +52,10 @@ fn about_of<'a>(verb: Verb) -> About<'a> {
     }
 }
 
-fn option<'a>(alloc: Global, name: &'a str, help: &'a str, long_help: &'a str) -> Arg<'a> {
+fn option<'a>(alloc: Global, name: &'a str, help: &'a str, long_help: &'a str) -> Arg<'a>
+    ensures rule { rule_of result ≡ record (new_rule name.entry.now) { long = Some name.entry.now } }
+    ensures local { result.global ≡ false }
+{
     Arg::new(alloc, name)
         .long(name)
         .help(help)
@@ -60,18 +70,31 @@ fn valued<'a>(
     parser: ValueParser<'a>,
     default: &'a str,
     help: &'a str,
-) -> Arg<'a> {
+) -> Arg<'a>
+    ensures rule { rule_of result ≡ option_rule name.entry.now default.entry.now parser.entry }
+    ensures local { result.global ≡ false }
+{
     Arg::new(alloc, name)
         .long(name)
+        .action(ArgAction::Set)
         .value_name(value_name)
         .value_parser(parser)
         .default_value(default)
         .help(help)
 }
 
-fn arg_of<'a>(alloc: Global, argument: Argument<'a>) -> Arg<'a> {
+/// Clap's form of an argument. Its action would be `Set` anyway; clap's lemma on what has to be given wants it said.
+fn arg_of<'a>(alloc: Global, argument: Argument<'a>) -> Arg<'a>
+    ensures rule { rule_of result ≡ rule_for argument.entry }
+    ensures local { result.global ≡ false }
+{
     match argument {
-        Argument::File(name, help) => Arg::new(alloc, name).required(true).help(help),
+        Argument::File(name, help) => {
+            Arg::new(alloc, name)
+                .required(true)
+                .action(ArgAction::Set)
+                .help(help)
+        }
         Argument::FileIfAny(name, help) => Arg::new(alloc, name).help(help),
         Argument::Flag(name, help, long_help) => {
             option(alloc, name, help, long_help).action(ArgAction::SetTrue)
@@ -97,11 +120,10 @@ pub(crate) fn length_alone<'a>(alloc: Global) -> Result<Command<'a>, AllocError>
 }
 
 /// A command with its help and its arguments.
-fn described<'a>(
-    alloc: Global,
-    name: &'a str,
-    about: About<'a>,
-) -> Result<Command<'a>, AllocError> {
+fn described<'a>(alloc: Global, name: &'a str, about: About<'a>) -> Result<Command<'a>, AllocError>
+    ensures { IfOk result (λ command. app_of command
+        ≡ app_with name.entry.now (map rule_for about.entry.arguments.now)) }
+{
     let mut command = Command::new(alloc, name)
         .about(about.about)
         .long_about(about.long_about)
@@ -112,8 +134,18 @@ fn described<'a>(
     Ok(command)
 }
 
-/// The command line of the program.
-pub(crate) fn command<'a>(alloc: Global) -> Result<Command<'a>, AllocError> {
+/// The line of one command, whose own word comes first. Help and faults call it `msrepack` and that word.
+pub(crate) fn command_line<'a>(alloc: Global, verb: Verb) -> Result<Command<'a>, AllocError>
+    ensures { IfOk result (λ command. app_of command ≡ app_with (word_of verb) (rules_of verb)) }
+{
+    let name = format!(in alloc; "msrepack {}", verb.word())?;
+    described(alloc, verb.word(), about_of(verb))?.bin_name(name.as_str())
+}
+
+/// The line of the program, with all its commands.
+pub(crate) fn program_line<'a>(alloc: Global) -> Result<Command<'a>, AllocError>
+    ensures { IfOk result (λ command. app_of command ≡ program_app) }
+{
     let mut command = described(alloc, "msrepack", texts::PROGRAM)?
         .version("1.1.0")
         .subcommand_required(true)

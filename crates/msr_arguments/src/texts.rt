@@ -1,7 +1,6 @@
 //! The texts of help, by command.
 use crate::commands::{About, Argument};
 
-/// The program.
 pub(crate) const PROGRAM: About = About {
     about: "Repacks miniSEED into the fewest records of one length",
     long_about: "Repacks miniSEED into the fewest records of one length.
@@ -35,7 +34,6 @@ Examples:
     arguments: &[],
 };
 
-/// `repack`
 pub(crate) const REPACK: About = About {
     about: "Writes the segments of a file in the fewest records, and a report",
     long_about: "Writes the segments of a file in the fewest records, and a report.
@@ -73,7 +71,6 @@ Status 0 if all was written, 1 after a fault, 2 if the command line is wrong.",
     ],
 };
 
-/// `list`
 pub(crate) const LIST: About = About {
     about: "Lists the segments of a file",
     long_about: "Lists the segments of a file.
@@ -94,7 +91,6 @@ Status 0 if the list is whole, 1 after a fault, 2 if the command line is wrong."
     arguments: &[TOLERANCE, STRICT, JSON, INPUT],
 };
 
-/// `check`
 pub(crate) const CHECK: About = About {
     about: "Says whether a report shows that packed records are the fewest",
     long_about: "Says whether a report shows that packed records are the fewest.
@@ -127,7 +123,6 @@ if the command line is wrong.",
     ],
 };
 
-/// `compare`
 pub(crate) const COMPARE: About = About {
     about: "Says whether two files have the same segments",
     long_about: "Says whether two files have the same segments.
@@ -168,7 +163,6 @@ is wrong.",
     ],
 };
 
-/// `archive`
 pub(crate) const ARCHIVE: About = About {
     about: "Repacks every day file of an SDS archive",
     long_about: "Repacks every day file of an archive that is kept as a SeisComP Data Structure.
@@ -229,7 +223,6 @@ Status 0 if all was walked and nothing refused, else 1; 2 if the command line is
     ],
 };
 
-/// `verify`
 pub(crate) const VERIFY: About = About {
     about: "Says of every day file of an SDS archive whether its repack holds",
     long_about: "Says of every day file of an archive whether its records, as `archive` made them, have
@@ -272,7 +265,6 @@ day of waveform data; 2 if the command line is wrong.",
     ],
 };
 
-/// `feed`
 pub(crate) const FEED: About = About {
     about: "Repacks standard input to standard output while it comes",
     long_about: "Repacks standard input to standard output while it comes.

@@ -1,11 +1,12 @@
 //! What the words of a command line ask for.
-ghost use Rattle.std.specs.Prelude.{◌≡◌, ◌≢◌, ◌<◌, ◌↔◌, ℕ, length, codes, false, Some, IfOk, IfErr, IfSome, IsSome, IsOk, IsOkAnd, IsTrue, Ok, Err, Any, map, option_map};
+ghost use Rattle.std.specs.Prelude.{◌≡◌, ◌≢◌, ◌<◌, ◌≤◌, ◌↔◌, ℕ, length, codes, false, slice_get, Some, IfOk, IfErr, IfSome, IsSome, IsSomeAnd, IsOk, IsOkAnd, IsErrAnd, IsTrue, Ok, Err, Any, map, option_map};
 ghost use Rattle.msr_kinds.specs.RecordLength.{IsRecordLength};
-ghost use Rattle.clap.specs.Words.{first_value, found_of, kind_of, one_text, subcommand_name_of};
-ghost use Rattle.msr_arguments.specs.Found.{AsksArchive, AsksBelow, AsksCheck, AsksDays, AsksFolders, AsksOptions, AsksTask, AsksVerify, EndsFor, EndsWith, HoldsOptions, IsBadLine, IsFlagOf, IsFormOf, IsKindsOf, IsLengthOf, IsNumberOf, IsWrong, length_in, text_of, without_slash};
+ghost use Rattle.clap.specs.Words.{first_value, found_of, kind_of, one_text};
+ghost use Rattle.msr_arguments.specs.Found.{AsksArchive, AsksBelow, AsksCheck, AsksDays, AsksFolders, AsksOptions, AsksTask, AsksVerify, EndsFor, EndsWith, IsBadLine, IsFlagOf, IsFormOf, IsKindsOf, IsLengthOf, IsNumberOf, IsToldByClap, IsWrong, length_in, text_of, without_slash};
+ghost use Rattle.msr_arguments.specs.Rules.{IsFoundFor, HasNeeded, HoldsTolerance, folder_rules};
 ghost use Rattle.msr_options.specs.Tasks.{AreApart, AreBothStandard, HasStatus, HasTolerance, IsDefault, IsTolerance, KeepsInput, Overlap, StandApart, verb_of, word_of};
 
-use crate::commands::{command, length_alone};
+use crate::commands::{command_line, length_alone, program_line};
 use clap::ArgMatches;
 use clap::error::ErrorKind;
 use msr_kinds::{Kinds, Length};
@@ -38,10 +39,9 @@ fn default_task<'a>() -> Task<'a>
 
 /// What is wrong with a command line that clap lets through.
 #[derive(Clone, Copy)]
-enum LineFault {
-    /// What clap lets no line through without, so that the answer to a line without it is not seen.
-    Missing,
-    NoNumber,
+enum LineFault<'a> {
+    /// A length's text that is no number.
+    NoNumber(&'a str),
     NotALength,
     SameFile,
     OneStandardInput,
@@ -50,31 +50,21 @@ enum LineFault {
     Memory,
 }
 
-/// The answer to a command that has that fault, and this text of a length.
-fn refused(alloc: Global, fault: LineFault, length: Option<&str>) -> NoTask
-    ensures text { IfSome (text_of fault) (λ text. IsWrong text result) }
-    ensures other { fault ≡ LineFault.NotALength → result ≡ NoTask.NotALength }
+/// The answer to a command that has that fault.
+fn refused(alloc: Global, fault: LineFault<'_>) -> NoTask
+    ensures text { IfSome (text_of fault.entry) (λ text. IsWrong text result) }
+    ensures other { fault.entry ≡ LineFault.NotALength → result ≡ NoTask.NotALength }
     ensures status { IsBadLine result }
 {
-    match fault {
-        LineFault::Missing => wrong(alloc, "error: no command\n"),
-        LineFault::NoNumber => no_number(alloc, length.unwrap_or("")),
-        LineFault::NotALength => NoTask::NotALength,
-        LineFault::SameFile => wrong(alloc, "msrepack: the output is the input\n"),
-        LineFault::OneStandardInput => wrong(
-            alloc,
-            "msrepack: only one input can be standard input\n",
-        ),
-        LineFault::NotBelow => wrong(alloc, "msrepack: not a folder of an archive\n"),
-        LineFault::Overlap => wrong(alloc, "msrepack: the folders overlap\n"),
-        LineFault::Memory => NoTask::Memory,
-    }
-}
-
-/// The answer to a wrong command line.
-fn wrong(alloc: Global, text: &str) -> NoTask
-    ensures { IsWrong text.now result }
-{
+    let text = match fault {
+        LineFault::NoNumber(text) => return no_number(alloc, text),
+        LineFault::NotALength => return NoTask::NotALength,
+        LineFault::Memory => return NoTask::Memory,
+        LineFault::SameFile => "msrepack: the output is the input\n",
+        LineFault::OneStandardInput => "msrepack: only one input can be standard input\n",
+        LineFault::NotBelow => "msrepack: not a folder of an archive\n",
+        LineFault::Overlap => "msrepack: the folders overlap\n",
+    };
     match String::from_str(alloc, text) {
         Ok(text) => NoTask::Ending(Ending { text, status: 2 }),
         Err(AllocError) => NoTask::Memory,
@@ -94,15 +84,15 @@ fn no_number(alloc: Global, text: &str) -> NoTask
     }
 }
 
-/// The answer to what clap found: a fault, or that help or the version is asked for.
+/// The answer to a line that clap does not let through: help, the version, or what is wrong.
 fn ending_of(alloc: Global, error: &clap::Error) -> NoTask
     ensures ends { EndsFor (kind_of error.now) result }
-    ensures status { HasStatus result }
+    ensures told { IsToldByClap result }
 {
     ending_with(alloc, error, if error.use_stderr() { 2 } else { 0 })
 }
 
-/// The text of what clap found, with this status.
+/// What clap says of a line that it does not let through, with this status.
 fn ending_with(alloc: Global, error: &clap::Error, status: u8) -> NoTask
     ensures { EndsWith (kind_of error.now) status result }
 {
@@ -115,6 +105,14 @@ fn ending_with(alloc: Global, error: &clap::Error, status: u8) -> NoTask
     }
 }
 
+/// The name of a file or folder.
+fn file_in<'a>(found: &ArgMatches<'a>, name: &str) -> &'a str
+    requires { IsSome (first_value (found_of found.now) name.now) }
+    ensures { first_value (found_of found.now) name.now ≡ Some result.now }
+{
+    found.get_str(name).unwrap()
+}
+
 fn number_in(found: &ArgMatches<'_>, name: &str) -> Option<u32>
     ensures { IsNumberOf (one_text (found_of found.now) name.now) result }
 {
@@ -122,13 +120,14 @@ fn number_in(found: &ArgMatches<'_>, name: &str) -> Option<u32>
 }
 
 /// The number of bytes that a length's text is, 512 without a text.
-fn number_of(length: Option<&str>) -> Option<u32>
-    ensures asked { IfSome result (IsLengthOf (option_map (λ text. text.now) length.entry)) }
-    ensures given { (bytes : ℕ) → IsLengthOf (option_map (λ text. text.now) length.entry) bytes → result ≡ Some bytes }
+fn number_of<'a>(length: Option<&'a str>) -> Result<u32, LineFault<'a>>
+    ensures asked { IfOk result (IsLengthOf (option_map (λ text. text.now) length.entry)) }
+    ensures given { (bytes : ℕ) → IsLengthOf (option_map (λ text. text.now) length.entry) bytes → result ≡ Ok bytes }
+    ensures text { IfErr result (λ fault. IsSomeAnd length.entry (λ text. fault ≡ LineFault.NoNumber text)) }
 {
     match length {
-        Some(text) => text.parse().ok(),
-        None => Some(LENGTH),
+        Some(text) => text.parse().ok().ok_or(LineFault::NoNumber(text)),
+        None => Ok(LENGTH),
     }
 }
 
@@ -138,66 +137,28 @@ fn flag_in(found: &ArgMatches<'_>, name: &str) -> bool
     found.get_flag(name)
 }
 
-/// The form of a list.
-fn form_in(found: &ArgMatches<'_>) -> ListForm
-    ensures { IsFormOf (one_text (found_of found.now) (codes "json")) result }
-{
-    ListForm::asked(flag_in(found, "json"))
-}
-
 /// The options that clap found, with that length. The commands `list` and `compare` take none, and do not use the one
 /// that is given here.
-fn options_in(found: &ArgMatches<'_>, length: Option<&str>) -> Result<Options, LineFault>
+fn options_in<'a>(found: &ArgMatches<'a>, length: Option<&'a str>) -> Result<Options, LineFault<'a>>
+    requires { HoldsTolerance (found_of found.now) }
     ensures asked { IfOk result (AsksOptions (found_of found.now) (option_map (λ text. text.now) length.entry)) }
-    ensures given { HoldsOptions (found_of found.now) (option_map (λ text. text.now) length.entry) → IsOk result }
+    ensures given { (bytes : ℕ) → IsLengthOf (option_map (λ text. text.now) length.entry) bytes →
+        IsRecordLength bytes → IsOk result }
     ensures other { (bytes : ℕ) → IsLengthOf (option_map (λ text. text.now) length.entry) bytes →
         ¬ (IsRecordLength bytes) → result ≡ Err LineFault.NotALength }
     ensures tolerance { IfOk result (λ options. IsTolerance options.tolerance) }
 {
-    let Some(bytes) = number_of(length) else {
-        return Err(LineFault::NoNumber);
-    };
-    let Some(length) = Length::new(bytes) else {
+    let Some(length) = Length::new(number_of(length)?) else {
         return Err(LineFault::NotALength);
     };
-    let Some(tolerance) = number_in(found, "tolerance") else {
-        return Err(LineFault::Missing);
-    };
-    let Some(options) = Options::new(length, tolerance) else {
-        return Err(LineFault::Missing);
-    };
+    let tolerance = number_in(found, "tolerance").unwrap();
     let kinds = if flag_in(found, "no-int24") {
         Kinds::WithoutInt24
     } else {
         Kinds::All
     };
+    let options = Options::new(length, tolerance).unwrap();
     Ok(options.strict(flag_in(found, "strict")).kinds(kinds))
-}
-
-/// Packed records to be checked: first the file with the records, then that with the report.
-fn checking_in<'a>(found: &ArgMatches<'a>) -> Result<Task<'a>, LineFault>
-    ensures asked { IfOk result (λ task. (verb_of task ≡ Verb.Check) × AsksTask (found_of found.now) task) }
-    ensures given { IsSome (first_value (found_of found.now) (codes "PACKED"))
-        → IsSome (first_value (found_of found.now) (codes "REPORT")) → IsOk result }
-{
-    let (Some(packed), Some(report)) = (found.get_str("PACKED"), found.get_str("REPORT")) else {
-        return Err(LineFault::Missing);
-    };
-    Ok(Task::Check(Checking { packed, report }))
-}
-
-fn folders_in<'a>(found: &ArgMatches<'a>) -> Option<Folders<'a>>
-    ensures asked { IfSome result (AsksFolders (found_of found.now)) }
-    ensures given { IsSome (first_value (found_of found.now) (codes "ROOT"))
-        → IsSome (first_value (found_of found.now) (codes "OUT"))
-        → IsSome (first_value (found_of found.now) (codes "REPORTS")) → IsSome result }
-{
-    let root = found.get_str("ROOT");
-    let out = found.get_str("OUT");
-    match (root, out, found.get_str("REPORTS")) {
-        (Some(root), Some(out), Some(reports)) => Some(Folders { root, out, reports }),
-        _ => None,
-    }
 }
 
 /// Whether one of the folders is that one, or either stands below the other, by their names.
@@ -226,7 +187,7 @@ fn folders_named<'a>(alloc: Global, given: &[&'a str]) -> Result<Vec<&'a str>, A
 }
 
 /// The folders of an archive that are to be walked: paths of names, of which no two overlap.
-fn below_in<'a>(alloc: Global, found: &ArgMatches<'a>) -> Result<Vec<&'a str>, LineFault>
+fn below_in<'a>(alloc: Global, found: &ArgMatches<'a>) -> Result<Vec<&'a str>, LineFault<'a>>
     ensures asked { IfOk result (λ below. AsksBelow (found_of found.now) (map (λ folder. folder.now) below.items)) }
     ensures apart { IfOk result (λ below. AreApart (map (λ folder. folder.now) below.items)) }
 {
@@ -250,7 +211,8 @@ fn below_in<'a>(alloc: Global, found: &ArgMatches<'a>) -> Result<Vec<&'a str>, L
 
 /// What is asked of the days of an archive. If each is to have the length of its first record, that of the options is
 /// the one without a text.
-fn days_in(found: &ArgMatches<'_>) -> Result<DayOptions, LineFault>
+fn days_in<'a>(found: &ArgMatches<'a>) -> Result<DayOptions, LineFault<'a>>
+    requires { HoldsTolerance (found_of found.now) }
     ensures asked { IfOk result (AsksDays (found_of found.now)) }
     ensures tolerance { IfOk result (λ days. IsTolerance days.options.tolerance) }
 {
@@ -268,7 +230,8 @@ fn days_in(found: &ArgMatches<'_>) -> Result<DayOptions, LineFault>
 }
 
 /// The archive that clap found.
-fn archiving_in<'a>(alloc: Global, found: &ArgMatches<'a>) -> Result<Task<'a>, LineFault>
+fn archiving_in<'a>(alloc: Global, found: &ArgMatches<'a>) -> Result<Task<'a>, LineFault<'a>>
+    requires { IsFoundFor Verb.Archive (found_of found.now) }
     ensures asked { IfOk result (λ task. (verb_of task ≡ Verb.Archive) × AsksTask (found_of found.now) task) }
     ensures kept { IfOk result (λ task. HasTolerance task × KeepsInput task) }
 {
@@ -282,27 +245,30 @@ fn archiving_in<'a>(alloc: Global, found: &ArgMatches<'a>) -> Result<Task<'a>, L
 }
 
 /// The archive that clap found, whose repack is to be verified.
-fn verifying_in<'a>(alloc: Global, found: &ArgMatches<'a>) -> Result<Verifying<'a>, LineFault>
+fn verifying_in<'a>(alloc: Global, found: &ArgMatches<'a>) -> Result<Verifying<'a>, LineFault<'a>>
+    requires { HasNeeded folder_rules (found_of found.now) }
     ensures asked { IfOk result (AsksVerify (found_of found.now)) }
     ensures apart { IfOk result (λ asked. StandApart asked.folders) }
 {
     let below = below_in(alloc, found)?;
-    match folders_in(found) {
-        Some(folders) if folders.stand_apart() => Ok(Verifying { folders, below }),
-        Some(_) => Err(LineFault::Overlap),
-        None => Err(LineFault::Missing),
+    let root = file_in(found, "ROOT");
+    let out = file_in(found, "OUT");
+    let reports = file_in(found, "REPORTS");
+    let folders = Folders { root, out, reports };
+    if !folders.stand_apart() {
+        return Err(LineFault::Overlap);
     }
+    Ok(Verifying { folders, below })
 }
 
 /// The file to be repacked that clap found.
-fn repacking_in<'a>(found: &ArgMatches<'a>) -> Result<Task<'a>, LineFault>
+fn repacking_in<'a>(found: &ArgMatches<'a>) -> Result<Task<'a>, LineFault<'a>>
+    requires { IsFoundFor Verb.Repack (found_of found.now) }
     ensures asked { IfOk result (λ task. (verb_of task ≡ Verb.Repack) × AsksTask (found_of found.now) task) }
     ensures kept { IfOk result (λ task. HasTolerance task × KeepsInput task) }
 {
     let options = options_in(found, found.get_str("length"))?;
-    let Some(input) = found.get_str("IN") else {
-        return Err(LineFault::Missing);
-    };
+    let input = file_in(found, "IN");
     let output = found.get_str("OUT");
     if output == Some(input) {
         return Err(LineFault::SameFile);
@@ -315,15 +281,14 @@ fn repacking_in<'a>(found: &ArgMatches<'a>) -> Result<Task<'a>, LineFault>
 }
 
 /// The file whose segments are to be listed that clap found.
-fn listing_in<'a>(found: &ArgMatches<'a>) -> Result<Task<'a>, LineFault>
+fn listing_in<'a>(found: &ArgMatches<'a>) -> Result<Task<'a>, LineFault<'a>>
+    requires { IsFoundFor Verb.List (found_of found.now) }
     ensures asked { IfOk result (λ task. (verb_of task ≡ Verb.List) × AsksTask (found_of found.now) task) }
     ensures tolerance { IfOk result HasTolerance }
 {
     let options = options_in(found, found.get_str("length"))?;
-    let form = form_in(found);
-    let Some(input) = found.get_str("IN") else {
-        return Err(LineFault::Missing);
-    };
+    let form = ListForm::asked(flag_in(found, "json"));
+    let input = file_in(found, "IN");
     Ok(Task::List(Listing {
         options,
         form,
@@ -332,14 +297,13 @@ fn listing_in<'a>(found: &ArgMatches<'a>) -> Result<Task<'a>, LineFault>
 }
 
 /// What is to be fed that clap found.
-fn feeding_in<'a>(found: &ArgMatches<'a>) -> Result<Task<'a>, LineFault>
+fn feeding_in<'a>(found: &ArgMatches<'a>) -> Result<Task<'a>, LineFault<'a>>
+    requires { IsFoundFor Verb.Feed (found_of found.now) }
     ensures asked { IfOk result (λ task. (verb_of task ≡ Verb.Feed) × AsksTask (found_of found.now) task) }
     ensures tolerance { IfOk result HasTolerance }
 {
     let options = options_in(found, found.get_str("length"))?;
-    let Some(report) = found.get_str("REPORT") else {
-        return Err(LineFault::Missing);
-    };
+    let report = file_in(found, "REPORT");
     Ok(Task::Feed(Feeding { options, report }))
 }
 
@@ -351,14 +315,14 @@ fn are_both_standard(one: &str, other: &str) -> bool
 }
 
 /// The files to be compared that clap found.
-fn comparing_in<'a>(found: &ArgMatches<'a>) -> Result<Task<'a>, LineFault>
+fn comparing_in<'a>(found: &ArgMatches<'a>) -> Result<Task<'a>, LineFault<'a>>
+    requires { IsFoundFor Verb.Compare (found_of found.now) }
     ensures asked { IfOk result (λ task. (verb_of task ≡ Verb.Compare) × AsksTask (found_of found.now) task) }
     ensures kept { IfOk result (λ task. HasTolerance task × KeepsInput task) }
 {
     let options = options_in(found, found.get_str("length"))?;
-    let (Some(one), Some(other)) = (found.get_str("ONE"), found.get_str("OTHER")) else {
-        return Err(LineFault::Missing);
-    };
+    let one = file_in(found, "ONE");
+    let other = file_in(found, "OTHER");
     if are_both_standard(one, other) {
         return Err(LineFault::OneStandardInput);
     }
@@ -369,35 +333,22 @@ fn comparing_in<'a>(found: &ArgMatches<'a>) -> Result<Task<'a>, LineFault>
     }))
 }
 
-/// What clap found.
-fn task_of<'a>(alloc: Global, matches: &ArgMatches<'a>) -> Result<Task<'a>, NoTask>
-    ensures command { IfOk result (λ task. subcommand_name_of matches.now ≡ Some (word_of (verb_of task))) }
-    ensures tolerance { IfOk result HasTolerance }
-    ensures keeps_input { IfOk result KeepsInput }
-    ensures status { IfErr result IsBadLine }
-{
-    let Some((name, found)) = matches.subcommand() else {
-        return Err(refused(alloc, LineFault::Missing, None));
-    };
-    let Some(verb) = Verb::named(name) else {
-        return Err(refused(alloc, LineFault::Missing, None));
-    };
-    match task_in(alloc, verb, found) {
-        Ok(task) => Ok(task),
-        Err(fault) => Err(refused(alloc, fault, found.get_str("length"))),
-    }
-}
-
-/// What clap found under this command.
-fn task_in<'a>(alloc: Global, verb: Verb, found: &ArgMatches<'a>) -> Result<Task<'a>, LineFault>
+/// The task of this command, by the arguments that clap found.
+fn task_in<'a>(alloc: Global, verb: Verb, found: &ArgMatches<'a>) -> Result<Task<'a>, LineFault<'a>>
+    requires { IsFoundFor verb (found_of found.now) }
     ensures command { IfOk result (λ task. verb_of task ≡ verb) }
     ensures asked { IfOk result (AsksTask (found_of found.now)) }
     ensures kept { IfOk result (λ task. HasTolerance task × KeepsInput task) }
+    ensures check { verb ≡ Verb.Check → IsOk result }
 {
     match verb {
         Verb::Repack => repacking_in(found),
         Verb::List => listing_in(found),
-        Verb::Check => checking_in(found),
+        Verb::Check => {
+            let packed = file_in(found, "PACKED");
+            let report = file_in(found, "REPORT");
+            Ok(Task::Check(Checking { packed, report }))
+        }
         Verb::Compare => comparing_in(found),
         Verb::Archive => archiving_in(alloc, found),
         Verb::Verify => Ok(Task::Verify(verifying_in(alloc, found)?)),
@@ -405,9 +356,44 @@ fn task_in<'a>(alloc: Global, verb: Verb, found: &ArgMatches<'a>) -> Result<Task
     }
 }
 
+/// What clap finds in these words, which begin with that of the command.
+fn read_line<'a>(alloc: Global, verb: Verb, words: &'a [&'a str]) -> Result<ArgMatches<'a>, NoTask>
+    ensures found { IfOk result (λ found. IsFoundFor verb (found_of found)) }
+    ensures told { IfErr result IsToldByClap }
+{
+    match command_line(alloc, verb)?.try_get_matches_from(words) {
+        Ok(found) => Ok(found),
+        Err(error) => Err(ending_of(alloc, &error)),
+    }
+}
+
+/// The task of a command, or what is said if it has a fault that clap lets through.
+fn task_of<'a>(alloc: Global, verb: Verb, found: &ArgMatches<'a>) -> Result<Task<'a>, NoTask>
+    requires { IsFoundFor verb (found_of found.now) }
+    ensures command { IfOk result (λ task. verb_of task ≡ verb) }
+    ensures kept { IfOk result (λ task. HasTolerance task × KeepsInput task) }
+    ensures status { IfErr result IsBadLine }
+{
+    task_in(alloc, verb, found).map_err(|fault| refused(alloc, fault))
+}
+
+/// What is said, never a task, if the word after the program's name is no command: help, the version, or what is wrong.
+fn no_command<'a>(alloc: Global, words: &[&str]) -> Result<Task<'a>, NoTask>
+    requires { IsSomeAnd (slice_get words.now 1) (λ word. (verb : Verb) → word.now ≢ word_of verb) }
+    ensures { IsErrAnd result IsToldByClap }
+{
+    match program_line(alloc)?.try_get_matches_from(words) {
+        // Clap lets no such line through: proofs/Refused.antt.
+        Ok(_) => unreachable!(),
+        Err(error) => Err(ending_of(alloc, &error)),
+    }
+}
+
 /// The task that the words ask for, of which the first is the program's name.
 pub fn read_words<'a>(alloc: Global, words: &'a [&'a str]) -> Result<Task<'a>, NoTask>
     ensures default { length words.now < 2 → IsOkAnd result IsDefault }
+    ensures command { 2 ≤ length words.now → IfOk result (λ task.
+        IsSomeAnd (slice_get words.now 1) (λ word. word.now ≡ word_of (verb_of task))) }
     ensures tolerance { IfOk result HasTolerance }
     ensures keeps_input { IfOk result KeepsInput }
     ensures status { IfErr result HasStatus }
@@ -415,11 +401,8 @@ pub fn read_words<'a>(alloc: Global, words: &'a [&'a str]) -> Result<Task<'a>, N
     if words.len() < 2 {
         return Ok(default_task());
     }
-    let Ok(command) = command(alloc) else {
-        return Err(NoTask::Memory);
-    };
-    match command.try_get_matches_from(words) {
-        Ok(matches) => task_of(alloc, &matches),
-        Err(error) => Err(ending_of(alloc, &error)),
+    match Verb::named(words[1]) {
+        Some(verb) => task_of(alloc, verb, &read_line(alloc, verb, &words[1..])?),
+        None => no_command(alloc, words),
     }
 }
