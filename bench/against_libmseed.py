@@ -29,7 +29,7 @@ import sys
 import tempfile
 
 import day
-import kinds
+import station
 
 NEEDED = "apt-get install gcc libmseed-dev libmseed-doc valgrind time python3-matplotlib"
 RECORDED = "/usr/share/doc/libmseed-dev/examples/test.mseed"
@@ -50,31 +50,31 @@ COMPARED = [("instructions", "instructions", "#1f5a91"), ("seconds", "time", "#e
 
 
 def strong_motion_within_16_bits(count):
-    return [sample // 32 for sample in kinds.strong_motion(count)]
+    return [sample // 32 for sample in station.strong_motion(count)]
 
 
 def steim2(most=65535):
-    return lambda name, length, samples: kinds.write_steim2(name, samples, length, most)
+    return lambda name, length, samples: station.write_steim2(name, samples, length, most)
 
 
 def integers(encoding):
-    return lambda name, length, samples: day.write_plain(name, length, encoding, samples)
+    return lambda name, length, samples: station.write_plain(name, length, encoding, samples)
 
 
 INPUTS = [
-    Input("microseism, Steim-2", 512, kinds.microseism, steim2()),
-    Input("microseism, 32-bit integers", 4096, kinds.microseism, integers(3)),
-    Input("microseism, 16-bit integers", 512, kinds.microseism, integers(1)),
-    Input("strong motion, Steim-2", 512, kinds.strong_motion, steim2()),
-    Input("strong motion, 32-bit integers", 4096, kinds.strong_motion, integers(3)),
-    Input("strong motion, 16-bit integers", 512, strong_motion_within_16_bits, integers(1)),
-    Input("noise within 16 bits, 16-bit integers", 512, kinds.within_16_bits, integers(1)),
-    Input("noise of 10 counts, Steim-2", 512, kinds.white_noise(10), steim2()),
-    Input("noise of 60 counts, Steim-2", 512, kinds.white_noise(60), steim2()),
-    Input("noise of 1,000 counts, Steim-2", 512, kinds.white_noise(1000), steim2()),
-    Input("noise of 20,000 counts, Steim-2", 512, kinds.white_noise(20_000), steim2()),
-    Input("low latency, 1 s in 512 bytes", 512, kinds.microseism, steim2(most=day.RATE)),
-    Input("low latency, full 128 bytes", 128, kinds.microseism, steim2()),
+    Input("microseism, Steim-2", 512, station.microseism, steim2()),
+    Input("microseism, 32-bit integers", 4096, station.microseism, integers(station.INT32)),
+    Input("microseism, 16-bit integers", 512, station.microseism, integers(station.INT16)),
+    Input("strong motion, Steim-2", 512, station.strong_motion, steim2()),
+    Input("strong motion, 32-bit integers", 4096, station.strong_motion, integers(station.INT32)),
+    Input("strong motion, 16-bit integers", 512, strong_motion_within_16_bits, integers(station.INT16)),
+    Input("noise within 16 bits, 16-bit integers", 512, station.within_16_bits, integers(station.INT16)),
+    Input("noise of 10 counts, Steim-2", 512, station.white_noise(10), steim2()),
+    Input("noise of 60 counts, Steim-2", 512, station.white_noise(60), steim2()),
+    Input("noise of 1,000 counts, Steim-2", 512, station.white_noise(1000), steim2()),
+    Input("noise of 20,000 counts, Steim-2", 512, station.white_noise(20_000), steim2()),
+    Input("low latency, 1 s in 512 bytes", 512, station.microseism, steim2(most=station.RATE)),
+    Input("low latency, full 128 bytes", 128, station.microseism, steim2()),
     Input("IU.COLA.00.LHZ, as recorded", 512, None, None),
 ]
 
@@ -117,7 +117,7 @@ def block_of(each, folder):
     samples = each.make(BLOCK)
     each.write(f"{folder}/block", each.length, samples)
     made = array.array("i", samples).tobytes()
-    return Block(records_in(f"{folder}/block", each.length), BLOCK, BLOCK // day.RATE, made)
+    return Block(records_in(f"{folder}/block", each.length), BLOCK, BLOCK // station.RATE, made)
 
 
 def recorded_block(length):

@@ -3,15 +3,12 @@
 
     bench/day.py [--samples N] [--runs N] [--program FILE] [--keep FOLDER]
 
-The day is made up, the same one on every machine: noise, and events that die down. It is written as records of 32-bit
-integers (4096 bytes), as records of 16-bit integers (512 bytes), and, by the program itself, as Steim-2 (512 bytes).
-The first of them is repacked, and what came of it is checked against its report.
+The day is made up (station.py): noise, and events that die down. It is written as records of 32-bit integers (4096
+bytes), as records of 16-bit integers (512 bytes), and, by the program itself, as Steim-2 (512 bytes). The first of them
+is repacked, and what came of it is checked against its report.
 """
 import argparse
-import array
-import math
 import os
-import random
 import re
 import shutil
 import subprocess
@@ -25,35 +22,7 @@ ROOT = os.path.dirname(os.path.dirname(os.path.realpath(__file__)))
 sys.path.insert(0, os.path.join(ROOT, "tools"))
 from built import program_of
 
-RATE = 100
-EVENTS = 24
 LENGTHS = ("512", "4096")
-
-
-def made_up(count):
-    """Noise of some tens of counts, and events of up to some thousand, all within 16 bits."""
-    numbers = random.Random(1)
-    noise = [round(numbers.gauss(0, 25)) for _ in range(65521)]
-    samples = array.array("i", (noise[n % 65521] + noise[n * 7 % 65519] for n in range(count)))
-    for event in range(EVENTS):
-        begin = (2 * event + 1) * count // (2 * EVENTS)
-        height = numbers.uniform(300, 12000)
-        for n in range(min(60 * RATE, count - begin)):
-            samples[begin + n] += round(height * math.exp(-n / 900) * math.sin(n * n / (n + 400)))
-    return samples
-
-
-def record(number, length, encoding, start, samples):
-    """A big-endian record of channel XX.BENCH.00.HHZ that starts `start` samples after 2020-01-01 00:00:00."""
-    area = station.integers(encoding, samples)
-    return station.record(b"BENCH00HHZXX", number % 1_000_000, length, encoding, start, len(samples), area)
-
-
-def write_plain(name, length, encoding, samples):
-    each = (length - 64) // {1: 2, 3: 4}[encoding]
-    with open(name, "wb") as out:
-        for number, start in enumerate(range(0, len(samples), each), 1):
-            out.write(record(number, length, encoding, start, samples[start : start + each]))
 
 
 def run(words, to):
@@ -119,7 +88,7 @@ def line(name, command, words, samples, few, folder, runs):
 
 def main():
     words = argparse.ArgumentParser(description=__doc__.splitlines()[0])
-    words.add_argument("--samples", type=int, default=86400 * RATE)
+    words.add_argument("--samples", type=int, default=station.SAMPLES)
     words.add_argument("--runs", type=int, default=3, help="how often each is run; the shortest time counts")
     words.add_argument("--program")
     words.add_argument("--keep", help="a folder to leave the files in")
@@ -137,8 +106,8 @@ def main():
 def files_of(asked, folder, samples, part):
     """The day, or a part of it, in its three encodings."""
     names = [f"{folder}/{part}{it}" for it in ("int32-4096", "int16-512", "steim2-512")]
-    write_plain(names[0], 4096, 3, samples)
-    write_plain(names[1], 512, 1, samples)
+    station.write_plain(names[0], 4096, station.INT32, samples)
+    station.write_plain(names[1], 512, station.INT16, samples)
     run([asked.program, "repack", "--length", "512", names[0], names[2]], f"{folder}/report")
     return names
 
@@ -151,7 +120,7 @@ def packed_of(asked, folder, name, part, length):
 
 
 def measure(asked, folder):
-    samples = made_up(asked.samples)
+    samples = station.noise_and_events(asked.samples)
     tenth = max(len(samples) // 10, 2)
     names = files_of(asked, folder, samples, "")
     short = files_of(asked, folder, samples[: tenth // 2], "a-")

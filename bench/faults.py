@@ -45,6 +45,7 @@ import threading
 
 import archive_faults
 import day
+import station
 from calls import IN_A_ROW, calls_in, faults_of, injected, words_of_trace
 
 OLD = b"what stood in OUT before"
@@ -342,7 +343,7 @@ def inputs(folder):
     for name in sorted(os.listdir(examples)):
         if name.endswith(".mseed"):
             yield name, f"{examples}/{name}"
-    day.write_plain(f"{folder}/day", 4096, 3, day.made_up(800_000))
+    station.write_plain(f"{folder}/day", 4096, station.INT32, station.noise_and_events(800_000))
     yield "some MB", f"{folder}/day"
 
 

@@ -17,12 +17,11 @@ none is wrong.
 import argparse
 import os
 import re
-import struct
 import subprocess
 import sys
 import tempfile
 
-import day
+import station
 
 ROOT = os.path.dirname(os.path.dirname(os.path.abspath(__file__)))
 CRATE = f"{ROOT}/crates/msr_vectors"
@@ -117,13 +116,10 @@ def are_lines_right(row, usual, lines, all_from_there):
     return all(is_line_right(row, wanted, line, told > 0, all_from_there) for wanted, line in zip(usual, lines))
 
 
-def record(count, sequence, clock, samples):
-    """A record of 4096 bytes with numbers of 32 bits at 20 a second, some ten thousandths of a second after 2020."""
-    second, fraction = divmod(clock, 10_000)
-    header = b"%06dD TEST 00BHZXX" % sequence + struct.pack(">HHBBBxHHhh", 2020, 1, 0, 0, second, fraction, count, 20, 1)
-    header += bytes([0, 0, 0, 2]) + struct.pack(">iHH", 0, 64, 48)
-    header += bytes([3, 0xE8, 0, 0x38, 3, 1, 12, 0, 3, 0xE9, 0, 0, 0, 0, 0, 0])
-    return (header + struct.pack(f">{count}i", *samples)).ljust(4096, b"\0")
+def record(number, clock, samples):
+    """A record of 4096 bytes at 20 samples a second, some ten thousandths of a second after 2020."""
+    form = station.Form(b"TEST 00BHZXX", 20, station.INT32, 4096)
+    return station.record(form, number, clock, len(samples), station.integers(station.INT32, samples))
 
 
 def pause(place):
@@ -132,9 +128,9 @@ def pause(place):
 
 INPUTS = {
     "empty": b"",
-    "zeros": record(302, 1, 0, [0] * 302),
-    "pause": record(173, 1, 0, [pause(place) for place in range(173)]),
-    "three": b"".join(record(100, at + 1, clock, [0] * 100) for at, clock in enumerate((0, 50_007, 100_014))),
+    "zeros": record(1, 0, [0] * 302),
+    "pause": record(1, 0, [pause(place) for place in range(173)]),
+    "three": b"".join(record(at + 1, clock, [0] * 100) for at, clock in enumerate((0, 50_007, 100_014))),
 }
 # Runs of msrepack, and the file that each writes.
 RUNS = (

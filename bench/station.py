@@ -1,9 +1,13 @@
-"""Made-up days of one channel, at 100 samples a second, as a station sends them. A seed gives a day: nothing is chance.
+"""All samples and records that the scripts of bench make up, the same ones on every machine: nothing is chance.
 
-A day is a swell under noise, with events that die down. Its records are those of docs/PROFILE.md, big-endian.
+Samples of several kinds; records of them; and days of one channel at 100 samples a second as a station sends them, in
+which events die down over a swell under noise. Records are those of docs/PROFILE.md, big-endian.
 """
+import array
 import collections
 import datetime
+import math
+import random
 import struct
 
 # How far the swell reaches, how much of its period a sample takes (of 65,536 parts), how far the noise reaches, after
@@ -13,8 +17,12 @@ Shape = collections.namedtuple("Shape", "height step spread event_every half_lif
 # the lengths of the records that are packed from it, and then from these.
 Day = collections.namedtuple("Day", "shape samples encoding length each gap first second")
 
+# What the records of a file have in common. The name is that of the station, the location, the channel and the network,
+# padded; the rate that of samples a second.
+Form = collections.namedtuple("Form", "name rate encoding length")
+
 INT16, INT32, STEIM2 = 1, 3, 11
-SAMPLES = 8_640_000
+RATE, EVENTS, SAMPLES = 100, 24, 8_640_000
 # Microseism of some hundred counts, and an event every hour.
 CALM = Shape(400, 280, 43, 360_000, 1000)
 # A quiet vault: some ten counts.
@@ -34,6 +42,48 @@ DAYS = {
 # How many differences a word of Steim-2 holds, of how many bits, most first; its code, and the bits before them.
 LAYOUTS = ((7, 4, 3, 2), (6, 5, 3, 1), (5, 6, 3, 0), (4, 8, 1, 0), (3, 10, 2, 3), (2, 15, 2, 2), (1, 30, 2, 1))
 MASK = (1 << 64) - 1
+
+
+def noise_and_events(count):
+    """Noise of some tens of counts, and events of up to some thousand, all within 16 bits."""
+    numbers = random.Random(1)
+    noise = [round(numbers.gauss(0, 25)) for _ in range(65521)]
+    samples = array.array("i", (noise[n % 65521] + noise[n * 7 % 65519] for n in range(count)))
+    for event in range(EVENTS):
+        begin = (2 * event + 1) * count // (2 * EVENTS)
+        height = numbers.uniform(300, 12000)
+        for n in range(min(60 * RATE, count - begin)):
+            samples[begin + n] += round(height * math.exp(-n / 900) * math.sin(n * n / (n + 400)))
+    return samples
+
+
+def microseism(count):
+    noise = random.Random(7)
+    return [round(noise.gauss(0, 25) + 400 * math.sin(n / 37)) for n in range(count)]
+
+
+def strong_motion(count):
+    """Swings of a million counts that die down, over noise of some thousand."""
+    noise = random.Random(7)
+    return [
+        round(noise.gauss(0, 3000) + 900_000 * math.sin(n / 900) * math.exp(-(n % 20_000) / 9_000)) for n in range(count)
+    ]
+
+
+def white_noise(height):
+    def samples(count):
+        noise = random.Random(7)
+        return [round(noise.gauss(0, height)) for _ in range(count)]
+
+    return samples
+
+
+def within_16_bits(count):
+    return [max(-32768, min(32767, sample)) for sample in white_noise(9000)(count)]
+
+
+def within_24_bits(count):
+    return [max(-8388608, min(8388607, sample)) for sample in white_noise(2_400_000)(count)]
 
 
 def next_of(number):
@@ -75,7 +125,7 @@ def runs_of(day, seed):
 
 
 def words_of(differences):
-    """The words of Steim-2 with their codes: each holds as many of the differences that are left as it can."""
+    """The words of Steim-2 with their codes and counts: each holds as many of the differences that are left as it can."""
     place = 0
     while place < len(differences):
         for count, bits, code, top in LAYOUTS:
@@ -87,33 +137,24 @@ def words_of(differences):
         word = 0
         for difference in held:
             word = word << bits | difference & (1 << bits) - 1
-        yield code, top << 30 & 0xFFFF_FFFF | word
+        yield code, top << 30 & 0xFFFF_FFFF | word, count
         place += count
 
 
-def steim2(run, before, length):
-    """The frames of a record, and how many of them hold words."""
-    words, number = [0] * ((length - 64) // 4), 2
-    firsts = [run[0] if before is None else before, *run]
-    for code, word in words_of([sample - last for last, sample in zip(firsts, run)]):
-        number += 2 if number % 16 == 15 else 1
+def steim2(samples, before, length):
+    """The frames of a record with as many of the samples as it can hold, how many these are, and how many frames hold
+    words. `before` is the sample before them, if there is one."""
+    words, number, taken = [0] * ((length - 64) // 4), 2, 0
+    firsts = [samples[0] if before is None else before, *samples]
+    for code, word, count in words_of([sample - last for last, sample in zip(firsts, samples)]):
+        following = number + (2 if number % 16 == 15 else 1)
+        if following >= len(words):
+            break
+        number, taken = following, taken + count
         words[number] = word
         words[number - number % 16] |= code << 30 - 2 * (number % 16)
-    words[1], words[2] = run[0] & 0xFFFF_FFFF, run[-1] & 0xFFFF_FFFF
-    return struct.pack(f">{len(words)}I", *words), number // 16 + 1
-
-
-def record(name, number, length, encoding, start, count, area, frames=0):
-    """A record whose area has so many samples, 100 a second, the first of them so many samples after 2020-01-01 00:00:00.
-    The name has the station, the location, the channel and the network, padded."""
-    time = datetime.datetime(2020, 1, 1) + datetime.timedelta(microseconds=start * 10_000)
-    head = b"%06dD %s" % (number, name)
-    head += struct.pack(">HH", time.year, time.timetuple().tm_yday)
-    head += struct.pack(">BBBBH", time.hour, time.minute, time.second, 0, time.microsecond // 100)
-    head += struct.pack(">HhhBBBBiHH", count, 100, 1, 0, 0, 0, 2, 0, 64, 48)
-    head += struct.pack(">HHBBBB", 1000, 56, encoding, 1, length.bit_length() - 1, 0)
-    head += struct.pack(">HHBbBB", 1001, 0, 0, 0, 0, frames)
-    return (head + area).ljust(length, b"\0")
+    words[1], words[2] = samples[0] & 0xFFFF_FFFF, samples[taken - 1] & 0xFFFF_FFFF
+    return struct.pack(f">{len(words)}I", *words), taken, number // 16 + 1
 
 
 def integers(encoding, samples):
@@ -121,16 +162,51 @@ def integers(encoding, samples):
     return struct.pack(f">{len(samples)}{'h' if encoding == INT16 else 'i'}", *samples)
 
 
+def record(form, number, clock, count, area, frames=0):
+    """A record whose area has so many samples. It starts so many ten thousandths of a second after 2020-01-01 00:00:00."""
+    seconds, fraction = divmod(clock, 10_000)
+    time = datetime.datetime(2020, 1, 1) + datetime.timedelta(seconds=seconds)
+    head = b"%06dD %s" % (number % 1_000_000, form.name)
+    head += struct.pack(">HHBBBBH", time.year, time.timetuple().tm_yday, time.hour, time.minute, time.second, 0, fraction)
+    head += struct.pack(">HhhBBBBiHH", count, form.rate, 1, 0, 0, 0, 2, 0, 64, 48)
+    head += struct.pack(">HHBBBB", 1000, 56, form.encoding, 1, form.length.bit_length() - 1, 0)
+    head += struct.pack(">HHBbBB", 1001, 0, 0, 0, 0, frames)
+    return (head + area).ljust(form.length, b"\0")
+
+
+def write_plain(path, length, encoding, samples):
+    """Writes records of integers, each full."""
+    form, each = Form(b"BENCH00HHZXX", RATE, encoding, length), (length - 64) // {INT16: 2, INT32: 4}[encoding]
+    with open(path, "wb") as out:
+        for number, start in enumerate(range(0, len(samples), each), 1):
+            run = samples[start : start + each]
+            out.write(record(form, number, 10_000 // RATE * start, len(run), integers(encoding, run)))
+
+
+def write_steim2(path, samples, length=512, most=65535):
+    """Writes records of Steim-2, each filled as far as its words reach, with at most `most` samples."""
+    form, start, number, before = Form(b"BENCH00HHZXX", RATE, STEIM2, length), 0, 1, None
+    # Fewer words than a quarter of the length hold seven differences each at most.
+    most = min(most, 7 * length // 4)
+    with open(path, "wb") as out:
+        while start < len(samples):
+            area, count, _ = steim2(samples[start : start + most], before, length)
+            out.write(record(form, number, 10_000 // RATE * start, count, area))
+            start, number, before = start + count, number + 1, samples[start + count - 1]
+
+
 def write(path, name, seed, parts=1):
     """Writes the day of that name, or the first of so many parts of it."""
     day, before = DAYS[name], None
-    day = day._replace(samples=day.samples // parts)
+    form, day = Form(b"TEST 00BHZXX", RATE, day.encoding, day.length), day._replace(samples=day.samples // parts)
     with open(path, "wb") as out:
         for place, run in enumerate(runs_of(day, next_of(seed))):
             if day.encoding == STEIM2:
-                area, frames = steim2(run, before, day.length)
+                area, count, frames = steim2(run, before, day.length)
             else:
-                area, frames = integers(day.encoding, run), 0
-            start = place * (day.each + day.gap)
-            out.write(record(b"TEST 00BHZXX", place + 1, day.length, day.encoding, start, len(run), area, frames))
+                area, count, frames = integers(day.encoding, run), len(run), 0
+            if count < len(run):
+                raise ValueError(f"{name}: {len(run)} samples have no room in a record")
+            clock = 10_000 // RATE * place * (day.each + day.gap)
+            out.write(record(form, place + 1, clock, count, area, frames))
             before = run[-1]

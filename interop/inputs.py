@@ -15,8 +15,7 @@ import tempfile
 
 sys.path.insert(0, os.path.join(os.path.dirname(os.path.dirname(os.path.realpath(__file__))), "bench"))
 import against_libmseed
-import day
-import kinds
+import station
 
 RECORDED = "/usr/share/doc/libmseed-dev/examples/test.mseed"
 COUNT = 100_000
@@ -104,7 +103,7 @@ class Made:
 
 
 def wave(count, height=30_000):
-    return [round(sample * height / 1000) for sample in kinds.white_noise(1000)(count)]
+    return [round(sample * height / 1000) for sample in station.white_noise(1000)(count)]
 
 
 def zeros(count):
@@ -124,8 +123,8 @@ def swings(count):
 def of_all_kinds(count):
     """Stretches for which each of the five kinds of records is the smallest."""
     fifth = count // 5
-    narrow = kinds.microseism(fifth) + kinds.within_16_bits(fifth) + swings(fifth)
-    return narrow + kinds.within_24_bits(fifth) + of_32_bits(fifth)
+    narrow = station.microseism(fifth) + station.within_16_bits(fifth) + swings(fifth)
+    return narrow + station.within_24_bits(fifth) + of_32_bits(fifth)
 
 
 def recorded(name, _):
@@ -185,14 +184,14 @@ def jitter(name, _):
     """Records that are up to 450 microseconds early or late."""
     noise, made = random.Random(7), Made()
     late = lambda number: noise.randrange(-450, 451)
-    made.add_all(0, kinds.microseism(20_000), 100, Form(rate=(100, 1)), late)
+    made.add_all(0, station.microseism(20_000), 100, Form(rate=(100, 1)), late)
     return made.write(name)
 
 
 def drift(name, _):
     """A clock by which each record is 70 microseconds later than the one before it says."""
     made = Made()
-    made.add_all(0, kinds.microseism(20_000), 100, Form(rate=(100, 1)), lambda number: 70 * number)
+    made.add_all(0, station.microseism(20_000), 100, Form(rate=(100, 1)), lambda number: 70 * number)
     return made.write(name)
 
 
@@ -229,7 +228,7 @@ def headers(name, _):
     made = Made()
     for number, form in enumerate(HEADERS):
         each = 30 if form.length == 128 else 97
-        made.add_all(0, kinds.within_16_bits(500), each, form._replace(channel=b"F%02d" % number))
+        made.add_all(0, station.within_16_bits(500), each, form._replace(channel=b"F%02d" % number))
     return made.write(name)
 
 
@@ -268,7 +267,7 @@ def empty(name, _):
 
 
 def plain(length, encoding):
-    return lambda name, samples: day.write_plain(name, length, encoding, samples)
+    return lambda name, samples: station.write_plain(name, length, encoding, samples)
 
 
 # By how many microseconds a time may be apart: two times that are rounded, or the tolerance and one that is rounded.
@@ -282,15 +281,15 @@ INPUTS = [
     Input("IU.COLA.00.LHZ, as recorded", recorded, RAGGED),
     *(Input(it.title, block(it)) for it in against_libmseed.INPUTS if it.make),
     *(Input(f"{it.title}, 24 times", block(it), RAGGED) for it in against_libmseed.INPUTS if not it.make),
-    Input("a tenth of a day, 16-bit integers", by_bench(day.made_up, 864_000, plain(512, 1))),
-    Input("noise within 24 bits, 32-bit integers", by_bench(kinds.within_24_bits, COUNT, plain(4096, 3))),
+    Input("a tenth of a day, 16-bit integers", by_bench(station.noise_and_events, 864_000, plain(512, 1))),
+    Input("noise within 24 bits, 32-bit integers", by_bench(station.within_24_bits, COUNT, plain(4096, 3))),
     Input("all of 32 bits, 32-bit integers", by_bench(of_32_bits, COUNT, plain(512, 3))),
     Input("stretches of each kind, 32-bit integers", by_bench(of_all_kinds, 2 * COUNT, plain(4096, 3))),
-    Input("Steim-1 by libmseed, big-endian", by_libmseed(kinds.strong_motion, 10, 1, 512)),
-    Input("Steim-1 by libmseed, little-endian", by_libmseed(kinds.strong_motion, 10, 0, 4096)),
-    Input("Steim-2 by libmseed, big-endian", by_libmseed(kinds.strong_motion, 11, 1, 4096)),
-    Input("Steim-2 by libmseed, little-endian", by_libmseed(kinds.strong_motion, 11, 0, 512)),
-    Input("16-bit integers by libmseed, little-endian", by_libmseed(kinds.within_16_bits, 1, 0, 512)),
+    Input("Steim-1 by libmseed, big-endian", by_libmseed(station.strong_motion, 10, 1, 512)),
+    Input("Steim-1 by libmseed, little-endian", by_libmseed(station.strong_motion, 10, 0, 4096)),
+    Input("Steim-2 by libmseed, big-endian", by_libmseed(station.strong_motion, 11, 1, 4096)),
+    Input("Steim-2 by libmseed, little-endian", by_libmseed(station.strong_motion, 11, 0, 512)),
+    Input("16-bit integers by libmseed, little-endian", by_libmseed(station.within_16_bits, 1, 0, 512)),
     Input("32-bit integers by libmseed, little-endian", by_libmseed(of_32_bits, 3, 0, 4096)),
     Input("two channels in turns, with gaps", in_turns([0, 5, 10, 25, 30, 60])),
     Input("the same, with times that come again", in_turns([0, 5, 10, 25, 30, 20, 20, 60]), again=True),
