@@ -240,6 +240,13 @@ class Sources:
                 methods.add(it[1])
         return free, types, of_types, methods
 
+    def calls(self, one, other):
+        """Whether a function calls another, as far as the sources tell: of a trait by its name alone."""
+        free, _, of_types, methods = self.names(one)
+        if not other.holder:
+            return (*other.at, other.name) in free
+        return (self.home(other), other.name) in of_types or other.name in methods
+
     def declared(self, home):
         """The types that the declaration of a type names."""
         crate, module, name = home
