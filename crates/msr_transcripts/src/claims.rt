@@ -10,8 +10,8 @@ fn leave_part(stage: &mut Stage<'_>, path: &str, ending: &str, number: u64) {
     stage.write(part.as_str(), b"killed");
 }
 
-/// The claim of the day with these records, and what was written of it; the names of its report and its stamp begin as
-/// `report` says.
+/// `claim RECORDS REPORT`: what a killed walk leaves of a day: RECORDS.claim, empty, and RECORDS.N.part,
+/// REPORT.txt.N.part and REPORT.from.N.part, where N is the claim's number.
 pub fn leave(stage: &mut Stage<'_>, records: &str, report: &str) {
     let claim = stage.made(format!(in stage.alloc(); "{records}.claim"));
     stage.write(claim.as_str(), &[]);

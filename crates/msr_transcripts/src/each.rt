@@ -23,7 +23,8 @@ fn tell_alike(stage: &mut Stage<'_>, first: usize, last: usize, answer: &Answer)
     answer.tell(stage);
 }
 
-/// The run with each number from the first to the last, `FIRST to LAST SETTINGS $ WORDS`; like neighbours are told once.
+/// `each FROM to TO SETTINGS $ WORDS`: the run with each number for `{number}`; equal neighbours are told once, after
+/// `1 to 47: `.
 pub fn step(stage: &mut Stage<'_>, text: &str) {
     let (first, rest) = stage.parts(text, " to ");
     let (last, run) = stage.parts(rest, " ");

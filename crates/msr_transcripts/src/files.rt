@@ -6,7 +6,8 @@ use crate::{claims, questions, records, samples};
 use std::fs;
 use std::os::unix::fs::symlink;
 
-/// Writes the input with that name.
+/// `make NAME FILE`: `zeros` are 302 samples of 0 in a record of 4096 bytes, `mismatched` is one sample that is not its
+/// reverse constant, `two` five records of 512 bytes and a gap, `nothing` no byte.
 fn make(stage: &mut Stage<'_>, name: &str, path: &str) {
     let alloc = stage.alloc();
     let bytes = match name {
@@ -27,26 +28,26 @@ fn lined(stage: &mut Stage<'_>, text: &str) -> String {
     stage.made(text.replace(stage.alloc(), "\\n", "\n"))
 }
 
-/// Writes a text.
+/// `text FILE TEXT`: writes a text; in it, and in that of `edit`, `\n` is a line's end.
 fn text(stage: &mut Stage<'_>, path: &str, text: &str) {
     let text = lined(stage, text);
     stage.write(path, text.as_str().as_bytes());
 }
 
-/// Cuts a file to its first `count` bytes.
+/// `cut FILE COUNT`: keeps the first COUNT bytes.
 fn cut(stage: &mut Stage<'_>, path: &str, count: &str) {
     let mut bytes = stage.read(path);
     bytes.truncate(stage.count(count));
     stage.write(path, bytes.as_slice());
 }
 
-/// Removes the first byte of a file.
+/// `behead FILE`: removes the first byte.
 fn behead(stage: &mut Stage<'_>, path: &str) {
     let bytes = stage.read(path);
     stage.write(path, bytes.as_slice().get(1..).unwrap_or(&[]));
 }
 
-/// Replaces a text in a file wherever it stands, which is somewhere, `OLD/NEW`.
+/// `edit FILE OLD/NEW`: replaces a text wherever it stands, which is somewhere.
 fn edit(stage: &mut Stage<'_>, path: &str, change: &str) {
     let change = lined(stage, change);
     let (old, new) = stage.parts(change.as_str(), "/");
@@ -56,7 +57,7 @@ fn edit(stage: &mut Stage<'_>, path: &str, change: &str) {
     stage.write(path, edited.as_str().as_bytes());
 }
 
-/// Appends the bytes of another file to a file.
+/// `append FILE OTHER`: puts the bytes of OTHER after those of FILE.
 fn append(stage: &mut Stage<'_>, path: &str, other: &str) {
     let mut bytes = stage.read(path);
     let more = stage.read(other);
@@ -64,13 +65,13 @@ fn append(stage: &mut Stage<'_>, path: &str, other: &str) {
     stage.write(path, bytes.as_slice());
 }
 
-/// Copies a file.
+/// `copy FROM TO`: copies a file.
 fn copy(stage: &mut Stage<'_>, path: &str, to: &str) {
     let bytes = stage.read(path);
     stage.write(to, bytes.as_slice());
 }
 
-/// Makes this number of empty files, with numbers for names.
+/// `many FOLDER COUNT`: makes so many empty files, with numbers for names.
 fn many(stage: &mut Stage<'_>, folder: &str, count: &str) {
     for number in 0..stage.count(count) {
         let path = stage.made(format!(in stage.alloc(); "{folder}/{number}"));
@@ -78,13 +79,13 @@ fn many(stage: &mut Stage<'_>, folder: &str, count: &str) {
     }
 }
 
-/// Makes a link to that file, and the folder of the link.
+/// `soft TO FILE`: makes a symbolic link.
 fn link(stage: &mut Stage<'_>, to: &str, path: &str) {
     stage.make_room(path);
     stage.note(stage.has_failed || symlink(stage.rt, to, path).is_ok());
 }
 
-/// Removes folders with all that is in them; those that are missing are no matter.
+/// `clear FOLDER ..`: removes folders with all that is in them; those that are missing are no matter.
 fn clear(stage: &mut Stage<'_>, one: &str, others: &str) {
     fs::remove_dir_all(stage.rt, one).ok();
     for path in others.split_whitespace() {
@@ -92,7 +93,8 @@ fn clear(stage: &mut Stage<'_>, one: &str, others: &str) {
     }
 }
 
-/// A step that makes files or folders, or else a question.
+/// `folder FOLDER`, `hard TO FILE`: makes a folder, or a hard link in a folder that is there. Or another step that
+/// makes something, or else a question.
 fn making(stage: &mut Stage<'_>, verb: &str, one: &str, other: &str) {
     match verb {
         "make" => make(stage, one, other),
@@ -109,7 +111,7 @@ fn making(stage: &mut Stage<'_>, verb: &str, one: &str, other: &str) {
     }
 }
 
-/// The step with these words: one that changes or removes files, or else another.
+/// `remove FILE`: removes a file. Or another step that changes or removes files, or else another one.
 pub fn step(stage: &mut Stage<'_>, verb: &str, one: &str, other: &str) {
     match verb {
         "cut" => cut(stage, one, other),

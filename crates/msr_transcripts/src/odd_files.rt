@@ -10,28 +10,32 @@ use std::{fs, io};
 /// What another program writes to a file that it took.
 const TAKEN: &[u8] = b"another's";
 
-/// The folder with the path, which ends in a slash, has these names, each ended by a NUL; without any it cannot be
-/// opened. If the last name is cut short, reading fails there. A file gets the later name only if the earlier one is
-/// there and the one that is to be gone is not. Once a file whose name matches `made` is there, the other one is opened
-/// in its place. When a new file is made whose name matches `when`, the file `taken` is replaced, as another program
-/// would. When a claim is made, the file `linked` gets the name beside that of the records, too. A file whose name
-/// matches `stays` cannot be removed. Standard input is redirected from the file `redirected`, and standard output to
-/// the file `redirecting`, if these are names.
+/// What is odd in the files that a run sees. In `made`, `when` and `stays` a `*` stands for any text.
 #[derive(Clone, Copy)]
 pub struct OddFiles<'a> {
     rt: &'a HostRuntime,
+    /// `folder=FOLDER/ names=KIND`: the folder has names of nothing.
     path: &'a str,
+    /// The names, each ended by a NUL: without any the folder cannot be opened, and if the last one is cut short, it
+    /// cannot be read to its end.
     names: &'static [u8],
+    /// `earlier=FILE later=FILE gone=FILE`: a file gets the name `later` only if `earlier` is there and `gone` is not.
     earlier: &'a str,
     later: &'a str,
+    /// `made=FILE other=FILE`: once `made` is there, `other` is opened in its place.
     made: &'a str,
     other: &'a str,
     gone: &'a str,
+    /// `taken=FILE when=FILE`: when a file `when` is made, `taken` is replaced, as another program would.
     taken: &'a str,
     when: &'a str,
+    /// `linked=FILE`: when a claim is made, it also gets the name of the day's unfinished records.
     linked: &'a str,
+    /// `stays=FILE`: it cannot be removed.
     stays: &'a str,
+    /// `redirected=FILE`: standard input seems redirected from it.
     redirected: &'a str,
+    /// `redirecting=FILE`: standard output seems redirected to it.
     redirecting: &'a str,
 }
 
@@ -77,8 +81,8 @@ impl<'a> OddFiles<'a> {
         true
     }
 
-    /// Takes the names of a folder that cannot be opened, that cannot be read to its end, or that has a name that is not
-    /// UTF-8; or names with control characters, and one without; or that of a day.
+    /// `names=KIND`: `closed` if the folder cannot be opened, `cut` if it cannot be read to its end, `latin` if it has
+    /// a name that is not UTF-8, `marked` for names with control characters and one without, `day` for that of a day.
     fn set_names(&mut self, kind: &str) -> bool {
         self.names = match kind {
             "closed" => b"",

@@ -3,13 +3,13 @@
 use crate::stage::Stage;
 use std::fs;
 
-/// How many bytes a file has.
+/// `size FILE`: how many bytes it has.
 fn size(stage: &mut Stage<'_>, path: &str) {
     let count = stage.read(path).len();
     stage.say(format!(in stage.alloc(); "{count} bytes\n"));
 }
 
-/// Whether there is something, also a link that leads nowhere.
+/// `has PATH`: whether there is something, also a link that leads nowhere.
 fn has(stage: &mut Stage<'_>, path: &str) {
     stage.say_whether(fs::symlink_metadata(stage.rt, path).is_ok());
 }
@@ -43,7 +43,7 @@ fn add_names(stage: &mut Stage<'_>, names: &mut Vec<String>, folder: &str) {
     }
 }
 
-/// The names in a folder, in the order of their bytes.
+/// `names FOLDER`: the names in a folder, in the order of their bytes; a number before `.part` as `N`.
 fn names(stage: &mut Stage<'_>, folder: &str) {
     let mut names = Vec::new(stage.alloc());
     add_names(stage, &mut names, folder);
@@ -54,25 +54,25 @@ fn names(stage: &mut Stage<'_>, folder: &str) {
     }
 }
 
-/// Whether two files have the same bytes.
+/// `same ONE OTHER`: whether two files have the same bytes.
 fn same(stage: &mut Stage<'_>, one: &str, other: &str) {
     let (one, other) = (stage.read(one), stage.read(other));
     stage.say_whether(one.as_slice() == other.as_slice());
 }
 
-/// Whether the bytes of a file begin with those of another.
+/// `prefix PART WHOLE`: whether the bytes of WHOLE begin with those of PART.
 fn prefix(stage: &mut Stage<'_>, part: &str, whole: &str) {
     let (part, whole) = (stage.read(part), stage.read(whole));
     stage.say_whether(whole.as_slice().starts_with(part.as_slice()));
 }
 
-/// The text of a file.
+/// `show FILE`: the text of a file.
 fn show(stage: &mut Stage<'_>, path: &str) {
     let bytes = stage.read(path);
     stage.tell(bytes.as_slice());
 }
 
-/// The first bytes of a file and its last, `FIRST/LAST`.
+/// `ends FILE FIRST/LAST`: so many of its first bytes, and of its last.
 fn ends(stage: &mut Stage<'_>, path: &str, counts: &str) {
     let (first, last) = stage.parts(counts, "/");
     let (first, last) = (stage.count(first), stage.count(last));
@@ -82,7 +82,7 @@ fn ends(stage: &mut Stage<'_>, path: &str, counts: &str) {
     stage.tell(&bytes[bytes.len() - last.min(bytes.len())..]);
 }
 
-/// The bytes of a file from a place to another, `FROM..TO`, in hexadecimal.
+/// `hex FILE FROM..TO`: the bytes of a file from a place to another, in hexadecimal.
 fn hex(stage: &mut Stage<'_>, path: &str, range: &str) {
     let (from, to) = stage.parts(range, "..");
     let (from, to) = (stage.count(from), stage.count(to));
@@ -115,7 +115,8 @@ fn tell_shapes(stage: &mut Stage<'_>, shape: (u16, u8), times: usize) {
     }
 }
 
-/// The number of samples and the encoding of each record of that length, like neighbours in one line.
+/// `shapes FILE LENGTH`: the number of samples and the encoding of each record of that length, equal neighbours in one
+/// line, as `301 11 *600`.
 fn shapes(stage: &mut Stage<'_>, path: &str, length: &str) {
     let bytes = stage.read(path);
     let length = stage.count(length).max(1);
@@ -196,7 +197,8 @@ fn tell_rises(stage: &mut Stage<'_>, numbers: &str) {
     rise.tell(stage);
 }
 
-/// The numbers after the first word of a line, those that rise evenly in one line.
+/// `rises FILE LINE`: the numbers after the first word of a line (from 1), those that rise evenly together, as
+/// `0 by 721 to 8639743`.
 fn rises(stage: &mut Stage<'_>, path: &str, line: &str) {
     let place = stage.count(line).saturating_sub(1);
     let text = stage.read_text(path);

@@ -4,7 +4,8 @@ use crate::stage::Stage;
 use msr_base::Order;
 use msr_fixtures::{edit_by_name, int32_record, record, steim_record};
 
-/// Writes the record of that name.
+/// `record NAME FILE`: writes 256 bytes of msr_fixtures: `plain` is a header and bytes of 0, `steim` 301 samples of 0
+/// as Steim-2, `int32` 48 as integers of 32 bits.
 pub fn write(stage: &mut Stage<'_>, name: &str, path: &str) {
     let bytes = match name {
         "plain" => record(&[]),
@@ -21,7 +22,8 @@ fn change(bytes: &mut [u8], word: &str) -> Option<()> {
     edit_by_name(Order::Big, bytes, name, value)
 }
 
-/// Changes fields of the record at a file's begin, `NAME=VALUE ..`. A `_` stands for a space.
+/// `set FILE NAME=VALUE ..`: changes fields of the file's first record, as `day=2020,1`, `clock=23:59:29.9500` and
+/// `rate=20/1`. A text has its full width, with `_` for a space. Bytes from a place on are `72=00000001`.
 pub fn set(stage: &mut Stage<'_>, path: &str, changes: &str) {
     let mut bytes = stage.read(path);
     for word in changes.split_whitespace() {

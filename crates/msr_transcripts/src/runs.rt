@@ -87,7 +87,7 @@ fn answer_with(stage: &mut Stage<'_>, settings: &Settings<'_>, words: &[&str]) -
     }
 }
 
-/// What came of a run, `SETTINGS $ WORDS`.
+/// `SETTINGS $ WORDS`: a run with these words: what it printed, its complaint after `! `, then `status N`.
 pub fn answer_to(stage: &mut Stage<'_>, line: &str) -> Answer {
     let (before, after) = stage.parts(line, "$");
     let mut settings = Settings::new(stage.rt);

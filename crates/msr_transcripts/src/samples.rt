@@ -88,7 +88,8 @@ fn add_records(stage: &mut Stage<'_>, rate: Rate, samples: &[i32], records: &mut
     }
 }
 
-/// Writes the samples from 2020-01-01 00:00:00 on in records of 4096 bytes, `FACTOR/MULTIPLIER NUMBERS ..`.
+/// `samples FILE FACTOR/MULTIPLIER WORDS`: samples from 2020-01-01 on as integers of 32 bits, 1008 in a record of 4096
+/// bytes. A word is `NUMBER,NUMBER*COUNT` (without `*COUNT`, once) or `FROM..TO` (without TO).
 pub fn write(stage: &mut Stage<'_>, path: &str, text: &str) {
     let (first, words) = text.split_once(' ').unwrap_or((text, ""));
     let Some(rate) = rate(first) else {

@@ -11,17 +11,23 @@ const PLAIN: Behavior = Behavior {
     fails_at: None,
 };
 
-/// What a run is given beside its words: the name of the file that is its standard input and how many of its bytes come
-/// at most, of the one that keeps what it prints, and of one that another program has locked, if there are such; how its
-/// streams behave, whether standard error is a terminal, and what is odd in the files that it sees.
+/// What a run is given beside its words.
 #[derive(Drop)]
 pub struct Settings<'a> {
+    /// `from=FILE`: what standard input has, else nothing.
     pub from: &'a str,
+    /// `cut=COUNT`: standard input has only the first COUNT bytes of it.
     pub cut: usize,
+    /// `into=FILE`: keeps what is printed.
     pub into: &'a str,
+    /// `held=FILE`: another program has locked it.
     pub held: &'a str,
+    /// `reading=MOST@CALL`: standard input moves at most MOST bytes in a call, and fails at that call, from 0; `3`
+    /// alone fails at call 3.
     pub reading: Behavior,
+    /// `writing=MOST@CALL`: the same of standard output.
     pub writing: Behavior,
+    /// `terminal`: standard error is one.
     pub is_terminal: bool,
     pub odd: OddFiles<'a>,
 }

@@ -4,7 +4,7 @@ use crate::names::Names;
 use crate::stage::Stage;
 use crate::{each, files, runs};
 
-/// What the line asks for once its names are replaced: a name for a text, or a step with files.
+/// `let NAME TEXT`: `{NAME}` stands for the text from here on, but in comments. Or a step with files.
 fn named_step(stage: &mut Stage<'_>, names: &mut Names, line: &str) {
     let (verb, rest) = line.split_once(' ').unwrap_or((line, ""));
     let (one, other) = rest.split_once(' ').unwrap_or((rest, ""));

@@ -202,7 +202,7 @@ fn are_groups(version: Version, groups: &[Group]) -> bool
     }
 }
 
-/// Groups of differences with a `+` between them, each once or `DIFFERENCES*TIMES`.
+/// `GROUPS`: differences, each group once or `DIFFERENCES*TIMES`, with a `+` between them.
 fn groups_of(line: &mut Line<'_>) -> Vec<Group> {
     let mut groups = Vec::new(line.alloc);
     let text = line.word();

@@ -103,7 +103,8 @@ pub fn joined(line: &mut Line<'_>) {
     line.show(&joined.segments);
 }
 
-/// How many bytes a device moves in a call, how many interruptions come before each, and the call that fails, or `-`.
+/// `MOST INTERRUPTIONS FAILS`: at most so many bytes move in a call, after so many interruptions; the call FAILS fails,
+/// counted from 0, or none (`-`).
 pub fn behavior(line: &mut Line<'_>) -> Behavior {
     Behavior {
         most: line.number(),
@@ -112,7 +113,7 @@ pub fn behavior(line: &mut Line<'_>) -> Behavior {
     }
 }
 
-/// The same, or for `FROM..TO` in place of the call a device for each of these calls.
+/// The same, in `retold` and `tool` also with `FROM..TO` for a device for each of these calls.
 pub fn behaviors(line: &mut Line<'_>) -> Vec<Behavior> {
     let mut plain = Behavior {
         most: line.number(),

@@ -168,7 +168,7 @@ impl<'a> Line<'a> {
         self.number_until(" ")
     }
 
-    /// None, `-`, or a number: the sample before a run, or the call that fails.
+    /// `BEFORE`, `FAILS`: a number, or `-` for none: the sample before a run, or the call that fails.
     pub fn optional<T>(&mut self) -> Option<T>
     where
         T: FromStr + Default,
@@ -191,12 +191,12 @@ impl<'a> Line<'a> {
         self.bad(instead)
     }
 
-    /// A version of Steim.
+    /// `VERSION`: 1 or 2, of Steim.
     pub fn version(&mut self) -> Version {
         self.named(VERSIONS, Version::One)
     }
 
-    /// An order of bytes.
+    /// `ORDER`: `big` or `little`.
     pub fn order(&mut self) -> Order {
         self.named(ORDERS, Order::Big)
     }
@@ -206,7 +206,7 @@ impl<'a> Line<'a> {
         self.named(WIDTHS, Width::Two)
     }
 
-    /// A kind of records.
+    /// `KIND`: `Int16`, `Int24`, `Int32`, `Steim1` or `Steim2`.
     pub fn kind(&mut self) -> Kind {
         self.named(KINDS, Kind::Int16)
     }
@@ -219,7 +219,7 @@ impl<'a> Line<'a> {
         }
     }
 
-    /// The length of records, and which kinds they may have: `all`, or `four`, which are all but 24-bit integers.
+    /// `FORM`: `LENGTH all`, or `LENGTH four`, records of that length of all kinds but 24-bit integers.
     pub fn form(&mut self) -> Form {
         Form {
             length: self.length(),

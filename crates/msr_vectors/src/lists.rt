@@ -26,8 +26,7 @@ fn of_height(number: u64, height: u64) -> i64 {
     above.wrapping_sub((height / 2).cast_signed())
 }
 
-/// Noise: how many numbers, from which seed, their height, another height, and how many numbers each
-/// of these lasts.
+/// `noise:COUNT,SEED,HEIGHT,OTHER,STRETCH`: noise of two heights in turn, each for a stretch of so many numbers.
 fn add_noise(line: &mut Line<'_>, numbers: &mut Vec<i64>, of: &[i64]) {
     let [count, seed, calm, loud, stretch] = of else {
         return line.bad(());
@@ -52,7 +51,7 @@ fn add_in_turn(line: &mut Line<'_>, numbers: &mut Vec<i64>, of: &[i64], count: u
     }
 }
 
-/// Adds numbers with commas between them, once or in turn, `COUNT:NUMBERS`, or noise, `noise:NUMBERS`.
+/// Adds a part of numbers.
 fn add_part(line: &mut Line<'_>, numbers: &mut Vec<i64>, part: &str) {
     let (head, text) = part.split_once(':').unwrap_or(("", part));
     let mut of = Vec::new(line.alloc);
@@ -98,7 +97,8 @@ fn digit(line: &mut Line<'_>, letter: u8) -> u8 {
 }
 
 impl Line<'_> {
-    /// The numbers of parts with a `+` between them, each in the range of its type; `-` stands for none.
+    /// `NUMBERS`, `SAMPLES`, `DIFFERENCES`: `1,-2,3`, or `COUNT:1,-2`, so many, with these in turn, or noise; several of
+    /// these with `+`; `-` for none. Each is in the range of its type.
     pub fn numbers<T>(&mut self) -> Vec<T>
     where
         T: TryFrom<i64> + Default + Drop,
@@ -126,7 +126,7 @@ impl Line<'_> {
         self.numbers()
     }
 
-    /// The bytes of parts with a `+` between them, each once or `DIGITS*TIMES`; `-` stands for none.
+    /// `AREA`, `WORD`: hexadecimal digits, or `DIGITS*TIMES`, several with `+`; `-` for none.
     pub fn bytes(&mut self) -> Vec<u8> {
         let mut bytes = Vec::new(self.alloc);
         let text = self.word();
@@ -140,7 +140,7 @@ impl Line<'_> {
         bytes
     }
 
-    /// The bytes of a text up to a `&` or to the end, in which `\n` stands for a line's end; `-` stands for none.
+    /// `TEXT`: up to a `&` or to the end; `\n` stands for a line's end, `-` for no text.
     pub fn text(&mut self) -> Vec<u8> {
         let mut bytes = Vec::new(self.alloc);
         let text = self.until(" & ");

@@ -176,7 +176,7 @@ pub fn separated(line: &mut Line<'_>) {
     line.put(is);
 }
 
-/// Runs with a `+` between them, `START,END,KIND`.
+/// `RUNS`: `START,END,KIND`, several with `+`.
 fn runs_of(line: &mut Line<'_>) -> Vec<Run> {
     let mut runs = Vec::new(line.alloc);
     let text = line.word();

@@ -33,7 +33,8 @@ fn patch(line: &mut Line<'_>, record: &mut Vec<u8>, at: usize) {
     }
 }
 
-/// Makes a change: how many bytes are there, from which on, the bytes from a place on, or those of a field.
+/// `FIELD=VALUE`, `PLACE=DIGITS`, `to=COUNT`, `from=PLACE`: a field by its name, bytes from a place on, or which of the
+/// bytes are there.
 fn change(line: &mut Line<'_>, order: Order, record: &mut Vec<u8>) {
     match line.until("=") {
         "to" => line.is_bad |= record.resize(line.number(), 0).is_err(),
@@ -76,7 +77,8 @@ fn add_base(line: &mut Line<'_>, out: &mut Vec<u8>) -> Order {
     order
 }
 
-/// A record and what is changed of it; `-` stands for no bytes.
+/// `RECORD`: `steim` or `int32` of msr_fixtures, `plain`, the header of `steim` before bytes of 0, `little`, the same with
+/// little-endian numbers, or `-` for no bytes; then changes.
 pub fn record_of(line: &mut Line<'_>) -> Vec<u8> {
     let mut record = Vec::new(line.alloc);
     let order = add_base(line, &mut record);

@@ -52,7 +52,8 @@ impl Devices {
     }
 }
 
-/// A device, or none of them.
+/// `DEVICE`: `records` or `report`, which are read, `written` or `told`, which are written, or `-`. It fails by an error,
+/// and once more by accepting nothing. The others move at most OTHERS bytes in a call.
 #[derive(Clone, Copy)]
 enum Place {
     Records,
