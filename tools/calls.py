@@ -23,8 +23,13 @@ DECLARED = re.compile(r"(?ms)^(?:pub(?:\(crate\))? )?(?:struct|enum|trait|type) 
 FIELD = re.compile(r"(?m)^    (?:pub(?:\(crate\))? )?(\w+): (.*?),?$")
 GIVEN = re.compile(r"[(,]\s*(\w+): ([^,()]*)")
 LET = r"\blet (?:mut )?{}(?:: ([^=;]+))? = "
+# Where a pattern may bind a name: of a variant, of a closure, of a loop, of a tuple, of a struct.
+BOUND = (
+    r"\b[A-Z]\w*\((?:[^()]*[ ,(&])?{0}[),]|\|[^|();]*\b{0}\b[^|();]*\||\bfor [^=;{{}}]*\b{0}\b[^=;{{}}]* in\b"
+    r"|\blet \([^=]*\b{0}\b|\{{[^{{}};:]*\b{0}\b[^{{}};:]*\}} ="
+)
 # A name with the path before it; the name of a method with its dot; a step of a chain: `?`, a method or a field.
-NAMED = re.compile(r"(?<![\w.])((?:\w+(?:::<[^;{}()]*?>)?::)*)([A-Za-z_]\w*)|\.\.")
+NAMED = re.compile(r"(?<!\w)(?<!(?<!\.)\.)((?:\w+(?:::<[^;{}()]*?>)?::)*)([A-Za-z_]\w*)")
 METHOD = re.compile(r"(?<!\.)\.\s*([a-z_]\w*)\s*(?:\(|::<)")
 STEP = re.compile(r"\s*(\?|\.\s*(\w+)(?:::<[^()]*>)?(\()?)")
 # Types of the library that no `use` brings.
@@ -173,8 +178,11 @@ class Sources:
         """The type of a name in a function: of `self`, of an argument, or of what it is let be before a place."""
         if name == "self":
             return function.at, function.holder or ""
-        for it in reversed([*re.finditer(LET.format(name), function.text[1][:until])]):
-            return (function.at, it[1]) if it[1] else self.type_of(function, function.text[1][it.end() :], it.start())
+        body = function.text[1]
+        if re.search(BOUND.format(name), body[:until]):
+            return function.at, ""
+        for it in reversed([*re.finditer(LET.format(name), body[:until])]):
+            return (function.at, it[1]) if it[1] else self.type_of(function, body[it.end() :], it.start())
         return function.at, dict(GIVEN.findall(function.text[0])).get(name, "")
 
     def result(self, function):
@@ -224,7 +232,7 @@ class Sources:
         for before, name in NAMED.findall("".join(function.text)):
             path = re.findall(r"\w+", re.sub(r"::<.*?>", "", before))
             path = [function.holder if it == "Self" and function.holder else it for it in path]
-            found = self.resolve(function.at, *path, name) if name else None
+            found = self.resolve(function.at, *path, name)
             holder = self.resolve(function.at, *path) if path else None
             free.update([found] if found in self.free else [])
             types.update(it for it in (found, holder) if it and it not in self.free)
@@ -236,7 +244,7 @@ class Sources:
             found = self.receiver(function, it.start()) if it[1] in self.methods else False
             if self.method(found, it[1]):
                 of_types.add((found, it[1]))
-            elif found is not False:
+            elif found is not False or any(self.home(other) is None for other in self.methods.get(it[1], ())):
                 methods.add(it[1])
         return free, types, of_types, methods
 
