@@ -24,10 +24,10 @@ import readers
 
 # The samples of each encoding.
 SAMPLES = {
-    11: inputs.kinds.microseism,
+    11: inputs.station.microseism,
     10: inputs.swings,
-    1: inputs.kinds.within_16_bits,
-    2: inputs.kinds.within_24_bits,
+    1: inputs.station.within_16_bits,
+    2: inputs.station.within_24_bits,
     3: inputs.of_32_bits,
 }
 
@@ -35,7 +35,7 @@ SAMPLES = {
 def full_record(bench, encoding, length):
     """The first record of this encoding that msrepack packs, but for the last of all, and its samples."""
     name, samples = f"{bench.folder}/in", SAMPLES[encoding](inputs.COUNT)
-    inputs.day.write_plain(name, 4096, 3, samples)
+    inputs.station.write_plain(name, 4096, inputs.station.INT32, samples)
     bench.said(bench.program, "repack", "--length", str(length), name, f"{bench.folder}/out")
     with open(f"{bench.folder}/out", "rb") as it:
         packed = it.read()
