@@ -7,7 +7,7 @@
 # Status 0: done; 1: a file is not what SHA256SUMS says, there is no program of these sources, nothing was installed
 # there, or a file cannot be written, and what had its name stays; 2: bad call.
 set -eu
-usage() { echo "usage: install.sh [--uninstall] PREFIX" >&2; exit 2; }
+usage() { printf '%s\n' "usage: install.sh [--uninstall] PREFIX" >&2; exit 2; }
 what=install
 if [ "${1-}" = --uninstall ]; then what=uninstall; shift; fi
 [ $# = 1 ] || usage
@@ -27,10 +27,10 @@ IFS='
 set -f
 
 # path_of NAME: where a folder or a file of the list stands.
-path_of() { case $1 in /*) echo "$1" ;; *) echo "$prefix/$1" ;; esac }
+path_of() { case $1 in /*) printf '%s\n' "$1" ;; *) printf '%s\n' "$prefix/$1" ;; esac }
 
 cannot_write() {
-    echo "install.sh: cannot write $prefix/$1" >&2
+    printf '%s\n' "install.sh: cannot write $prefix/$1" >&2
     exit 1
 }
 
@@ -70,7 +70,7 @@ make_folders() {
     all=$(printf '%s\n' $old $new $files | sort -u)
     [ -f "$prefix/$begun" ] || first=yes
     part=$prefix/$begun.part
-    echo "$all" >"$part" && mv -f "$part" "$prefix/$begun" || cannot_write "$begun"
+    printf '%s\n' "$all" >"$part" && mv -f "$part" "$prefix/$begun" || cannot_write "$begun"
     part=
     # Those above others come first.
     for folder in $new; do [ -d "$(path_of "$folder")" ] || mkdir "$(path_of "$folder")"; done
@@ -91,7 +91,7 @@ install_all() {
 
 uninstall_all() {
     if [ ! -f "$prefix/$note" ] && [ ! -f "$prefix/$begun" ]; then
-        [ -f "$prefix/$begun.part" ] || { echo "install.sh: nothing was installed below $prefix" >&2; exit 1; }
+        [ -f "$prefix/$begun.part" ] || { printf '%s\n' "install.sh: nothing was installed below $prefix" >&2; exit 1; }
         rm "$prefix/$begun.part"
         exit
     fi
