@@ -26,19 +26,19 @@ lines_below() {
         }' "$root/crates.txt"
 }
 
-crates_below() { lines=$(lines_below) && echo "$lines" | sed 's/[ :].*//'; }
+crates_below() { lines=$(lines_below) && printf '%s\n' "$lines" | sed 's/[ :].*//'; }
 
 # The folders of the sources of these crates, from the top.
 folders_below() {
     crates=$(crates_below) || return
     for crate in $crates; do
         for part in src specs proofs; do
-            [ ! -d "$root/crates/$crate/$part" ] || echo "crates/$crate/$part"
+            [ ! -d "$root/crates/$crate/$part" ] || printf '%s\n' "crates/$crate/$part"
         done
     done
 }
 
-sum_of() { is=$(sha256sum <"$1") && echo "${is%% *}"; }
+sum_of() { is=$(sha256sum <"$1") && printf '%s\n' "${is%% *}"; }
 
 # One sum of what the program is built from: the names and bytes of the sources of the crates below it, and their lines
 # of crates.txt. What no crate below it reads, as a crate of tests, changes nothing.
@@ -46,14 +46,14 @@ sources() {
     lines=$(lines_below) && folders=$(folders_below) || return
     sums=$(cd "$root" && find $folders -type f -exec sha256sum {} +) || return
     sorted=$(printf '%s\n' "$lines" "$sums" | LC_ALL=C sort) || return
-    is=$(echo "$sorted" | sha256sum) && echo "${is%% *}"
+    is=$(printf '%s\n' "$sorted" | sha256sum) && printf '%s\n' "${is%% *}"
 }
 
 # A source that was changed since the file was, by either of its times: a copy can have an old one.
 newer_than() {
     folders=$(folders_below) &&
         (cd "$root" && find crates.txt $folders \( -newer "$1" -o -cnewer "$1" \) -print -quit) 2>/dev/null ||
-        echo "a source that find cannot tell"
+        printf '%s\n' "a source that find cannot tell"
 }
 
 # tell PROGRAM SOURCES   The text that stands beside a program: the sum of its sources, its own, and what built it.

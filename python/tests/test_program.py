@@ -2,6 +2,7 @@
 import io
 import os
 import pickle
+import shlex
 import shutil
 import signal
 import subprocess
@@ -104,7 +105,7 @@ class Finding(Tidy):
         self.program("site/bin/msrepack")
         self.wheel("bin/msrepack")
         path = self.program("clone/out/msrepack")
-        self.clone(f"echo {path}")
+        self.clone(f"printf '%s\\n' {shlex.quote(path)}")
         with unittest.mock.patch.dict(os.environ, PYTHONPATH=self.path("site")):
             self.assertEqual(self.copied("clone", "python"), path)
 
@@ -116,7 +117,7 @@ class Finding(Tidy):
 
     def test_that_of_the_clone(self):
         path, other = self.program("clone/out/msrepack"), self.program("path/msrepack")
-        self.clone(f"[ $1 = --ready ] && echo {path}")
+        self.clone(f"[ $1 = --ready ] && printf '%s\\n' {shlex.quote(path)}")
         os.environ["PATH"] = os.path.dirname(other) + os.pathsep + os.environ["PATH"]
         self.assertEqual(self.copied("clone", "python"), path)
 
@@ -233,7 +234,8 @@ class Running(Tidy):
                     print("no child left")
         """)
         mark = self.path("mark")
-        with other_program(f"echo $$ > {mark}.new; mv {mark}.new {mark}; exec sleep 60"):
+        quoted = shlex.quote(mark)
+        with other_program(f"echo $$ > {quoted}.new; mv {quoted}.new {quoted}; exec sleep 60"):
             ran = subprocess.Popen(
                 [sys.executable, "-B", "-c", script], cwd=os.path.join(ROOT, "python"), stdout=subprocess.PIPE, text=True
             )

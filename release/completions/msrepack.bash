@@ -4,7 +4,7 @@ _msrepack() {
     COMPREPLY=()
     case ${COMP_WORDS[1]} in
         repack | feed) words='--length --no-int24 --tolerance --strict --help' ;;
-        list) words='--tolerance --strict --help' ;;
+        list) words='--tolerance --strict --json --help' ;;
         check) words='--help' ;;
         compare) words='--tolerance --help' ;;
         archive) words='--length --no-int24 --tolerance --strict --below --resume --check --only-smaller --bytes --help' ;;

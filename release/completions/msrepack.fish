@@ -25,6 +25,7 @@ complete -c msrepack -n '__fish_seen_subcommand_from repack feed list compare ar
     -d 'Microseconds by which a record may be early or late'
 complete -c msrepack -n '__fish_seen_subcommand_from repack feed list archive' -l strict \
     -d 'Refuse a record whose last sample is not its reverse constant'
+complete -c msrepack -n '__fish_seen_subcommand_from list' -l json -d 'Print each line as an object of JSON'
 complete -c msrepack -n '__fish_seen_subcommand_from archive verify' -x -l below \
     -d 'Walk only this folder, by its path from ROOT'
 complete -c msrepack -n '__fish_seen_subcommand_from archive' -l resume -d 'Leave files alone that an earlier walk did'
