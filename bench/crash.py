@@ -17,7 +17,8 @@ DELETED = "(deleted)"
 
 class Call(NamedTuple):
     """What a call of the system does: make (a file, if nothing has the name), folder, write (at the end), copy (so many
-    more bytes of the other file), cut, link, rename, remove, time, store, store_all, told (on standard output)."""
+    more bytes of the other file), cut, link, rename, remove, time, store, store_all (all below), told (on standard
+    output)."""
 
     what: str
     path: str = ""
@@ -100,15 +101,16 @@ class Disk:
         self.gone[path + DELETED] = folder.targets(name)[0]
         folder.lead(name, node)
 
-    def put(self, path: str, data: bytes, time: int) -> None:
-        """Puts a stored file there, under a stored name."""
+    def put(self, path: str, data: bytes, time: int, stored: bool = True) -> None:
+        """Puts a file there, with its folders, and stores it, with all names that lead to it."""
         names = path.split("/")
-        for depth in range(2, len(names)):
-            if self.find("/".join(names[:depth])) is None:
-                self.apply(Call("folder", "/".join(names[:depth])))
-        self.lead(path, File(data, data, True, time))
-        for depth in range(1, len(names)):
-            self.apply(Call("store", "/".join(names[:depth])))
+        above = ["/".join(names[:depth]) for depth in range(1, len(names))]
+        for folder in above:
+            if self.find(folder) is None:
+                self.lead(folder, Folder())
+        self.lead(path, File(data, time=time))
+        for each in [*above, path] if stored else ():
+            self.apply(Call("store", each))
 
     def apply(self, call: Call) -> None:
         getattr(self, f"do_{call.what}")(call)
@@ -154,8 +156,8 @@ class Disk:
             raise ValueError(f"nothing is {call.path}")
         node.store()
 
-    def do_store_all(self, _: Call) -> None:
-        left: list[Node] = [self.top]
+    def do_store_all(self, call: Call) -> None:
+        left: list[Node] = [self.find(call.path) if call.path else self.top]
         while left:
             node = left.pop()
             if isinstance(node, Folder):

@@ -111,7 +111,7 @@ class Reader:
         elif name in ("fsync", "fdatasync"):
             yield Call("store", paths[0])
         elif name == "syncfs":
-            yield Call("store_all")
+            yield Call("store_all", paths[0].partition("/")[0])
         elif name in ("truncate", "ftruncate"):
             yield Call("cut", paths[0], size=int(words.rpartition(", ")[2]))
         elif name == "utimensat":
