@@ -2,9 +2,9 @@
 
 After each call of `replace` and its undo a day of ROOT has to have its name on one whole file, the original or its
 records; each of the two is in ROOT or under its own name, whole; and what was told as `replaced` or `restored` stays so.
-After each call of `archive` ROOT has to be as it was; what has the name of a day's records, report or stamp is whole; records
-have their own report, or after a loss of power none; a stamp has its own records and report; and what --resume takes
-for done is.
+After each call of `archive` ROOT has to be as it was; what has the name of a day's records, report or stamp is whole;
+records have their own report, or after a loss of power none; a stamp has its own records and report; and what --resume
+takes for done is.
 """
 from __future__ import annotations
 
@@ -39,8 +39,8 @@ def wrong_with_replace(day: Day, state: State, told: set[str]) -> Iterator[str]:
     original, records = day.made[OLD].original, day.made[OLD].records
     if root is None:
         yield "nothing has a day's name in ROOT"
-    for folder, found, whole in (("ROOT", root, (original, records)), ("ASIDE", aside, (original,)), ("OUT", out, (records,))):
-        if found is not None and found not in whole:
+    for folder, found, whole in (("ROOT", root, {original, records}), ("ASIDE", aside, {original}), ("OUT", out, {records})):
+        if found not in whole | {None}:
             yield f"half a file has a day's name in {folder}"
     if original not in (root, aside):
         yield "an original is lost"
