@@ -9,7 +9,7 @@ from __future__ import annotations
 
 import os
 from dataclasses import dataclass, field
-from typing import Callable, NamedTuple, Union
+from typing import Callable, NamedTuple, TypeVar, Union
 
 # An open file whose name is gone has this behind its path.
 DELETED = "(deleted)"
@@ -203,6 +203,7 @@ class Disk:
 
 
 State = tuple[Union[bytes, None], ...]
+Option = TypeVar("Option")
 
 
 def state_of(disk: Disk, paths: list[str], choose: Callable[[int], int]) -> State:
@@ -210,16 +211,16 @@ def state_of(disk: Disk, paths: list[str], choose: Callable[[int], int]) -> Stat
     chosen by its number; 0 is what is so now."""
     taken: dict[object, int] = {}
 
-    def decided(key: object, options: list) -> object:
+    def decided(key: object, options: list[Option]) -> Option:
         if len(options) == 1:
             return options[0]
         if key not in taken:
             taken[key] = choose(len(options))
         return options[taken[key]]
 
-    found = []
+    found: list[Union[bytes, None]] = []
     for path in paths:
-        node: object = disk.top
+        node: Node = disk.top
         for name in path.split("/"):
             node = decided((node, name), node.targets(name)) if isinstance(node, Folder) else None
         found.append(decided(node, node.may_have()) if isinstance(node, File) else None)

@@ -74,7 +74,13 @@ HELD = [
     ),
     ("written again", [Call("write", A, data=b"news")], [A], {(b"oldnews",), (b"old",), (b"",)}, (b"oldnews",)),
     ("cut", [Call("cut", A, size=1)], [A], {(b"o",), (b"",), (b"old",)}, (b"o",)),
-    ("copied", [Call("make", B), Call("copy", B, A, size=2), Call("store", B), STORE], [B], {(b"ol",)}, (b"ol",)),
+    (
+        "copied in two pieces, of which the first is stored",
+        [Call("make", B), Call("copy", B, A, size=2), Call("store", B), Call("copy", B, A, size=9), STORE],
+        [B],
+        {(b"old",), (b"o",), (b"",), (b"ol",)},
+        (b"old",),
+    ),
     ("made where a file is", [Call("make", A)], [A], {(b"old",)}, (b"old",)),
     ("all stored", [*WRITTEN, RENAMED, Call("store_all")], [A, B], {(b"news", None)}, (b"news", None)),
     ("another disk stored", [*STORED, Call("store_all", "there")], [B], {(b"news",), (None,)}, (b"news",)),
@@ -124,7 +130,7 @@ def but(calls: list[Call], *without: Call) -> list[Call]:
 
 
 # Title, what stands there first, calls, and what is wrong after one of them.
-REPLACE_ORDERS = [
+REPLACE_ORDERS: list[tuple[str, bool, list[Call], set[str]]] = [
     ("the order of replace", False, REPLACES, set()),
     ("by a copy", False, [*REPLACES[:2], *COPIES, *REPLACES[3:]], set()),
     ("ASIDE is not stored", False, but(REPLACES, STORES["aside"]), {LOST, UNTOLD}),
@@ -160,9 +166,10 @@ KEEPS = [
 OTHERS_STAMP, NO_RECORDS = "a stamp is beside another run's records or report", "a stamp is without its records or report"
 OLD_RECORDS, NEW_RECORDS = "old records are beside the new report", "new records are beside the old report"
 TAKEN = "--resume takes a day for done that is not"
+STAMPED = {OTHERS_STAMP, TAKEN, NO_RECORDS}
 # Title, calls, what is wrong after a loss of power, and after kills alone.
 UNSTORED_REPORT = [Call("make", "here/reports/q"), Call("write", "here/reports/q", data=b"report 2")]
-ARCHIVE_ORDERS = [
+ARCHIVE_ORDERS: list[tuple[str, list[Call], set[str], set[str]]] = [
     ("an order that holds", KEEPS, set(), set()),
     ("the stamp's going is not stored", KEEPS[:1] + KEEPS[2:], {NO_RECORDS, OTHERS_STAMP}, set()),
     ("that of the old records is not", KEEPS[:3] + KEEPS[4:], {OLD_RECORDS}, set()),
@@ -175,8 +182,8 @@ ARCHIVE_ORDERS = [
         {NEW_RECORDS},
         {"records are beside no report"},
     ),
-    ("the stamp first", [*KEEPS[:2], KEEPS[8], *KEEPS[2:8]], *[{OTHERS_STAMP, TAKEN, NO_RECORDS}] * 2),
-    ("ROOT is written to", [Call("write", ROOT, data=b"!")], *[{"ROOT is not as it was"}] * 2),
+    ("the stamp first", [*KEEPS[:2], KEEPS[8], *KEEPS[2:8]], STAMPED, STAMPED),
+    ("ROOT is written to", [Call("write", ROOT, data=b"!")], {"ROOT is not as it was"}, {"ROOT is not as it was"}),
     (
         "a report that is not stored",
         [*KEEPS[:4], *UNSTORED_REPORT, Call("rename", "here/reports/q", REPORT), *KEEPS[5:]],
@@ -196,7 +203,8 @@ class WrongOrders(unittest.TestCase):
     def test_replace(self) -> None:
         for title, undoes, calls, wrong in REPLACE_ORDERS:
             with self.subTest(title):
-                disk = self.begun({ROOT: WAS.records, ASIDE: WAS.original} if undoes else {ROOT: WAS.original, OUT: WAS.records})
+                first = {ROOT: WAS.records, ASIDE: WAS.original} if undoes else {ROOT: WAS.original, OUT: WAS.records}
+                disk = self.begun(first)
                 found: set[str] = set()
                 for call in calls:
                     disk.apply(call)
@@ -251,7 +259,7 @@ TRACES: list[tuple[list[str], Union[list[Call], None]]] = [
     (['7 openat(AT_FDCWD</t/here>, "b", O_RDONLY|O_CLOEXEC) = 3</t/here/b>'], []),
     (['7 write(3</t/here/b>, "news", 4) = 2'], [Call("write", B, data=b"ne")]),
     (['7 write(3</elsewhere/b>, "news", 4) = 4', '7 fsync(3</t>) = 0', '7 fsync(3</t/herefore>) = 0'], []),
-    (['7 write(1</t/said>, "replaced day", 12) = 12'], [Call("told", data=b"replaced day")]),
+    (['7 write(1</t/said>, "replaced day bytes", 18) = 12'], [Call("told", data=b"replaced day")]),
     (['7 write(3</t/here/b>(deleted), "news", 4) = 4'], [Call("write", f"{B}(deleted)", data=b"news")]),
     (["7 fdatasync(3</t/here/b>) = 0", "7 fsync(3</t/here>) = 0"], [Call("store", B), STORE]),
     (["7 fsync(3</t/here>) = -1 EIO (Input/output error)"], []),

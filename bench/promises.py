@@ -70,7 +70,7 @@ def wrong_with_archive(day: Day, version: int, state: State, kills: bool) -> Ite
         if data is not None and whose[-1] is None:
             yield f"half a file has the name of {kind}"
     records, report, stamp = whose
-    if records is not None and report not in (records, None):
+    if records is not None and report is not None and report != records:
         yield f"{('old', 'new')[records]} records are beside the {('old', 'new')[report]} report"
     if records is not None and found[1] is None and kills:
         yield "records are beside no report"

@@ -58,7 +58,9 @@ class Reader:
 
     def words(self, process: str, text: str) -> tuple[list[str], list[str], bytes]:
         """The paths of its open files, those that it names, and all the bytes that it has."""
-        opened, named, data, base = [], [], b"", None
+        opened: list[str] = []
+        named: list[str] = []
+        data, base = b"", None
         for found in WORD.finditer(text):
             number, path, deleted, string, is_cut = found.groups()
             if number:
@@ -71,8 +73,8 @@ class Reader:
             data += plain(string)
             if is_cut:
                 raise ValueError(f"strace cut {text[:200]}")
-            path = os.path.join(base or self.places.get(process, ""), plain(string).decode(errors="replace"))
-            named.append(os.path.normpath(path))
+            place = self.places.get(process, "") if base is None else base
+            named.append(os.path.normpath(os.path.join(place, plain(string).decode(errors="replace"))))
         return opened, named, data
 
     def read(self, process: str, text: str) -> Iterator[Call]:
@@ -105,7 +107,7 @@ class Reader:
         elif name in ONE:
             yield Call(ONE[name], paths[0])
         elif name in TWO and len(paths) == 2 and "RENAME_EXCHANGE" not in words:
-            yield Call(TWO[name], *paths)
+            yield Call(TWO[name], paths[0], paths[1])
         elif name in WRITES:
             yield Call("write", paths[0], data=data)
         elif name in ("fsync", "fdatasync"):
@@ -121,9 +123,9 @@ class Reader:
         elif name == "copy_file_range" and len(paths) == 2:
             yield Call("copy", paths[1], paths[0], size=result)
         elif name == "sendfile" and len(paths) == 2:
-            yield Call("copy", *paths, size=result)
+            yield Call("copy", paths[0], paths[1], size=result)
         elif name == "ioctl" and "CLONE" in words and len(paths) == 2:
-            yield Call("copy", *paths, size=1 << 62)
+            yield Call("copy", paths[0], paths[1], size=1 << 62)
         elif name != "ioctl":
             raise ValueError(f"a call that is not read: {name}({words[:200]})")
 
