@@ -12,7 +12,7 @@ use Rattle.msr_words.proofs.Certificate.{all_split, in_its_run, joins_more}
 use Rattle.msr_words.proofs.LastSamples.{apart_in_window, apart_of_window, apart_stays, apart_was, run_in_window, run_of_window, run_stays, run_was}
 use Rattle.msr_check.proofs.Rising.{separating_all, separating_more}
 use Rattle.msr_check.specs.Judged.{AreShown, Ends, Follows, HasLast, HoldsSoFar, IsFollowed, IsSoundLast, Judged, Judges, NoneShows, StandsAt, becomes_last, last_run, next_run, number_after, without}
-use Rattle.msr_check.specs.Next.{IsNext, SeparatingTo}
+use Rattle.msr_check.specs.Next.{IsNextSeparator, SeparatingTo}
 use Rattle.msr_check.specs.declared.judge.LastRun.{LastRun}
 
 -- samples that follow change nothing of the separators
@@ -146,7 +146,7 @@ module _ (records : Records) (samples new : List ℤ) (runs : List Run) (separat
 
     -- its separator is next
     is_next : Follows records (held ++ new) last (length held) (slice_index separators (length runs))
-        → IsNext records (samples ++ new) separators (length runs)
+        → IsNextSeparator records (samples ++ new) separators (length runs)
     is_next follows =
         let number = number_is last at in
         let both = length-append held new in

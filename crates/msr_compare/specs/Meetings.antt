@@ -38,10 +38,10 @@ pub record HoldsNext (ahead : List Symbol) : Type 0 where
   pub samples : List ℤ
   pub ahead_is : ahead ≡ Holds sample ∷ map Holds samples
 
-abbrev pub IsNext : Next → List Symbol → Type 0
-IsNext (next.Begins key start) ahead = BeginsNext key start ahead
-IsNext next.Samples ahead = HoldsNext ahead
-IsNext next.Nothing ahead = ahead ≡ []
+abbrev pub IsNextSymbol : Next → List Symbol → Type 0
+IsNextSymbol (next.Begins key start) ahead = BeginsNext key start ahead
+IsNextSymbol next.Samples ahead = HoldsNext ahead
+IsNextSymbol next.Nothing ahead = ahead ≡ []
 
 -- how many samples of the open segment were compared
 abbrev pub place_of : Standing → ℕ

@@ -9,10 +9,10 @@ use Rattle.msr_words.specs.Canonical.{IsCanonicalDivision}
 use Rattle.msr_words.specs.FirstGroup.{IsFirstGroup}
 use Rattle.msr_words.proofs.FirstGroups.{fewer, first_some}
 use Rattle.msr_words.proofs.WrittenDivision.{no_groups, starts_with, tail_chosen, with_first}
-use Rattle.msr_filling.specs.NextWord.{IsNext}
+use Rattle.msr_filling.specs.NextWord.{IsNextGroup}
 
 pub next_first : (ds : List ℤ) (size after : ℕ) → IsFirstGroup ds size after → (gs : List (List ℤ))
-    → IsCanonicalDivision One gs ds → IsNext One gs ds size
+    → IsCanonicalDivision One gs ds → IsNextGroup One gs ds size
 next_first ds size after first [] chosen =
     let e : 0 ≡ length ds = ap length chosen.join in
     let s = first_some ds size after first in
@@ -45,11 +45,11 @@ next_first ds size after first (g ∷ gs) chosen =
 
 -- if no difference is left
 pub next_none : (version : Version) (gs : List (List ℤ)) (ds : List ℤ) → length ds ≡ 0
-    → IsCanonicalDivision version gs ds → IsNext version gs ds 0
+    → IsCanonicalDivision version gs ds → IsNextGroup version gs ds 0
 next_none version gs ds end chosen =
     let no : gs ≡ [] = no_groups version gs chosen.are_groups (ap length chosen.join ∙ end) in
     let nil : ds ≡ [] = nil_from_length ds end in
     let empty : IsCanonicalDivision version [] [] = subst (λ hs. IsCanonicalDivision version hs []) no
     (subst (IsCanonicalDivision version gs) nil chosen) in
-    subst (λ hs. IsNext version hs ds 0) (sym no) (subst (λ xs. IsNext version [] xs 0) (sym nil)
+    subst (λ hs. IsNextGroup version hs ds 0) (sym no) (subst (λ xs. IsNextGroup version [] xs 0) (sym nil)
     (record { group = refl; rest = empty; none = λ e. refl; some = λ s. absurd (omega arith) }))

@@ -20,7 +20,7 @@ use Rattle.msr_input.specs.Records.{Position, HaveCome, StopsRecords}
 use Rattle.msr_input.specs.Reading.{GaveReadable, IsWritable, StopsReading, room_with}
 use Rattle.msr_input.specs.Outlines.{outline_of, row_outline, outline_span}
 use Rattle.msr_input.specs.Rows.{RowReading, HasReadRows, ReadsNoRow, ReadsOne, ReadsOutline, ReadsRecord, ReadsRow, ReadsToEnd, StepsTo, StopsRows, AllRowsAreReadable, answer_told, next_outline, next_row, row_settings, row_told}
-use Rattle.msr_input.specs.Steps.{CanJoin, Follows, IsGiven, IsJudged, IsNext, StopsFollowing}
+use Rattle.msr_input.specs.Steps.{CanJoin, Follows, IsGiven, IsJudged, IsRecordAhead, StopsFollowing}
 use Rattle.msr_input.specs.declared.outline.Outline.{Outline}
 use Rattle.msr_input.specs.declared.outline.RowOutline.{RowOutline}
 use Rattle.msr_input.specs.declared.settings.Settings.{Settings}
@@ -214,7 +214,7 @@ told_answer old new (Some row) step follows = rw follows.told refl
 -- exactly that record was read
 pub reads_one : (s a : Device) (position : Position) (before : Following) (reading : RowReading)
     (records : List Record) (answers : List Step) (outline : Outline) (found : Record) (step : Option Step)
-    → IsNext position outline found → Follows before outline.row step reading.following
+    → IsRecordAhead position outline found → Follows before outline.row step reading.following
     → HasReadRows s a reading (records ++ found ∷ []) (answers ++ option_to_list step)
     → ReadsOne s a reading records answers (record { length = outline.length; row = next_row step found.row })
 reads_one s a position before reading records answers outline found step given follows has =
@@ -270,7 +270,7 @@ row_given bytes found step is can = row_given_so bytes found found.row step is r
 -- the record that was read has this outline
 pub next_of : (position : Position) (outline : Outline)
     → IsJudged (λ found. outline ≡ outline_of found) position.strict position.waiting
-    → (found : Record) × IsNext position outline found
+    → (found : Record) × IsRecordAhead position outline found
 next_of position outline judged = (
   judged.found,
   record {
@@ -284,7 +284,7 @@ next_of position outline judged = (
 -- a record that was read with its samples is the one that the bytes begin with
 pub next_read : (position : Position) (found : Record) (outline : Outline)
     → IsJudged (λ other. found ≡ other) position.strict position.waiting → outline ≡ outline_of found
-    → IsNext position outline found
+    → IsRecordAhead position outline found
 next_read position found outline judged same = record {
   outline_is = same;
   is_record = subst (λ (it : Record). IsRecordOf position.waiting it) (sym judged.stands_for) judged.is_record;
@@ -317,7 +317,7 @@ outline_told_so s a bytes reading records answers found (Some row) (Some answer)
 
 pub outline_told : (s a : Device) (position : Position) (reading : RowReading) (records : List Record)
     (answers : List Step) (outline : Outline) (found : Record) (step : Option Step) (next : NextOutline)
-    → IsNext position outline found → next_outline step outline.row ≡ Some next
+    → IsRecordAhead position outline found → next_outline step outline.row ≡ Some next
     → ReadsOn s a reading records answers (next_row step found.row) → ReadsOutline s a reading records answers next
 outline_told s a position reading records answers outline found step next given told reads =
     let same = ap (λ (o : Outline). next_outline step o.row) given.outline_is in
@@ -333,7 +333,7 @@ outline_none_so s a reading records answers None (Some answer) told reads = read
 outline_none_so s a reading records answers (Some row) (Some answer) told reads = absurd cc
 
 pub outline_none : (s a : Device) (position : Position) (reading : RowReading) (records : List Record)
-    (answers : List Step) (outline : Outline) (found : Record) (step : Option Step) → IsNext position outline found
+    (answers : List Step) (outline : Outline) (found : Record) (step : Option Step) → IsRecordAhead position outline found
     → next_outline step outline.row ≡ None → ReadsOn s a reading records answers (next_row step found.row)
     → ReadsNoRow s a reading records answers
 outline_none s a position reading records answers outline found step given told reads =

@@ -81,7 +81,7 @@ pub record IsGiven (stands : Record → Type 0) (strict : Bool) (bytes : List �
   pub room_is : room ≤ room_with judged.found.length before
 
 -- this is the outline of the record that the bytes at this place begin with, which is not refused by itself
-pub record IsNext (position : Position) (outline : Outline) (found : Record) : Type 0 where
+pub record IsRecordAhead (position : Position) (outline : Outline) (found : Record) : Type 0 where
   pub outline_is : outline ≡ outline_of found
   pub is_record : IsRecordOf position.waiting found
   pub can_join : IfSome found.row CanJoin

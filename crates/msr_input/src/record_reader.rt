@@ -46,7 +46,7 @@ impl RecordReader {
     ghost use Rattle.msr_rows.specs.declared.row.Record.{Record as Found};
     ghost use Rattle.msr_input.specs.Records.{HaveCome, HaveComeShort, StopsRecords, left_with};
     ghost use Rattle.msr_input.specs.Reading.{HoldsRecord};
-    ghost use Rattle.msr_input.specs.Steps.{IsGiven, IsNext};
+    ghost use Rattle.msr_input.specs.Steps.{IsGiven, IsRecordAhead};
 
     /// A reader before the first record; a strict one refuses a record whose reverse constant does not agree. It
     /// takes no memory yet.
@@ -121,9 +121,9 @@ impl RecordReader {
     /// Passes the record that [`next`](Self::next) gave, by its outline, and counts it.
     #[inline(always)]
     pub(crate) fn pass(&mut self, outline: &Outline)
-        requires { (found : Found) × IsNext self.old outline.now found }
+        requires { (found : Found) × IsRecordAhead self.old outline.now found }
         ensures passed { (start now : Device) (records : List Found) (found : Found)
-            → HaveCome start now self.old records → IsNext self.old outline.now found
+            → HaveCome start now self.old records → IsRecordAhead self.old outline.now found
             → HaveCome start now self.new (records ++ found ∷ []) }
         ensures strict { self.new.strict ≡ self.old.strict }
         ensures room { self.new.room ≡ self.old.room }

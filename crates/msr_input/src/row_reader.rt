@@ -68,7 +68,7 @@ impl RowReader {
     ghost use Rattle.msr_input.specs.Records.{HaveComeShort, left_with};
     ghost use Rattle.msr_input.specs.Reading.{HoldsRecord, IsWritable, room_with};
     ghost use Rattle.msr_input.specs.Rows.{HasReadRows, ReadsNoRow, ReadsNone, ReadsOne, ReadsOutline, ReadsRecord, ReadsToEnd, StepsTo, StopsRows, row_settings};
-    ghost use Rattle.msr_input.specs.Steps.{CanFollow, CanJoin, Follows, IsNext};
+    ghost use Rattle.msr_input.specs.Steps.{CanFollow, CanJoin, Follows, IsRecordAhead};
 
     /// A reader before the first record, with a tolerance in its range. It takes no memory yet.
     pub fn new(alloc: Global, settings: Settings) -> RowReader
@@ -209,10 +209,10 @@ impl RowReader {
     /// Takes the record that was read, by its outline, and says what its row does, if it has one.
     #[inline(always)]
     fn take(&mut self, outline: &Outline) -> Result<Option<Step>, ReadFault>
-        requires { (found : Found) × IsNext self.old.position outline.now found }
+        requires { (found : Found) × IsRecordAhead self.old.position outline.now found }
         ensures read { (start now : Device) (records : List Found) (answers : List Answer) (found : Found)
             → HasReadRows start now self.old records answers
-            → IsNext self.old.position outline.now found
+            → IsRecordAhead self.old.position outline.now found
             → MatchResult result
             (λ step. HasReadRows start now self.new (records ++ found ∷ []) (answers ++ option_to_list step))
             (StopsRows (row_settings self.old) start now records) }

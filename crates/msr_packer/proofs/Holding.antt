@@ -12,7 +12,7 @@ use Rattle.msr_words.proofs.AnyKind.{back_step_any, short_any, size_any}
 use Rattle.msr_words.specs.Packing.{IsCanonical, IsStep, Joins}
 use Rattle.msr_words.proofs.Runs.{length-run_points, run_points_stay}
 use Rattle.msr_packer.specs.SoFar.{IsSoFar}
-use Rattle.msr_packer.specs.HeldSamples.{BeginsAll, GivesPiece, HoldsRest, InsideIfAny, IsRunToCut, IsNext, IsSound, IsWindow, LeavesFew, ShowsRun, StandsAt, Stays, before_place, frontier_of, piece_of, pieces_of, runs_of, samples_of, separators_of, start_of}
+use Rattle.msr_packer.specs.HeldSamples.{BeginsAll, GivesPiece, HoldsRest, InsideIfAny, IsRunToCut, IsNextStep, IsSound, IsWindow, LeavesFew, ShowsRun, StandsAt, Stays, before_place, frontier_of, piece_of, pieces_of, runs_of, samples_of, separators_of, start_of}
 use Rattle.msr_packer.specs.declared.held.RunToCut.{RunToCut}
 use Rattle.msr_packer.specs.declared.held.HeldSamples.{HeldSamples}
 use Rattle.msr_packer.specs.declared.held.Piece.{Piece}
@@ -176,7 +176,7 @@ gives records enough samples runs separators held offset (Some c) h a kind w mor
 -- the window with the next step
 pub window_next : (records : Records) → 256 ≤ records.bytes → (samples : List ℤ) (runs : List Run) (separators : List ℕ)
     (held : List ℤ) (offset : ℕ) (current : Option RunToCut) (next : RunToCut)
-    → IsWindow records samples runs separators held offset current → IsNext records held current next
+    → IsWindow records samples runs separators held offset current → IsNextStep records held current next
     → IsWindow records samples (runs ++ runs_of (pieces_of (piece_of offset current next.start)))
     (separators ++ separators_of (pieces_of (piece_of offset current next.start))) held offset (Some next)
 window_next records enough samples runs separators held offset current d w next =
@@ -401,7 +401,7 @@ stepped records enough held g h a kind inside step reached =
 
 pub next_stepped : (records : Records) → 256 ≤ records.bytes → (held : List ℤ) (current : Option RunToCut)
     (next : RunToCut)
-    → IsNext records held current next → Stepped records (frontier_of current) next.end next.start
+    → IsNextStep records held current next → Stepped records (frontier_of current) next.end next.start
 next_stepped records enough held current next is =
     rw is.frontier at (stepped records enough held next.frontier next.end next.start next.whole is.inside is.step
     (is.step.reached.0, is.step.reached.1, is.whole.0))

@@ -83,7 +83,7 @@ pub record HasPlaces (offset next : ℕ) (current : Option RunToCut) : Type 0 wh
   pub counted : offset + number < 2 ^ 64
 
 -- The step from the next frontier, with the kinds of its run.
-pub record IsNext (records : Records) (held : List ℤ) (current : Option RunToCut) (next : RunToCut) : Type 0 where
+pub record IsNextStep (records : Records) (held : List ℤ) (current : Option RunToCut) (next : RunToCut) : Type 0 where
   pub frontier : next.frontier ≡ frontier_of current
   pub inside : next.frontier < length held
   pub step : IsStep (FitsAny records) held next.frontier next.end next.start
