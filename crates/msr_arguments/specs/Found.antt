@@ -165,9 +165,9 @@ IsToldByClap NotALength = ⊥
 IsToldByClap Memory = ⊤
 
 -- what is said of a line that asks for what is not done
-abbrev pub text_of : LineFault → Option (List ℕ)
-text_of SameFile = Some (codes "msrepack: the output is the input\n")
-text_of OneStandardInput = Some (codes "msrepack: only one input can be standard input\n")
-text_of NotBelow = Some (codes "msrepack: not a folder of an archive\n")
-text_of Overlap = Some (codes "msrepack: the folders overlap\n")
-text_of _ = None
+abbrev pub line_fault_text : LineFault → Option (List ℕ)
+line_fault_text SameFile = Some (codes "msrepack: the output is the input\n")
+line_fault_text OneStandardInput = Some (codes "msrepack: only one input can be standard input\n")
+line_fault_text NotBelow = Some (codes "msrepack: not a folder of an archive\n")
+line_fault_text Overlap = Some (codes "msrepack: the folders overlap\n")
+line_fault_text _ = None
