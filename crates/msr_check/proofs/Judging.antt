@@ -11,7 +11,7 @@ use Rattle.msr_words.specs.Packing.{IsPacking, IsSeparating, Joins, NoneHolds}
 use Rattle.msr_words.proofs.Certificate.{all_split, in_its_run, joins_more}
 use Rattle.msr_words.proofs.LastSamples.{apart_in_window, apart_of_window, apart_stays, apart_was, run_in_window, run_of_window, run_stays, run_was}
 use Rattle.msr_check.proofs.Rising.{separating_all, separating_more}
-use Rattle.msr_check.specs.Judged.{AreShown, Ends, Follows, HasLast, HoldsSoFar, IsFollowed, IsSoundLast, Judged, Judges, NoneShows, StandsAt, becomes_last, last_run, next_run, number_after, without}
+use Rattle.msr_check.specs.Judged.{AreShown, Ends, FollowsLast, HasLast, HoldsSoFar, IsFollowed, IsSoundLast, Judged, Judges, NoneShows, StandsAt, becomes_last, last_run, next_run, number_after, without}
 use Rattle.msr_check.specs.Next.{IsNextSeparator, SeparatingTo}
 use Rattle.msr_check.specs.declared.judge.LastRun.{LastRun}
 
@@ -111,7 +111,7 @@ module _ (records : Records) (samples new : List ℤ) (runs : List Run) (separat
             )
 
     -- the run that comes is the last then
-    last_more : (kind : Kind) → Follows records (held ++ new) last (length held) (slice_index separators (length runs))
+    last_more : (kind : Kind) → FollowsLast records (held ++ new) last (length held) (slice_index separators (length runs))
         → HasLast records (samples ++ new) (runs ++ next_run samples new kind ∷ []) separators (held ++ new)
         (becomes_last last (length held) (slice_index separators (length runs)) kind)
     last_more kind follows =
@@ -145,7 +145,7 @@ module _ (records : Records) (samples new : List ℤ) (runs : List Run) (separat
         }
 
     -- its separator is next
-    is_next : Follows records (held ++ new) last (length held) (slice_index separators (length runs))
+    is_next : FollowsLast records (held ++ new) last (length held) (slice_index separators (length runs))
         → IsNextSeparator records (samples ++ new) separators (length runs)
     is_next follows =
         let number = number_is last at in
@@ -156,7 +156,7 @@ module _ (records : Records) (samples new : List ℤ) (runs : List Run) (separat
         record { within = omega arith; apart = λ some. apart_by last at some follows }
       where
         apart_by : (last : Option LastRun) → StandsAt records samples runs separators held last → 0 < length runs
-            → Follows records (held ++ new) last (length held) (slice_index separators (length runs))
+            → FollowsLast records (held ++ new) last (length held) (slice_index separators (length runs))
             → (slice_index separators (length runs - 1) < slice_index separators (length runs))
             × NoneHolds records (samples ++ new) (slice_index separators (length runs - 1)) (slice_index separators (length runs))
         apart_by None at some follows = absurd (omega (arith, ap length at.1))
@@ -184,7 +184,7 @@ module _ (records : Records) (samples new : List ℤ) (runs : List Run) (separat
         → IsPacking records ((samples ++ new) ++ more) (runs ++ next_run samples new kind ∷ others)
         → IsSeparating records ((samples ++ new) ++ more) separators
         → length (runs ++ next_run samples new kind ∷ others) ≡ length separators
-        → Follows records (held ++ new) last (length held) (slice_index separators (length runs))
+        → FollowsLast records (held ++ new) last (length held) (slice_index separators (length runs))
     follows_then kind more others packing separating same =
         let number = number_is last at in
         let both = length-append held new in
@@ -281,11 +281,11 @@ forgets records samples runs separators held last count few at =
 module _ (records : Records) (samples new : List ℤ) (runs : List Run) (separators : List ℕ) (kind : Kind) (old : Judged)
     (so_far : HoldsSoFar records samples runs separators old) (all : List ℤ) (end : ℕ) (all_is : all ≡ old.held ++ new)
     (end_is : end ≡ length old.held) where
-  follows_on : Follows records all old.last end (slice_index separators old.count)
-      → Follows records (old.held ++ new) old.last (length old.held) (slice_index separators (length runs))
+  follows_on : FollowsLast records all old.last end (slice_index separators old.count)
+      → FollowsLast records (old.held ++ new) old.last (length old.held) (slice_index separators (length runs))
   follows_on follows = rw (all_is, end_is, so_far.count_is) at follows
 
-  pub holds_more : Follows records all old.last end (slice_index separators old.count)
+  pub holds_more : FollowsLast records all old.last end (slice_index separators old.count)
       → HoldsSoFar records (samples ++ new) (runs ++ next_run samples new kind ∷ []) separators (record {
         held = all;
         last = Some (becomes_last old.last end (slice_index separators old.count) kind);
@@ -309,7 +309,7 @@ module _ (records : Records) (samples new : List ℤ) (runs : List Run) (separat
   -- so it is when samples are forgotten, but for two before that run
   pub judges_more : (next last : LastRun) (forgotten : ℕ) (left : List ℤ) → forgotten ≡ end - 2 → left ≡ drop forgotten all
       → last ≡ without next forgotten → old.holds ≡ true
-      → Follows records all old.last end (slice_index separators old.count)
+      → FollowsLast records all old.last end (slice_index separators old.count)
       × (next ≡ becomes_last old.last end (slice_index separators old.count) kind)
       → Judges records (samples ++ new) (runs ++ next_run samples new kind ∷ []) separators
       (record { held = left; last = Some last; count = old.count + 1; holds = old.holds })
@@ -325,7 +325,7 @@ module _ (records : Records) (samples new : List ℤ) (runs : List Run) (separat
       }
 
   pub none_more : (old.count < length separators
-      → Follows records all old.last end (slice_index separators old.count) → ⊥)
+      → FollowsLast records all old.last end (slice_index separators old.count) → ⊥)
       → NoneShows records (samples ++ new) (runs ++ next_run samples new kind ∷ []) separators
   none_more none = record {
     none = λ rest others packing separating same.

@@ -85,7 +85,7 @@ IsFollowed records held (Some last) end next =
     × ((last.separator < next) × NoneHolds records held last.separator next)
 
 -- The separator is a sample after the first `end` that are held, and follows on the last run.
-pub record Follows (records : Records) (held : List ℤ) (last : Option LastRun) (end separator : ℕ) : Type 0 where
+pub record FollowsLast (records : Records) (held : List ℤ) (last : Option LastRun) (end separator : ℕ) : Type 0 where
   pub from : number_after last end ≤ separator
   pub past : separator - number_after last end < length held - end
   pub followed : IsFollowed records held last end (end + (separator - number_after last end))

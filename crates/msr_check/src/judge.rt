@@ -4,7 +4,7 @@ ghost use Rattle.std.specs.Prelude.{◌≡◌, ◌↔◌, ◌-◌, ◌+◌, ◌<
 ghost use Rattle.msr_words.specs.Fit.{Records, records_of};
 ghost use Rattle.msr_words.specs.Packing.{IsLeast};
 ghost use Rattle.msr_words.specs.declared.kinds.Run.{Run as WordRun};
-ghost use Rattle.msr_check.specs.Judged.{AreShown, Ends, Follows, IsFollowed, IsSoundLast, Judges, becomes_last, next_run, number_after, without};
+ghost use Rattle.msr_check.specs.Judged.{AreShown, Ends, FollowsLast, IsFollowed, IsSoundLast, Judges, becomes_last, next_run, number_after, without};
 
 use crate::reach::reach_of;
 use crate::{is_run, none_between};
@@ -75,8 +75,8 @@ pub(crate) fn followed_by(
 ) -> Option<LastRun>
     requires { end ≤ length held.now }
     ensures { MatchOption result
-        (Follows (records_of form) held.now last end separator → ⊥)
-        (λ next. Follows (records_of form) held.now last end separator × (next ≡ becomes_last last end separator kind)) }
+        (FollowsLast (records_of form) held.now last end separator → ⊥)
+        (λ next. FollowsLast (records_of form) held.now last end separator × (next ≡ becomes_last last end separator kind)) }
 {
     let number = number_after(last, end)?;
     if separator < number || separator - number >= (held.len() - end) as u64 {
@@ -176,9 +176,9 @@ impl Judge {
         requires { end ≤ length self.now.held }
         ensures { MatchOption result
             (self.now.count < length separators.now
-            → Follows (records_of form) self.now.held self.now.last end (slice_index separators.now self.now.count) → ⊥)
+            → FollowsLast (records_of form) self.now.held self.now.last end (slice_index separators.now self.now.count) → ⊥)
             (λ next. (self.now.count < length separators.now)
-            × Follows (records_of form) self.now.held self.now.last end (slice_index separators.now self.now.count)
+            × FollowsLast (records_of form) self.now.held self.now.last end (slice_index separators.now self.now.count)
             × (next ≡ becomes_last self.now.last end (slice_index separators.now self.now.count) kind)) }
     {
         if self.count >= separators.len() {

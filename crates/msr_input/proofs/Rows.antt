@@ -20,7 +20,7 @@ use Rattle.msr_input.specs.Records.{Position, HaveCome, StopsRecords}
 use Rattle.msr_input.specs.Reading.{GaveReadable, IsWritable, StopsReading, room_with}
 use Rattle.msr_input.specs.Outlines.{outline_of, row_outline, outline_span}
 use Rattle.msr_input.specs.Rows.{RowReading, HasReadRows, ReadsNoRow, ReadsOne, ReadsOutline, ReadsRecord, ReadsRow, ReadsToEnd, StepsTo, StopsRows, AllRowsAreReadable, answer_told, next_outline, next_row, row_settings, row_told}
-use Rattle.msr_input.specs.Steps.{CanJoin, Follows, IsGiven, IsJudged, IsRecordAhead, StopsFollowing}
+use Rattle.msr_input.specs.Steps.{CanJoin, FollowsIfAny, IsGiven, IsJudged, IsRecordAhead, StopsFollowing}
 use Rattle.msr_input.specs.declared.outline.Outline.{Outline}
 use Rattle.msr_input.specs.declared.outline.RowOutline.{RowOutline}
 use Rattle.msr_input.specs.declared.settings.Settings.{Settings}
@@ -180,7 +180,7 @@ passed_row s a old new before after records answers found row answer has is some
 passed_so : (s a : Device) (old new : Position) (before after : Following) (records : List Record)
     (answers : List Step) (found : Record) (row : Option Row) (step : Option Step)
     → HasReadRows s a (record { position = old; following = before }) records answers
-    → IsRecordOf old.waiting found → found.row ≡ row → Follows before (option_map row_outline row) step after
+    → IsRecordOf old.waiting found → found.row ≡ row → FollowsIfAny before (option_map row_outline row) step after
     → HaveCome s a new (records ++ found ∷ []) → HasReadRows s a
     (record { position = new; following = after }) (records ++ found ∷ []) (answers ++ option_to_list step)
 passed_so s a old new before after records answers found None step has is none follows come =
@@ -194,7 +194,7 @@ passed_so s a old new before after records answers found (Some row) step has is 
 pub rows_passed : (s a : Device) (old new : Position) (before after : Following) (records : List Record)
     (answers : List Step) (found : Record) (step : Option Step)
     → HasReadRows s a (record { position = old; following = before }) records answers
-    → IsRecordOf old.waiting found → Follows before (option_map row_outline found.row) step after
+    → IsRecordOf old.waiting found → FollowsIfAny before (option_map row_outline found.row) step after
     → HaveCome s a new (records ++ found ∷ []) → HasReadRows s a
     (record { position = new; following = after }) (records ++ found ∷ []) (answers ++ option_to_list step)
 rows_passed s a old new before after records answers found step has is follows come =
@@ -202,24 +202,24 @@ rows_passed s a old new before after records answers found step has is follows c
 
 -- what is told of the record's row
 told_row : (old new : Following) (row : Option Row) (step : Option Step)
-    → Follows old (option_map row_outline row) step new → row_told (next_row step row) ≡ row
+    → FollowsIfAny old (option_map row_outline row) step new → row_told (next_row step row) ≡ row
 told_row old new None step follows = rw follows.0 refl
 told_row old new (Some row) step follows = rw follows.told refl
 
 told_answer : (old new : Following) (row : Option Row) (step : Option Step)
-    → Follows old (option_map row_outline row) step new → option_to_list step ≡ answer_told (next_row step row)
+    → FollowsIfAny old (option_map row_outline row) step new → option_to_list step ≡ answer_told (next_row step row)
 told_answer old new None step follows = rw follows.0 refl
 told_answer old new (Some row) step follows = rw follows.told refl
 
 -- exactly that record was read
 pub reads_one : (s a : Device) (position : Position) (before : Following) (reading : RowReading)
     (records : List Record) (answers : List Step) (outline : Outline) (found : Record) (step : Option Step)
-    → IsRecordAhead position outline found → Follows before outline.row step reading.following
+    → IsRecordAhead position outline found → FollowsIfAny before outline.row step reading.following
     → HasReadRows s a reading (records ++ found ∷ []) (answers ++ option_to_list step)
     → ReadsOne s a reading records answers (record { length = outline.length; row = next_row step found.row })
 reads_one s a position before reading records answers outline found step given follows has =
     let row = ap (λ (o : Outline). o.row) given.outline_is in
-    let at = subst (λ (r : Option RowOutline). Follows before r step reading.following) row follows in
+    let at = subst (λ (r : Option RowOutline). FollowsIfAny before r step reading.following) row follows in
     record {
       found = found;
       length_is = ap (λ (o : Outline). o.length) given.outline_is;
@@ -341,7 +341,7 @@ outline_none s a position reading records answers outline found step given told 
     outline_none_so s a reading records answers found.row step (sym same ∙ told) reads
 
 -- and the follower stays where it is
-pub outline_stays : (old new : Following) (row : Option RowOutline) (step : Option Step) → Follows old row step new
+pub outline_stays : (old new : Following) (row : Option RowOutline) (step : Option Step) → FollowsIfAny old row step new
     → next_outline step row ≡ None → new ≡ old
 outline_stays old new None step follows told = follows.1
 outline_stays old new (Some row) step follows told =
@@ -406,6 +406,6 @@ end_behind s a b reading new records answers none end = record {
 
 -- what a record does with a follower, by what is told of its row
 pub steps_to : (old new : Following) (row : Option Row) (step : Option Step)
-    → Follows old (option_map row_outline row) step new → StepsTo old (next_row step row) new
+    → FollowsIfAny old (option_map row_outline row) step new → StepsTo old (next_row step row) new
 steps_to old new None step follows = rw follows.0 follows.1
 steps_to old new (Some row) step follows = rw follows.told follows.is_step

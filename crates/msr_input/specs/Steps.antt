@@ -95,9 +95,9 @@ pub record FollowsRow (old : Following) (row : RowOutline) (step : Option Step) 
   pub in_range : Overruns old (outline_span row) → ⊥
 
 -- what a record's row does with a follower: nothing, if there is none
-abbrev pub Follows : Following → Option RowOutline → Option Step → Following → Type 0
-Follows old None step new = (step ≡ None) × (new ≡ old)
-Follows old (Some row) step new = FollowsRow old row step new
+abbrev pub FollowsIfAny : Following → Option RowOutline → Option Step → Following → Type 0
+FollowsIfAny old None step new = (step ≡ None) × (new ≡ old)
+FollowsIfAny old (Some row) step new = FollowsRow old row step new
 
 -- why a row was not followed, which takes no memory: it ends its segment out of range
 abbrev pub StopsFollowing : Following → Option RowOutline → ℕ → ReadFault → Type 0

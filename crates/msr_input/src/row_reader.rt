@@ -68,7 +68,7 @@ impl RowReader {
     ghost use Rattle.msr_input.specs.Records.{HaveComeShort, left_with};
     ghost use Rattle.msr_input.specs.Reading.{HoldsRecord, IsWritable, room_with};
     ghost use Rattle.msr_input.specs.Rows.{HasReadRows, ReadsNoRow, ReadsNone, ReadsOne, ReadsOutline, ReadsRecord, ReadsToEnd, StepsTo, StopsRows, row_settings};
-    ghost use Rattle.msr_input.specs.Steps.{CanFollow, CanJoin, Follows, IsRecordAhead};
+    ghost use Rattle.msr_input.specs.Steps.{CanFollow, CanJoin, FollowsIfAny, IsRecordAhead};
 
     /// A reader before the first record, with a tolerance in its range. It takes no memory yet.
     pub fn new(alloc: Global, settings: Settings) -> RowReader
@@ -218,7 +218,7 @@ impl RowReader {
             (StopsRows (row_settings self.old) start now records) }
         ensures strict { self.new.position.strict ≡ self.old.position.strict }
         ensures room { self.new.position.room ≡ self.old.position.room }
-        ensures step { IfOk result (λ step. Follows self.old.following outline.now.row step self.new.following) }
+        ensures step { IfOk result (λ step. FollowsIfAny self.old.following outline.now.row step self.new.following) }
         ensures in_bounds { IfOk result (λ step. IfSome step (λ _. IsInBounds self.new.following.current)) }
         ensures no_memory { IsErrOf result ReadFault.Memory → ⊥ }
         ensures unread { IsErrOf result ReadFault.Read → ⊥ }

@@ -15,7 +15,7 @@ use Rattle.msr_report_reader.specs.Fault.{IsOneLine, IsFaultLine}
 use Rattle.msr_report_reader.specs.LastLine.{IsLast}
 use Rattle.msr_report_reader.specs.Reading.{IsReadFrom}
 use Rattle.msr_report_reader.specs.TextFault.{IsTextFault}
-use Rattle.msr_report_reader.specs.Draft.{IsEnough, IsRefused, IsStep, IsConsumed, Follows, ReadTo, ReadSegments, ReadOpening, ReadEnd, numbers_then, stop_byte}
+use Rattle.msr_report_reader.specs.Draft.{IsEnough, IsRefused, IsStep, IsConsumed, HasRead, ReadTo, ReadSegments, ReadOpening, ReadEnd, numbers_then, stop_byte}
 use Rattle.msr_report_reader.specs.declared.fault.ReportFault.{ReportFault}
 use Rattle.msr_report_reader.specs.declared.fault.ReportFault.TheVariants.{Line, Read, Memory}
 use Rattle.msr_report_reader.specs.declared.first.FirstLines.{FirstLines}
@@ -34,7 +34,7 @@ use Rattle.msr_report_reader.proofs.ReadTexts.{going_of}
 
 -- a line that no report has there
 pub refused : (old new : Draft) (whole : List ℕ) (begins : Bool) (text : List ℕ) (line : ℕ) (result : Result Progress ReportFault) → new ≡ old
-    → ((past more : List ℕ) → Follows old past → IsEnough begins text more → IsFaultLine (past ++ (whole ++ more)) line)
+    → ((past more : List ℕ) → HasRead old past → IsEnough begins text more → IsFaultLine (past ++ (whole ++ more)) line)
     → IsRefused begins text line result → IsStep old new whole result
 refused old new whole begins text line (Ok (Consumed n)) same fault is = absurd is
 refused old new whole begins text line (Ok (Cut n)) same fault is = record {
@@ -65,17 +65,17 @@ none_is_one (byte ∷ text) none =
 
 -- what a draft follows, by what it expects
 pub follows_at : (draft : Draft) (expected : Expected) (past : List ℕ) → draft.expected ≡ expected
-    → ReadTo expected draft.segments.items draft.numbers.items past → Follows draft past
+    → ReadTo expected draft.segments.items draft.numbers.items past → HasRead draft past
 follows_at draft expected past is to = record {
   to = subst (λ (p : Expected). ReadTo p draft.segments.items draft.numbers.items past) (sym is) to;
 }
 
-pub read_to : (draft : Draft) (expected : Expected) (past : List ℕ) → draft.expected ≡ expected → Follows draft past
+pub read_to : (draft : Draft) (expected : Expected) (past : List ℕ) → draft.expected ≡ expected → HasRead draft past
     → ReadTo expected draft.segments.items draft.numbers.items past
 read_to draft expected past is follows =
     subst (λ (p : Expected). ReadTo p draft.segments.items draft.numbers.items past) is follows.to
 
-pub first_fault : (draft : Draft) (past text : List ℕ) (line : ℕ) → draft.expected ≡ Start → Follows draft past
+pub first_fault : (draft : Draft) (past text : List ℕ) (line : ℕ) → draft.expected ≡ Start → HasRead draft past
     → IsFaultLine text line → IsFaultLine (past ++ text) line
 first_fault draft past text line expected follows fault =
     let to : ReadTo Start draft.segments.items draft.numbers.items past = read_to draft Start past expected follows in
@@ -191,7 +191,7 @@ end_step old new first text rest n expected new_expected segments numbers last c
 pub word_step : (old new : Draft) (first : FirstLines) (line : FirstLine) (last : Bool) (text rest : List ℕ) (n : ℕ)
     → old.expected ≡ Separators first line
     → ((past : List ℕ) → ReadOpening first old.segments.items line past → All (λ n. n < 2 ^ 64) old.numbers.items
-    → Follows new (past ++ numbers_then old.numbers.items last))
+    → HasRead new (past ++ numbers_then old.numbers.items last))
     → text ≡ codes "separators" ++ (stop_byte last ∷ rest) → n ≡ length text - length rest
     → IsConsumed old new text n
 word_step old new first line last text rest n expected goes is count =
@@ -207,7 +207,7 @@ word_step old new first line last text rest n expected goes is count =
       follows = λ past follows.
           let to = read_to old (Separators first line) past expected follows in
           let none : All (λ n. n < 2 ^ 64) [] = λ k d within. absurd (omega arith) in
-          subst (λ (ns : List ℕ). Follows new (past ++ numbers_then ns last)) to.1
+          subst (λ (ns : List ℕ). HasRead new (past ++ numbers_then ns last)) to.1
           (goes past to.0 (subst (λ (ns : List ℕ). All (λ n. n < 2 ^ 64) ns) (sym to.1) none));
     }
 
@@ -215,7 +215,7 @@ pub number_step : (old mid new : Draft) (first : FirstLines) (line : FirstLine) 
     (text rest : List ℕ) (n : ℕ) → old.expected ≡ Number first line → mid.segments.items ≡ old.segments.items
     → mid.numbers.items ≡ old.numbers.items ++ number ∷ [] → number < 2 ^ 64
     → ((past : List ℕ) → ReadOpening first mid.segments.items line past → All (λ n. n < 2 ^ 64) mid.numbers.items
-    → Follows new (past ++ numbers_then mid.numbers.items last))
+    → HasRead new (past ++ numbers_then mid.numbers.items last))
     → text ≡ decimal number ++ (stop_byte last ∷ rest) → n ≡ length text - length rest → IsConsumed old new text n
 number_step old mid new first line number last text rest n expected segments pushed small goes is count =
     let taken : List ℕ = decimal number ++ (stop_byte last ∷ []) in
@@ -234,13 +234,13 @@ number_step old mid new first line number last text rest n expected segments pus
           let fits : All (λ n. n < 2 ^ 64) mid.numbers.items =
           subst (λ (ns : List ℕ). All (λ n. n < 2 ^ 64) ns) (sym pushed)
           (All-push (λ m. m < 2 ^ 64) old.numbers.items number to.each small) in
-          let more : Follows new (to.before ++ numbers_then (old.numbers.items ++ number ∷ []) last) =
-          subst (λ (ns : List ℕ). Follows new (to.before ++ numbers_then ns last)) pushed (goes to.before read fits) in
+          let more : HasRead new (to.before ++ numbers_then (old.numbers.items ++ number ∷ []) last) =
+          subst (λ (ns : List ℕ). HasRead new (to.before ++ numbers_then ns last)) pushed (goes to.before read fits) in
           let shown : past ++ taken ≡ to.before ++ numbers_then (old.numbers.items ++ number ∷ []) last =
           ap (λ (p : List ℕ). p ++ taken) to.is ∙ numbers_more to.before old.numbers.items 32 taken
           ∙ ap (λ (l : List ℕ). to.before ++ (codes "separators" ++ l))
           (one_more old.numbers.items number (stop_byte last ∷ [])) in
-          subst (λ (p : List ℕ). Follows new p) (sym shown) more;
+          subst (λ (p : List ℕ). HasRead new p) (sym shown) more;
     }
 
 -- one more segment was read
@@ -288,11 +288,11 @@ drop_taken old new text n taken =
 -- what was read of a text, and what is left
 pub record Left (draft : Draft) (whole rest : List ℕ) : Type 0 where
   pub read : List ℕ
-  pub follows : Follows draft read
+  pub follows : HasRead draft read
   pub is : whole ≡ read ++ rest
 
 pub left_fault : (draft : Draft) (whole rest : List ℕ) (why : ReportFault) → Left draft whole rest
-    → ((past more : List ℕ) → Follows draft past → IsTextFault (past ++ (rest ++ more)) why) → IsTextFault whole why
+    → ((past more : List ℕ) → HasRead draft past → IsTextFault (past ++ (rest ++ more)) why) → IsTextFault whole why
 left_fault draft whole rest why left fault =
     subst (λ (t : List ℕ). IsTextFault t why)
     (ap (λ (l : List ℕ). left.read ++ l) (append-nil rest) ∙ sym left.is) (fault left.read [] left.follows)

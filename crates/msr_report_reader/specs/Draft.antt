@@ -84,7 +84,7 @@ ReadTo (Separators first line) segments numbers past = ReadOpening first segment
 ReadTo (Number first line) segments numbers past = ReadNumbers first segments line numbers past
 ReadTo (End first) segments numbers past = ReadEnd first segments past
 
-pub record Follows (draft : Draft) (past : List ℕ) : Type 0 where
+pub record HasRead (draft : Draft) (past : List ℕ) : Type 0 where
   pub to : ReadTo draft.expected draft.segments.items draft.numbers.items past
 
 -- the first n bytes of the text were read
@@ -94,24 +94,24 @@ pub record IsConsumed (old new : Draft) (text : List ℕ) (n : ℕ) : Type 0 whe
   pub is : text ≡ taken ++ rest
   pub count : n ≡ length taken
   pub some : 0 < n
-  pub follows : (past : List ℕ) → Follows old past → Follows new (past ++ taken)
+  pub follows : (past : List ℕ) → HasRead old past → HasRead new (past ++ taken)
 
 -- if nothing follows the text, this line is at fault
 pub record IsCut (old new : Draft) (text : List ℕ) (line : ℕ) : Type 0 where
   pub same : new ≡ old
-  pub fault : (past : List ℕ) → Follows old past → IsFaultLine (past ++ text) line
+  pub fault : (past : List ℕ) → HasRead old past → IsFaultLine (past ++ text) line
 
 -- the text of a report was read, and nothing more
 pub record IsWhole (old new : Draft) (text : List ℕ) (first : FirstLines) : Type 0 where
   pub same : new ≡ old
   pub none : text ≡ []
-  pub read : (past : List ℕ) → Follows old past → ReadEnd first old.segments.items past
+  pub read : (past : List ℕ) → HasRead old past → ReadEnd first old.segments.items past
 
 abbrev pub IsStep : Draft → Draft → List ℕ → Result Progress ReportFault → Type 0
 IsStep old new text (Ok (Consumed n)) = IsConsumed old new text n
 IsStep old new text (Ok (Cut line)) = IsCut old new text line
 IsStep old new text (Ok (Whole first)) = IsWhole old new text first
-IsStep old new text (Err fault) = (past more : List ℕ) → Follows old past → IsTextFault (past ++ (text ++ more)) fault
+IsStep old new text (Err fault) = (past more : List ℕ) → HasRead old past → IsTextFault (past ++ (text ++ more)) fault
 
 -- the line is cut, and more bytes can make it another; or it is at fault however the text goes on
 abbrev pub IsRefused : Bool → List ℕ → ℕ → Result Progress ReportFault → Type 0

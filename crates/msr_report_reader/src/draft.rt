@@ -3,7 +3,7 @@ ghost use Rattle.std.specs.Prelude.{◌≡◌, ◌<◌, ◌+◌, ◌*◌, ◌^�
 ghost use Rattle.std.specs.Fmt.{decimal};
 ghost use Rattle.msr_report.specs.Proper.{records_of};
 ghost use Rattle.msr_report_reader.specs.Content.{lines_before};
-ghost use Rattle.msr_report_reader.specs.Draft.{Follows, IsRefused, IsStep, ReadOpening, numbers_then, stop_byte};
+ghost use Rattle.msr_report_reader.specs.Draft.{HasRead, IsRefused, IsStep, ReadOpening, numbers_then, stop_byte};
 ghost use Rattle.msr_report_reader.specs.LastLine.{IsLast};
 ghost use Rattle.msr_report_reader.specs.Reading.{IsReadFrom};
 ghost use Rattle.msr_report_reader.specs.TextFault.{IsTextFault};
@@ -128,7 +128,7 @@ fn last_line<'a>(text: &'a [u8], segments: &[SegmentLine]) -> Option<&'a [u8]>
 impl Draft {
     /// A draft before the first byte.
     pub(crate) fn new(alloc: Global) -> Draft
-        ensures { Follows result [] }
+        ensures { HasRead result [] }
     {
         Draft {
             alloc,
@@ -227,7 +227,7 @@ impl Draft {
     fn go_on(&mut self, first: FirstLines, line: FirstLine, last: bool) -> Result<(), AllocError>
         ensures { OnOk result ((past : List ℕ) → ReadOpening first self.old.segments.items line past
             → All (λ n. n < 2 ^ 64) self.old.numbers.items
-            → Follows self.new (past ++ numbers_then self.old.numbers.items last)) }
+            → HasRead self.new (past ++ numbers_then self.old.numbers.items last)) }
     {
         if !last {
             self.expected = Expected::Number(first, line);
@@ -258,9 +258,9 @@ impl Draft {
 
     /// Reads the text as all that is left.
     pub(crate) fn finish(mut self, text: &[u8]) -> Result<Report, ReportFault>
-        ensures found { (past : List ℕ) → Follows self past
+        ensures found { (past : List ℕ) → HasRead self past
             → IfOk result (λ report. IsReadFrom report (past ++ text.now)) }
-        ensures fault { (past : List ℕ) → Follows self past → IfErr result (IsTextFault (past ++ text.now)) }
+        ensures fault { (past : List ℕ) → HasRead self past → IfErr result (IsTextFault (past ++ text.now)) }
     {
         let mut rest = text;
         'reading: loop {
