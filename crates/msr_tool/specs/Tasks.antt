@@ -87,7 +87,7 @@ VerdictAnswers input text told (Err fault.Write) = IsToldInPart input text told
 VerdictAnswers input text told (Err fault.Memory) = told ≡ []
 
 -- What a check did with its devices, the packed records, the report and the sink of the verdict, and what it answers.
-pub record Tells (packed report : Device) (out0 out : Device) (result : Result Verdict ToolFault) : Type 0 where
+pub record TellsVerdict (packed report : Device) (out0 out : Device) (result : Result Verdict ToolFault) : Type 0 where
   pub input : List ℕ
   pub text : List ℕ
   pub told : List ℕ

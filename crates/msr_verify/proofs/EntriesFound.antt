@@ -17,15 +17,15 @@ use Rattle.msr_verify.specs.declared.judgement.Judgement.{Judgement}
 use Rattle.msr_verify.specs.declared.judgement.Judgement.TheVariants.{Refused, Skipped}
 use Rattle.msr_verify.specs.declared.judgement.Refusal.TheVariants.{FileUnopened, Listing, RecordsListing}
 use Rattle.msr_verify.specs.Entries.{Entry, IsDay, IsEntry, IsEntryLine, IsJudgementOf, IsJudgementOfDay, IsVerifyTally}
-use Rattle.msr_verify.specs.Walk.{IsWalkInPart, StopsPrefix, StopsTelling, Tells, TellsEnd, TellsInPart, Verifies, counts_line, summary}
+use Rattle.msr_verify.specs.Walk.{IsWalkInPart, StopsPrefix, StopsTelling, TellsJudged, TellsEnd, TellsInPart, Verifies, counts_line, summary}
 use Rattle.msr_verify.specs.declared.tally.VerifyTally.{VerifyTally}
 
 -- no entry more
-pub tells_none : (out : Device) (tally : VerifyTally) → Tells out out tally tally
+pub tells_none : (out : Device) (tally : VerifyTally) → TellsJudged out out tally tally
 tells_none out tally = visits.tells_none IsEntry IsEntryLine IsVerifyTally out tally
 
 pub tells_more : (out0 out1 out : Device) (tally0 tally1 tally : VerifyTally) →
-    Tells out0 out1 tally0 tally1 → Tells out1 out tally1 tally → Tells out0 out tally0 tally
+    TellsJudged out0 out1 tally0 tally1 → TellsJudged out1 out tally1 tally → TellsJudged out0 out tally0 tally
 tells_more out0 out1 out tally0 tally1 tally first second =
     visits.tells_more IsEntry IsEntryLine IsVerifyTally out0 out1 out tally0 tally1 tally first second
 
@@ -34,7 +34,7 @@ pub none_told : (out : Device) → StopsTelling out out Memory
 none_told out = (part_none IsEntry IsEntryLine out, (calm_same out).steady)
 
 pub stops_more : (out0 out1 out : Device) (tally0 tally1 : VerifyTally) (fault : DeviceFault) →
-    Tells out0 out1 tally0 tally1 → StopsTelling out1 out fault → StopsTelling out0 out fault
+    TellsJudged out0 out1 tally0 tally1 → StopsTelling out1 out fault → StopsTelling out0 out fault
 stops_more out0 out1 out tally0 tally1 fault first second =
     visits.stops_more IsEntry IsEntryLine IsVerifyTally out0 out1 out tally0 tally1 fault first second
 
@@ -63,7 +63,7 @@ entries_in_part out0 out told = record {
 
 -- all entries, and a prefix of the last lines
 summary_in_part : (out0 out1 out : Device) (tally0 tally : VerifyTally)
-    (told : Tells out0 out1 tally0 tally) →
+    (told : TellsJudged out0 out1 tally0 tally) →
     TakesPrefix out1 out (summary told.entries) → WalksInPart out0 out
 summary_in_part out0 out1 out tally0 tally told front = record {
   printed = told.lines ++ front.taken;
@@ -86,7 +86,7 @@ stops_entries out0 out fault told = stops_within out0 out0 out fault (calm_same 
     (entries_in_part out0 out) told
 
 pub stops_summary : (out0 out1 out : Device) (tally0 tally : VerifyTally) (fault : DeviceFault) →
-    (told : Tells out0 out1 tally0 tally) → StopsPrefix out1 out (summary told.entries) fault →
+    (told : TellsJudged out0 out1 tally0 tally) → StopsPrefix out1 out (summary told.entries) fault →
     StopsAt (WalksInPart out0 out) out0 out fault
 stops_summary out0 out1 out tally0 tally fault told front =
     stops_within out0 out1 out fault told.calm (summary_in_part out0 out1 out tally0 tally told) front
@@ -108,7 +108,7 @@ pub tells_end : (entries : List Entry) (tally : VerifyTally) (found : WalkFound)
 tells_end entries tally found counts finds = rw (counts.unverified, counts.verified) at finds
 
 pub walk_ends : (out0 out1 out : Device) (tally0 tally : VerifyTally) (found : WalkFound) →
-    (told : Tells out0 out1 tally0 tally) → Takes out1 out (summary told.entries)
+    (told : TellsJudged out0 out1 tally0 tally) → Takes out1 out (summary told.entries)
     → TellsEnd told.entries found →
     Verifies out0 out (Ok found)
 walk_ends out0 out1 out tally0 tally found told prints end = record {

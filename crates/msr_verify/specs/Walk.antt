@@ -37,8 +37,8 @@ abbrev pub StopsPrefix : Device → Device → List ℕ → DeviceFault → Type
 StopsPrefix out0 out text fault = StopsAt (TakesPrefix out0 out text) out0 out fault
 
 -- some more entries were told: their lines were printed, and they are counted
-abbrev pub Tells : Device → Device → VerifyTally → VerifyTally → Type 0
-Tells out0 out tally0 tally = visits.Tells IsEntry IsEntryLine IsVerifyTally out0 out tally0 tally
+abbrev pub TellsJudged : Device → Device → VerifyTally → VerifyTally → Type 0
+TellsJudged out0 out tally0 tally = visits.Tells IsEntry IsEntryLine IsVerifyTally out0 out tally0 tally
 
 -- a prefix of the lines of some more entries was printed
 abbrev pub TellsInPart : Device → Device → Type 0

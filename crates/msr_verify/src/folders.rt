@@ -4,7 +4,7 @@ ghost use Rattle.msr_devices.specs.Device.{CanCountCall, HasFailed};
 ghost use Rattle.msr_sds.specs.SdsPath.{ReadsAsDay, SdsPath};
 ghost use Rattle.msr_folders.proofs.VisitLemmas.{visitor_laws};
 ghost use Rattle.msr_verify.specs.Entries.{IsEntry, IsEntryLine, IsJudgementOf, IsVerifyTally};
-ghost use Rattle.msr_verify.specs.Walk.{StopsTelling, Tells, Verifies};
+ghost use Rattle.msr_verify.specs.Walk.{StopsTelling, TellsJudged, Verifies};
 
 use crate::day::judge_day;
 use crate::judgement::{Judgement, Refusal};
@@ -45,7 +45,7 @@ fn tell<R: Files, O: Sink>(
 ) -> Result<(), DeviceFault>
     requires { CanCountCall (O.device out.old) }
     ensures told { IsJudgementOf path.now judgement →
-        OnOk result (Tells (O.device out.old) (O.device out.new) tally.old tally.new) }
+        OnOk result (TellsJudged (O.device out.old) (O.device out.new) tally.old tally.new) }
     ensures stops { IsJudgementOf path.now judgement →
         IfErr result (StopsTelling (O.device out.old) (O.device out.new)) }
 {
@@ -64,7 +64,7 @@ fn tell_day<R: Files, O: Sink>(
 ) -> Result<(), DeviceFault>
     requires count { CanCountCall (O.device out.old) }
     ensures told { (name : SdsPath) → ReadsAsDay path.now name →
-        OnOk result (Tells (O.device out.old) (O.device out.new) tally.old tally.new) }
+        OnOk result (TellsJudged (O.device out.old) (O.device out.new) tally.old tally.new) }
     ensures stops { (name : SdsPath) → ReadsAsDay path.now name →
         IfErr result (StopsTelling (O.device out.old) (O.device out.new)) }
 {
@@ -85,7 +85,7 @@ impl<R: Files> Visitor for Verifier<'_, R> {
 
     type Folder = ();
 
-    ghost tells = { λ _. Tells };
+    ghost tells = { λ _. TellsJudged };
 
     ghost stops = { λ _. StopsTelling };
 
@@ -141,7 +141,7 @@ fn walk_tree<R: Files, O: Sink>(
     tally: &mut VerifyTally,
 ) -> Result<(), DeviceFault>
     requires { CanCountCall (O.device out.old) }
-    ensures told { OnOk result (Tells (O.device out.old) (O.device out.new) tally.old tally.new) }
+    ensures told { OnOk result (TellsJudged (O.device out.old) (O.device out.new) tally.old tally.new) }
     ensures stops { IfErr result (StopsTelling (O.device out.old) (O.device out.new)) }
 {
     let root = match tree {

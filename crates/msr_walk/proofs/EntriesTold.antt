@@ -14,7 +14,7 @@ use Rattle.msr_tool.specs.Fault.{fault_of_writing}
 use Rattle.msr_tool.specs.declared.fault.ToolFault.TheVariants.{Write}
 use Rattle.msr_options.specs.declared.days.DayOptions.{DayOptions}
 use Rattle.msr_walk.specs.Entries.{Entry, IsEntry, IsEntryLine, IsTally, first_unopened}
-use Rattle.msr_walk.specs.Walk.{IsWalkInPart, StopsPrefix, StopsTelling, Tells, TellsEnd, TellsInPart, Walks, summary}
+use Rattle.msr_walk.specs.Walk.{IsWalkInPart, StopsPrefix, StopsTelling, TellsOutcomes, TellsEnd, TellsInPart, Walks, summary}
 use Rattle.msr_walk.specs.declared.folders.Walked.{Walked}
 use Rattle.msr_walk.specs.declared.tally.Tally.{Tally}
 
@@ -47,7 +47,7 @@ entries_in_part asked out0 out told = record {
 
 -- all entries, and a prefix of the last lines
 summary_in_part : (asked : DayOptions) (out0 out1 out : Device) (tally0 tally : Tally)
-    (told : Tells asked out0 out1 tally0 tally) →
+    (told : TellsOutcomes asked out0 out1 tally0 tally) →
     TakesPrefix out1 out (summary asked told.entries) → WalksInPart asked out0 out
 summary_in_part asked out0 out1 out tally0 tally told front = record {
   printed = told.lines ++ front.taken;
@@ -70,7 +70,7 @@ stops_entries asked out0 out fault told = stops_within out0 out0 out fault (calm
     (entries_in_part asked out0 out) told
 
 pub stops_summary : (asked : DayOptions) (out0 out1 out : Device) (tally0 tally : Tally) (fault : DeviceFault) →
-    (told : Tells asked out0 out1 tally0 tally) → StopsPrefix out1 out (summary asked told.entries) fault →
+    (told : TellsOutcomes asked out0 out1 tally0 tally) → StopsPrefix out1 out (summary asked told.entries) fault →
     StopsAt (WalksInPart asked out0 out) out0 out fault
 stops_summary asked out0 out1 out tally0 tally fault told front =
     stops_within out0 out1 out fault told.calm (summary_in_part asked out0 out1 out tally0 tally told) front
@@ -96,7 +96,7 @@ tells_end entries tally NoDay counts finds = rw (← counts.refused, ← counts.
     (finds.0, omega (arith, finds.1), omega (arith, finds.1))
 
 pub walk_ends : (asked : DayOptions) (out0 out1 out : Device) (tally0 tally : Tally) (walked : Walked) →
-    (told : Tells asked out0 out1 tally0 tally) → Takes out1 out (summary asked told.entries)
+    (told : TellsOutcomes asked out0 out1 tally0 tally) → Takes out1 out (summary asked told.entries)
     → TellsEnd told.entries walked.found → walked.unopened ≡ first_unopened told.entries →
     Walks asked out0 out (Ok walked)
 walk_ends asked out0 out1 out tally0 tally walked told prints end first = record {

@@ -70,8 +70,8 @@ abbrev pub StopsPrefix : Device → Device → List ℕ → DeviceFault → Type
 StopsPrefix out0 out text fault = StopsAt (TakesPrefix out0 out text) out0 out fault
 
 -- some more entries were told: their lines were printed, and they are counted
-abbrev pub Tells : DayOptions → Device → Device → Tally → Tally → Type 0
-Tells asked out0 out tally0 tally =
+abbrev pub TellsOutcomes : DayOptions → Device → Device → Tally → Tally → Type 0
+TellsOutcomes asked out0 out tally0 tally =
     visits.Tells (IsEntry asked) (IsEntryLine asked.bytes) IsTally out0 out tally0 tally
 
 -- a prefix of the lines of some more entries was printed

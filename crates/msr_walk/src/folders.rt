@@ -6,7 +6,7 @@ ghost use Rattle.msr_sds.specs.SdsPath.{ReadsAsDay};
 ghost use Rattle.msr_folders.proofs.VisitLemmas.{visitor_laws};
 ghost use Rattle.msr_walk.specs.Day.{IsOutcomeOfDay};
 ghost use Rattle.msr_walk.specs.Entries.{Entry, IsEntry, IsEntryLine, IsOutcomeOf, IsTally, channel_of};
-ghost use Rattle.msr_walk.specs.Walk.{StopsTelling, Tells, Walks};
+ghost use Rattle.msr_walk.specs.Walk.{StopsTelling, TellsOutcomes, Walks};
 
 use crate::claim::LockFile;
 use crate::day::Day;
@@ -51,7 +51,7 @@ fn tell<R: Files, O: Sink>(
 ) -> Result<(), DeviceFault>
     requires { CanCountCall (O.device out.old) }
     ensures told { IsOutcomeOf walker.now.archive.now.days path.now channel.now outcome →
-        OnOk result (Tells walker.now.archive.now.days (O.device out.old) (O.device out.new) tally.old tally.new) }
+        OnOk result (TellsOutcomes walker.now.archive.now.days (O.device out.old) (O.device out.new) tally.old tally.new) }
     ensures stops { IsOutcomeOf walker.now.archive.now.days path.now channel.now outcome →
         IfErr result (StopsTelling walker.now.archive.now.days (O.device out.old) (O.device out.new)) }
 {
@@ -123,7 +123,7 @@ where
     ) -> Result<(), DeviceFault>
         requires day { ReadsAsDay path.now name.now }
         requires count { CanCountCall (O.device out.old) }
-        ensures told { OnOk result (Tells self.now.archive.now.days (O.device out.old)
+        ensures told { OnOk result (TellsOutcomes self.now.archive.now.days (O.device out.old)
             (O.device out.new) tally.old tally.new) }
         ensures stops { IfErr result (StopsTelling self.now.archive.now.days (O.device out.old)
             (O.device out.new)) }
@@ -167,7 +167,7 @@ where
     /// Whether what is made of the days of the folder stands outside the archive.
     type Folder = bool;
 
-    ghost tells = { λ walker. Tells walker.archive.now.days };
+    ghost tells = { λ walker. TellsOutcomes walker.archive.now.days };
 
     ghost stops = { λ walker. StopsTelling walker.archive.now.days };
 
