@@ -6,7 +6,7 @@ use Rattle.std.proofs.lemmas.Bool.{both_ways}
 use Rattle.msr_rows.specs.declared.row.Record.{Record}
 use Rattle.msr_devices.specs.Device.{Device, CanCountCall, CountsFew, IsSteady}
 use Rattle.msr_devices.proofs.Chaining.{steady_then_few}
-use Rattle.msr_segments.specs.Spans.{Following, IsStep}
+use Rattle.msr_segments.specs.Spans.{Following, TakesStep}
 use Rattle.msr_segments.specs.Joining.{Joining, HasJoined, following_of}
 use Rattle.msr_segments.specs.declared.follow.Step.{Step}
 use Rattle.msr_segments.specs.declared.joiner.Segment.{Segment}
@@ -58,7 +58,7 @@ tolerance_is d = sym (ap (λ (f : Following). f.tolerance) d.stands) ∙ ap (λ 
 pub drains_row : {settings : Settings} {start a b : Device} {old new : RowReading} {symbols : List Symbol}
     {next : NextOutline} (d : Draining settings start a old symbols)
     → ReadsOutline start b new d.records d.answers next → row_settings new ≡ row_settings old
-    → IsStep old.following (outline_span next.row) next.step new.following → Draining settings start b new symbols
+    → TakesStep old.following (outline_span next.row) next.step new.following → Draining settings start b new symbols
 drains_row {old = old} {new} {symbols} {next} d outline same step =
     let row = outline.row in
     let span = rw outline.outline_is at step in
@@ -155,7 +155,7 @@ is_draining {side = side} h = record {
 
 pub still_draining : {a b : Device} {old new : RowReading} {next : NextOutline} (d : IsDraining a old)
     → ReadsOutline d.start b new d.drains.records d.drains.answers next → row_settings new ≡ row_settings old
-    → IsStep old.following (outline_span next.row) next.step new.following → IsDraining b new
+    → TakesStep old.following (outline_span next.row) next.step new.following → IsDraining b new
 still_draining d outline same step = record {
   settings = d.settings;
   start = d.start;

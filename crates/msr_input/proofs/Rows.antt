@@ -11,7 +11,7 @@ use Rattle.msr_segments.specs.declared.span.Span.{Span}
 use Rattle.msr_segments.specs.declared.follow.Step.{Step}
 use Rattle.msr_segments.specs.declared.follow.Step.TheVariants.{Begins, Joins}
 use Rattle.msr_segments.specs.declared.joiner.Segment.{Segment}
-use Rattle.msr_segments.specs.Spans.{Following, Overruns, IsStep}
+use Rattle.msr_segments.specs.Spans.{Following, Overruns, TakesStep}
 use Rattle.msr_segments.specs.Segments.{Part, segment_of, part_span, row_segment, row_span, IsDivision}
 use Rattle.msr_segments.specs.Joining.{Joining, HasJoined, HasFollowed, following_of}
 use Rattle.msr_segments.proofs.Histories.{followed_none, followed_step}
@@ -138,7 +138,7 @@ in_range_followed following records answers found none followed in_time within =
     (λ row e over. within row e (subst (λ (f : Following). Overruns f (row_span row)) (sym at.stands) over)) in
     subst (λ (t : ℕ). NoneOverruns t (records ++ found ∷ [])) (sym same) more
 
-step_tolerance : (old new : Following) (row : Span) (answer : Step) → IsStep old row answer new
+step_tolerance : (old new : Following) (row : Span) (answer : Step) → TakesStep old row answer new
     → new.tolerance ≡ old.tolerance
 step_tolerance old new row Begins k = ap (λ (f : Following). f.tolerance) k.after
 step_tolerance old new row Joins k = ap (λ (f : Following). f.tolerance) k.after
@@ -161,7 +161,7 @@ passed_none s a old new before records answers found has is none come = record {
 passed_row : (s a : Device) (old new : Position) (before after : Following) (records : List Record)
     (answers : List Step) (found : Record) (row : Row) (answer : Step)
     → HasReadRows s a (record { position = old; following = before }) records answers
-    → IsRecordOf old.waiting found → found.row ≡ Some row → IsStep before (row_span row) answer after
+    → IsRecordOf old.waiting found → found.row ≡ Some row → TakesStep before (row_span row) answer after
     → (Overruns before (row_span row) → ⊥) → HaveCome s a new (records ++ found ∷ [])
     → HasReadRows s a (record { position = new; following = after }) (records ++ found ∷ []) (answers ++ answer ∷ [])
 passed_row s a old new before after records answers found row answer has is some step within come =

@@ -10,7 +10,7 @@ use Rattle.msr_devices.specs.Device.{Device, GivesOnto, HasFailed}
 use Rattle.msr_devices.specs.ReadBuffer.{Window, IsFilled}
 use Rattle.msr_devices.specs.declared.fault.DeviceFault.{DeviceFault}
 use Rattle.msr_devices.specs.declared.fault.DeviceFault.TheVariants as filling
-use Rattle.msr_segments.specs.Spans.{Following, Overruns, IsStep}
+use Rattle.msr_segments.specs.Spans.{Following, Overruns, TakesStep}
 use Rattle.msr_segments.specs.declared.follow.Step.{Step}
 use Rattle.msr_input.specs.Input.{Agrees, IsRefusedAlone}
 use Rattle.msr_input.specs.Outlines.{outline_of, outline_span}
@@ -91,7 +91,7 @@ pub record IsRecordAhead (position : Position) (outline : Outline) (found : Reco
 pub record FollowsRow (old : Following) (row : RowOutline) (step : Option Step) (new : Following) : Type 0 where
   pub answer : Step
   pub told : step ≡ Some answer
-  pub is_step : IsStep old (outline_span row) answer new
+  pub is_step : TakesStep old (outline_span row) answer new
   pub in_range : Overruns old (outline_span row) → ⊥
 
 -- what a record's row does with a follower: nothing, if there is none

@@ -61,7 +61,7 @@ impl RowReader {
     ghost use Rattle.msr_devices.specs.Device.{Device, CanCountCall, CountsFew, IsSteady};
     ghost use Rattle.msr_rows.specs.Records.{TakesMemory};
     ghost use Rattle.msr_rows.specs.declared.row.Record.{Record as Found};
-    ghost use Rattle.msr_segments.specs.Spans.{IsInBounds, IsStep};
+    ghost use Rattle.msr_segments.specs.Spans.{IsInBounds, TakesStep};
     ghost use Rattle.msr_segments.specs.Segments.{row_segment};
     ghost use Rattle.msr_segments.specs.declared.follow.Step.{Step as Answer};
     ghost use Rattle.msr_input.specs.Outlines.{outline_span};
@@ -106,7 +106,7 @@ impl RowReader {
 
         // What the row does, and what rows are given.
         ensures step { IfOk result (λ next. IfSome next (λ given.
-            IsStep self.old.following (outline_span given.row) given.step self.new.following)) }
+            TakesStep self.old.following (outline_span given.row) given.step self.new.following)) }
         ensures row { IfOk result (λ next. IfSome next (λ given. CanFollow given.row)) }
         ensures in_bounds { IfOk result (λ next. IfSome next (λ _. IsInBounds self.new.following.current)) }
         ensures settings { row_settings self.new ≡ row_settings self.old }

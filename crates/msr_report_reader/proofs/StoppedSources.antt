@@ -6,7 +6,7 @@ use Rattle.msr_devices.specs.declared.fault.DeviceFault.{DeviceFault}
 use Rattle.msr_devices.specs.declared.fault.DeviceFault.TheVariants as fill
 use Rattle.msr_devices.proofs.Chaining.{calm_calm, calm_failed, calm_same, gives_append, left_of, steady_sound, steady_steady, steady_then_few}
 use Rattle.msr_report.specs.declared.report.Report.{Report}
-use Rattle.msr_report_reader.specs.Draft.{HasRead, IsStep, IsConsumed}
+use Rattle.msr_report_reader.specs.Draft.{HasRead, IsDraftStep, IsConsumed}
 use Rattle.msr_report_reader.specs.Reading.{IsReadFrom, ReadsReport, fault_of_fill}
 use Rattle.msr_report_reader.specs.TextFault.{IsTextFault}
 use Rattle.msr_report_reader.specs.declared.draft.Draft.{Draft}
@@ -71,13 +71,13 @@ reading_taken start now old new before after n reading taken bytes ended =
 -- a step that takes nothing changes nothing
 pub rests : (old new : Draft) (text : List ℕ) (progress : Progress)
     → ((x : ℕ) × (progress ≡ Cut x)) ⊎ ((x : FirstLines) × (progress ≡ Whole x))
-    → IsStep old new text (Ok progress) → new ≡ old
+    → IsDraftStep old new text (Ok progress) → new ≡ old
 rests old new text progress (inl cut) step =
-    let is : IsStep old new text (Ok (Cut cut.0)) =
-    subst (λ (p : Progress). IsStep old new text (Ok p)) cut.1 step in is.same
+    let is : IsDraftStep old new text (Ok (Cut cut.0)) =
+    subst (λ (p : Progress). IsDraftStep old new text (Ok p)) cut.1 step in is.same
 rests old new text progress (inr whole) step =
-    let is : IsStep old new text (Ok (Whole whole.0)) =
-    subst (λ (p : Progress). IsStep old new text (Ok p)) whole.1 step in is.same
+    let is : IsDraftStep old new text (Ok (Whole whole.0)) =
+    subst (λ (p : Progress). IsDraftStep old new text (Ok p)) whole.1 step in is.same
 
 pub reading_filled : (start old new : Device) (draft other : Draft) (before after : Window) (want : ℕ)
     → IsReading start old draft before → before.ended ≡ false → other ≡ draft

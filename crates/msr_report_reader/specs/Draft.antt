@@ -107,11 +107,11 @@ pub record IsWhole (old new : Draft) (text : List ℕ) (first : FirstLines) : Ty
   pub none : text ≡ []
   pub read : (past : List ℕ) → HasRead old past → ReadEnd first old.segments.items past
 
-abbrev pub IsStep : Draft → Draft → List ℕ → Result Progress ReportFault → Type 0
-IsStep old new text (Ok (Consumed n)) = IsConsumed old new text n
-IsStep old new text (Ok (Cut line)) = IsCut old new text line
-IsStep old new text (Ok (Whole first)) = IsWhole old new text first
-IsStep old new text (Err fault) = (past more : List ℕ) → HasRead old past → IsTextFault (past ++ (text ++ more)) fault
+abbrev pub IsDraftStep : Draft → Draft → List ℕ → Result Progress ReportFault → Type 0
+IsDraftStep old new text (Ok (Consumed n)) = IsConsumed old new text n
+IsDraftStep old new text (Ok (Cut line)) = IsCut old new text line
+IsDraftStep old new text (Ok (Whole first)) = IsWhole old new text first
+IsDraftStep old new text (Err fault) = (past more : List ℕ) → HasRead old past → IsTextFault (past ++ (text ++ more)) fault
 
 -- the line is cut, and more bytes can make it another; or it is at fault however the text goes on
 abbrev pub IsRefused : Bool → List ℕ → ℕ → Result Progress ReportFault → Type 0

@@ -3,7 +3,7 @@ ghost use Rattle.std.specs.Prelude.{◌≡◌, ◌<◌, ◌+◌, ◌*◌, ◌^�
 ghost use Rattle.std.specs.Fmt.{decimal};
 ghost use Rattle.msr_report.specs.Proper.{records_of};
 ghost use Rattle.msr_report_reader.specs.Content.{lines_before};
-ghost use Rattle.msr_report_reader.specs.Draft.{HasRead, IsRefused, IsStep, ReadOpening, numbers_then, stop_byte};
+ghost use Rattle.msr_report_reader.specs.Draft.{HasRead, IsRefused, IsDraftStep, ReadOpening, numbers_then, stop_byte};
 ghost use Rattle.msr_report_reader.specs.LastLine.{IsLast};
 ghost use Rattle.msr_report_reader.specs.Reading.{IsReadFrom};
 ghost use Rattle.msr_report_reader.specs.TextFault.{IsTextFault};
@@ -149,7 +149,7 @@ impl Draft {
 
     /// Reads what the text begins with: the lines before the segments, another line, or a word of the separators' line.
     pub(crate) fn step(&mut self, text: &[u8]) -> Result<Progress, ReportFault>
-        ensures { IsStep self.old self.new text.now result }
+        ensures { IsDraftStep self.old self.new text.now result }
     {
         match self.expected {
             Expected::Start => self.read_first(text),
@@ -162,7 +162,7 @@ impl Draft {
 
     /// Reads the lines before the segments.
     fn read_first(&mut self, text: &[u8]) -> Result<Progress, ReportFault>
-        ensures { self.old.expected ≡ Start → IsStep self.old self.new text.now result }
+        ensures { self.old.expected ≡ Start → IsDraftStep self.old self.new text.now result }
     {
         match first_lines(text) {
             Ok((first, rest)) => {
@@ -175,7 +175,7 @@ impl Draft {
 
     /// Reads the first line of a segment, or the last line.
     fn read_segment(&mut self, first: FirstLines, text: &[u8]) -> Result<Progress, ReportFault>
-        ensures { self.old.expected ≡ Segment first → IsStep self.old self.new text.now result }
+        ensures { self.old.expected ≡ Segment first → IsDraftStep self.old self.new text.now result }
     {
         if let Some((line, rest)) = opening(text) {
             self.expected = Expected::Separators(first, line);
@@ -196,7 +196,7 @@ impl Draft {
         line: FirstLine,
         text: &[u8],
     ) -> Result<Progress, ReportFault>
-        ensures { self.old.expected ≡ Separators first line → IsStep self.old self.new text.now result }
+        ensures { self.old.expected ≡ Separators first line → IsDraftStep self.old self.new text.now result }
     {
         let Some((last, rest)) = separators_word(text) else {
             let begins = may_begin(text, b"separators");
@@ -213,7 +213,7 @@ impl Draft {
         line: FirstLine,
         text: &[u8],
     ) -> Result<Progress, ReportFault>
-        ensures { self.old.expected ≡ Number first line → IsStep self.old self.new text.now result }
+        ensures { self.old.expected ≡ Number first line → IsDraftStep self.old self.new text.now result }
     {
         let Some((n, last, rest)) = separator(text) else {
             return refuse(text, may_be_number(text), 1 + self.line_after(first));
@@ -247,7 +247,7 @@ impl Draft {
 
     /// Reads nothing after the last line: more text is a line at fault.
     fn read_nothing(&mut self, first: FirstLines, text: &[u8]) -> Result<Progress, ReportFault>
-        ensures { self.old.expected ≡ End first → IsStep self.old self.new text.now result }
+        ensures { self.old.expected ≡ End first → IsDraftStep self.old self.new text.now result }
     {
         if text.is_empty() {
             Ok(Progress::Whole(first))
