@@ -15,7 +15,7 @@ use Rattle.msr_report_reader.specs.Fault.{IsOneLine, IsFaultLine}
 use Rattle.msr_report_reader.specs.LastLine.{IsLast}
 use Rattle.msr_report_reader.specs.Reading.{IsReadFrom}
 use Rattle.msr_report_reader.specs.TextFault.{IsTextFault}
-use Rattle.msr_report_reader.specs.Draft.{IsEnough, IsRefused, IsDraftStep, IsConsumed, HasRead, ReadTo, ReadSegments, ReadOpening, ReadEnd, numbers_then, stop_byte}
+use Rattle.msr_report_reader.specs.Draft.{IsEnough, IsLineRefused, IsDraftStep, IsConsumed, HasRead, ReadTo, ReadSegments, ReadOpening, ReadEnd, numbers_then, stop_byte}
 use Rattle.msr_report_reader.specs.declared.fault.ReportFault.{ReportFault}
 use Rattle.msr_report_reader.specs.declared.fault.ReportFault.TheVariants.{Line, Read, Memory}
 use Rattle.msr_report_reader.specs.declared.first.FirstLines.{FirstLines}
@@ -35,7 +35,7 @@ use Rattle.msr_report_reader.proofs.ReadTexts.{going_of}
 -- a line that no report has there
 pub refused : (old new : Draft) (whole : List ℕ) (begins : Bool) (text : List ℕ) (line : ℕ) (result : Result Progress ReportFault) → new ≡ old
     → ((past more : List ℕ) → HasRead old past → IsEnough begins text more → IsFaultLine (past ++ (whole ++ more)) line)
-    → IsRefused begins text line result → IsDraftStep old new whole result
+    → IsLineRefused begins text line result → IsDraftStep old new whole result
 refused old new whole begins text line (Ok (Consumed n)) same fault is = absurd is
 refused old new whole begins text line (Ok (Cut n)) same fault is = record {
   same = same;

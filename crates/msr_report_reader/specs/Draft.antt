@@ -114,11 +114,11 @@ IsDraftStep old new text (Ok (Whole first)) = IsWhole old new text first
 IsDraftStep old new text (Err fault) = (past more : List ℕ) → HasRead old past → IsTextFault (past ++ (text ++ more)) fault
 
 -- the line is cut, and more bytes can make it another; or it is at fault however the text goes on
-abbrev pub IsRefused : Bool → List ℕ → ℕ → Result Progress ReportFault → Type 0
-IsRefused begins text line (Ok (Consumed n)) = ⊥
-IsRefused begins text line (Ok (Cut n)) =
+abbrev pub IsLineRefused : Bool → List ℕ → ℕ → Result Progress ReportFault → Type 0
+IsLineRefused begins text line (Ok (Consumed n)) = ⊥
+IsLineRefused begins text line (Ok (Cut n)) =
     (n ≡ line) × ((begins ≡ true) × (IsOneLine text × (length text < line_limit)))
-IsRefused begins text line (Ok (Whole first)) = ⊥
-IsRefused begins text line (Err (Line n)) = (n ≡ line) × IsSettled begins text
-IsRefused begins text line (Err Read) = ⊥
-IsRefused begins text line (Err Memory) = ⊥
+IsLineRefused begins text line (Ok (Whole first)) = ⊥
+IsLineRefused begins text line (Err (Line n)) = (n ≡ line) × IsSettled begins text
+IsLineRefused begins text line (Err Read) = ⊥
+IsLineRefused begins text line (Err Memory) = ⊥

@@ -3,7 +3,7 @@ ghost use Rattle.std.specs.Prelude.{◌≡◌, ◌<◌, ◌+◌, ◌*◌, ◌^�
 ghost use Rattle.std.specs.Fmt.{decimal};
 ghost use Rattle.msr_report.specs.Proper.{records_of};
 ghost use Rattle.msr_report_reader.specs.Content.{lines_before};
-ghost use Rattle.msr_report_reader.specs.Draft.{HasRead, IsRefused, IsDraftStep, ReadOpening, numbers_then, stop_byte};
+ghost use Rattle.msr_report_reader.specs.Draft.{HasRead, IsLineRefused, IsDraftStep, ReadOpening, numbers_then, stop_byte};
 ghost use Rattle.msr_report_reader.specs.LastLine.{IsLast};
 ghost use Rattle.msr_report_reader.specs.Reading.{IsReadFrom};
 ghost use Rattle.msr_report_reader.specs.TextFault.{IsTextFault};
@@ -59,7 +59,7 @@ pub(crate) enum Progress {
 /// Answers that the line is at fault, or that it may be whole once more bytes come: `begins` says whether these may
 /// make the text begin with its word.
 fn refuse(text: &[u8], begins: bool, line: u64) -> Result<Progress, ReportFault>
-    ensures { IsRefused begins text.now line result }
+    ensures { IsLineRefused begins text.now line result }
 {
     if begins && text.len() < LINE_LIMIT && !text.contains(&b'\n') {
         Ok(Progress::Cut(line))
