@@ -11,7 +11,7 @@ use Rattle.msr_words.specs.Packing.{IsPacking, IsSeparating, Joins, NoneHolds}
 use Rattle.msr_words.proofs.Certificate.{all_split, in_its_run, joins_more}
 use Rattle.msr_words.proofs.LastSamples.{apart_in_window, apart_of_window, apart_stays, apart_was, run_in_window, run_of_window, run_stays, run_was}
 use Rattle.msr_check.proofs.Rising.{separating_all, separating_more}
-use Rattle.msr_check.specs.Judged.{AreShown, Ends, FollowsLast, HasLast, HoldsSoFar, IsFollowed, IsSoundLast, Judged, Judges, NoneShows, StandsAt, becomes_last, last_run, next_run, number_after, without}
+use Rattle.msr_check.specs.Judged.{AreShown, Ends, FollowsLast, HasLast, HoldsSoFar, IsFollowed, IsSoundLast, Judged, Judges, NoneShows, StandsAt, becomes_last, last_run, next_run, samples_after, without}
 use Rattle.msr_check.specs.Next.{IsNextSeparator, SeparatingTo}
 use Rattle.msr_check.specs.declared.judge.LastRun.{LastRun}
 
@@ -36,7 +36,7 @@ fits_stay records samples more runs all =
 module _ (records : Records) (samples new : List ℤ) (runs : List Run) (separators : List ℕ) (held : List ℤ) where
   -- as many samples came
   pub number_is : (last : Option LastRun) → StandsAt records samples runs separators held last
-      → number_after last (length held) ≡ length samples
+      → samples_after last (length held) ≡ length samples
   number_is None at = sym (ap length at.0)
   number_is (Some last) at =
       let long = ap length at.held_is ∙ length-drop at.offset samples in
@@ -166,7 +166,7 @@ module _ (records : Records) (samples new : List ℤ) (runs : List Run) (separat
             let long = ap length at.held_is ∙ length-drop at.offset samples in
             let from = follows.from in
             let s = slice_index separators (length runs) in
-            let place = length held + (s - number_after (Some last) (length held)) in
+            let place = length held + (s - samples_after (Some last) (length held)) in
             let next : at.offset + place ≡ s = omega arith in
             let within : at.offset ≤ length (samples ++ new) = omega (arith, length-append samples new) in
             let below = follows.followed.1.0 in
@@ -198,7 +198,7 @@ module _ (records : Records) (samples new : List ℤ) (runs : List Run) (separat
         followed_by : (last : Option LastRun) → StandsAt records samples runs separators held last
             → length samples ≤ slice_index separators (length runs)
             → IsFollowed records (held ++ new) last (length held)
-            (length held + (slice_index separators (length runs) - number_after last (length held)))
+            (length held + (slice_index separators (length runs) - samples_after last (length held)))
         followed_by None at from = tt
         followed_by (Some last) at from =
             let F = FitsIn last.kind records in
@@ -229,7 +229,7 @@ module _ (records : Records) (samples new : List ℤ) (runs : List Run) (separat
             let up = separating.rising (length runs - 1) (length runs) (omega arith) (omega arith) in
             let apart = separating.apart (length runs - 1) (length runs) (omega arith) (omega arith) in
             let s = slice_index separators (length runs) in
-            let place = length held + (s - number_after (Some last) (length held)) in
+            let place = length held + (s - samples_after (Some last) (length held)) in
             let next : s ≡ at.offset + place = omega arith in
             let separator = at.separator in
             let start = at.from in

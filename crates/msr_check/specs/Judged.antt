@@ -67,9 +67,9 @@ next_run before samples kind =
     record { start = length before; end = length (before ++ samples); kind = kind }
 
 -- how many samples there are, if `held` are held
-abbrev pub number_after : Option LastRun → ℕ → ℕ
-number_after None held = 0
-number_after (Some last) held = last.number + (held - last.start)
+abbrev pub samples_after : Option LastRun → ℕ → ℕ
+samples_after None held = 0
+samples_after (Some last) held = last.number + (held - last.start)
 
 -- the last run, up to the sample `end`, is sound
 abbrev pub IsSoundLast : Records → List ℤ → Option LastRun → ℕ → Type 0
@@ -86,15 +86,15 @@ IsFollowed records held (Some last) end next =
 
 -- The separator is a sample after the first `end` that are held, and follows on the last run.
 pub record FollowsLast (records : Records) (held : List ℤ) (last : Option LastRun) (end separator : ℕ) : Type 0 where
-  pub from : number_after last end ≤ separator
-  pub past : separator - number_after last end < length held - end
-  pub followed : IsFollowed records held last end (end + (separator - number_after last end))
+  pub from : samples_after last end ≤ separator
+  pub past : separator - samples_after last end < length held - end
+  pub followed : IsFollowed records held last end (end + (separator - samples_after last end))
 
 -- No run follows: there are as many runs as separators and that many samples, and the last run is sound.
 pub record Ends (records : Records) (judged : Judged) (separators : List ℕ) (number : ℕ) : Type 0 where
   pub holds : judged.holds ≡ true
   pub as_many : judged.count ≡ length separators
-  pub number_is : number_after judged.last (length judged.held) ≡ number
+  pub number_is : samples_after judged.last (length judged.held) ≡ number
   pub sound : IsSoundLast records judged.held judged.last (length judged.held)
 
 -- These runs are a packing of the samples, the separators are separating and as many, and there are that many samples.
@@ -110,8 +110,8 @@ abbrev pub becomes_last : Option LastRun → ℕ → ℕ → Kind → LastRun
 becomes_last last end separator kind = record {
   kind = kind;
   start = end;
-  separator = end + (separator - number_after last end);
-  number = number_after last end;
+  separator = end + (separator - samples_after last end);
+  number = samples_after last end;
 }
 
 -- the same if the first `count` samples are held no more

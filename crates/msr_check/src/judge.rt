@@ -4,7 +4,7 @@ ghost use Rattle.std.specs.Prelude.{◌≡◌, ◌↔◌, ◌-◌, ◌+◌, ◌<
 ghost use Rattle.msr_words.specs.Fit.{Records, records_of};
 ghost use Rattle.msr_words.specs.Packing.{IsLeast};
 ghost use Rattle.msr_words.specs.declared.kinds.Run.{Run as WordRun};
-ghost use Rattle.msr_check.specs.Judged.{AreShown, Ends, FollowsLast, IsFollowed, IsSoundLast, Judges, becomes_last, next_run, number_after, without};
+ghost use Rattle.msr_check.specs.Judged.{AreShown, Ends, FollowsLast, IsFollowed, IsSoundLast, Judges, becomes_last, next_run, samples_after, without};
 
 use crate::reach::reach_of;
 use crate::{is_run, none_between};
@@ -37,7 +37,7 @@ fn without(last: LastRun, count: usize) -> LastRun
 
 /// How many samples there are, of which that many are held: `None` if no separator is as large.
 fn number_after(last: Option<LastRun>, held: usize) -> Option<u64>
-    ensures { MatchOption result (2 ^ 64 ≤ number_after last held) (λ number. number ≡ number_after last held) }
+    ensures { MatchOption result (2 ^ 64 ≤ samples_after last held) (λ number. number ≡ samples_after last held) }
 {
     let Some(last) = last else {
         return Some(0);
@@ -111,7 +111,7 @@ pub(crate) fn ends_sound(held: &[i32], form: Form, last: Option<LastRun>) -> boo
 
 /// Whether there are so many samples, of which that many are held.
 fn are_as_many(last: Option<LastRun>, held: usize, number: u64) -> bool
-    ensures { IsTrue result ↔ (number_after last held ≡ number) }
+    ensures { IsTrue result ↔ (samples_after last held ≡ number) }
 {
     match number_after(last, held) {
         Some(found) => found == number,
