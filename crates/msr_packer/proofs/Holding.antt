@@ -12,7 +12,7 @@ use Rattle.msr_words.proofs.AnyKind.{back_step_any, short_any, size_any}
 use Rattle.msr_words.specs.Packing.{IsCanonical, IsStep, Joins}
 use Rattle.msr_words.proofs.Runs.{length-run_points, run_points_stay}
 use Rattle.msr_packer.specs.SoFar.{IsSoFar}
-use Rattle.msr_packer.specs.HeldSamples.{BeginsAll, GivesPiece, HoldsRest, InsideIfAny, IsRunToCut, IsNextStep, IsSound, IsWindow, LeavesFew, ShowsRun, StandsAt, Stays, before_place, frontier_of, piece_of, pieces_of, runs_of, samples_of, separators_of, start_of}
+use Rattle.msr_packer.specs.HeldSamples.{BeginsAll, GivesPiece, HoldsRest, InsideIfAny, IsRunToCut, IsNextStep, IsSound, IsWindow, LeavesFew, ShowsRun, StandsAt, Stays, before_place, frontier_of, piece_of, pieces_of, runs_of, samples_of_piece, separators_of, start_of}
 use Rattle.msr_packer.specs.declared.held.RunToCut.{RunToCut}
 use Rattle.msr_packer.specs.declared.held.HeldSamples.{HeldSamples}
 use Rattle.msr_packer.specs.declared.held.Piece.{Piece}
@@ -351,7 +351,7 @@ shows_next records samples runs separators held offset (Some c) a w = record {
 
 -- the samples of a piece, or none
 pub shown_if_any : (samples shown : List ℤ) (before : Option ℤ) (piece : Option Piece)
-    → IfSome piece (ShowsRun samples shown before) → (IsNone piece → shown ≡ []) → shown ≡ samples_of samples piece
+    → IfSome piece (ShowsRun samples shown before) → (IsNone piece → shown ≡ []) → shown ≡ samples_of_piece samples piece
 shown_if_any samples shown before None shows none = none refl
 shown_if_any samples shown before (Some piece) shows none = shows.run
 

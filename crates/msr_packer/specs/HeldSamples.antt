@@ -113,9 +113,9 @@ abbrev pub separators_of : List Piece → List ℕ
 separators_of pieces = map (λ p. p.separator) pieces
 
 -- the samples of a piece, if there is one
-abbrev pub samples_of : List ℤ → Option Piece → List ℤ
-samples_of samples None = []
-samples_of samples (Some piece) = slice_range samples piece.run.start piece.run.end
+abbrev pub samples_of_piece : List ℤ → Option Piece → List ℤ
+samples_of_piece samples None = []
+samples_of_piece samples (Some piece) = slice_range samples piece.run.start piece.run.end
 
 -- the sample before this one, if there is one
 abbrev pub before_place : List ℤ → ℕ → Option ℤ

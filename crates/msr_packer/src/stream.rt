@@ -6,7 +6,7 @@ ghost use Rattle.msr_kinds.specs.Forms.{all_kinds};
 ghost use Rattle.msr_words.specs.declared.kinds.Run.{Run};
 ghost use Rattle.msr_words.specs.Laws.{most_any};
 ghost use Rattle.msr_packer.specs.Blocks.{pushed};
-ghost use Rattle.msr_packer.specs.HeldSamples.{HoldsNeeded, frontier_of, pieces_of, runs_of, samples_of, separators_of};
+ghost use Rattle.msr_packer.specs.HeldSamples.{HoldsNeeded, frontier_of, pieces_of, runs_of, samples_of_piece, separators_of};
 ghost use Rattle.msr_packer.specs.Stream.{IsEnd, IsStreaming, PiecesBeginAll, StreamLeavesFew, Streams};
 
 use crate::growing::GrowingRun;
@@ -107,7 +107,7 @@ impl StreamPacker {
         ensures shown { (records : Records) (samples : List ℤ) (runs : List Run) (separators : List ℕ)
             → Streams records samples runs separators self.old
             → MatchResult result
-            (λ piece. self.new.shown ≡ samples_of (samples ++ sample ∷ []) piece)
+            (λ piece. self.new.shown ≡ samples_of_piece (samples ++ sample ∷ []) piece)
             (λ _. self.new.shown ≡ []) }
         ensures count { MatchResult result (λ _. pushed self.new ≡ pushed self.old + 1)
             (λ _. pushed self.new ≡ pushed self.old) }

@@ -22,6 +22,6 @@ place_of None = None
 place_of (Some row) = Some (row.key, row.start)
 
 -- the samples of a row, if there is one
-abbrev pub samples_of : Option Row → List ℤ
-samples_of None = []
-samples_of (Some row) = row.samples
+abbrev pub samples_of_row : Option Row → List ℤ
+samples_of_row None = []
+samples_of_row (Some row) = row.samples
