@@ -17,7 +17,7 @@ use Rattle.msr_verify.specs.declared.judgement.Judgement.{Judgement}
 use Rattle.msr_verify.specs.declared.judgement.Judgement.TheVariants.{Refused, Skipped}
 use Rattle.msr_verify.specs.declared.judgement.Refusal.TheVariants.{FileUnopened, Listing, RecordsListing}
 use Rattle.msr_verify.specs.Entries.{Entry, IsDay, IsEntry, IsEntryLine, IsJudgementOf, IsJudgementOfDay, IsVerifyTally}
-use Rattle.msr_verify.specs.Walk.{IsWalkInPart, StopsPrefix, StopsTelling, TellsJudged, TellsEnd, TellsInPart, Verifies, counts_line, summary}
+use Rattle.msr_verify.specs.Walk.{IsWalkInPart, StopsPrefix, StopsTellingJudged, TellsJudged, TellsEnd, TellsInPart, Verifies, counts_line, summary}
 use Rattle.msr_verify.specs.declared.tally.VerifyTally.{VerifyTally}
 
 -- no entry more
@@ -30,11 +30,11 @@ tells_more out0 out1 out tally0 tally1 tally first second =
     visits.tells_more IsEntry IsEntryLine IsVerifyTally out0 out1 out tally0 tally1 tally first second
 
 -- nothing was printed
-pub none_told : (out : Device) → StopsTelling out out Memory
+pub none_told : (out : Device) → StopsTellingJudged out out Memory
 none_told out = (part_none IsEntry IsEntryLine out, (calm_same out).steady)
 
 pub stops_more : (out0 out1 out : Device) (tally0 tally1 : VerifyTally) (fault : DeviceFault) →
-    TellsJudged out0 out1 tally0 tally1 → StopsTelling out1 out fault → StopsTelling out0 out fault
+    TellsJudged out0 out1 tally0 tally1 → StopsTellingJudged out1 out fault → StopsTellingJudged out0 out fault
 stops_more out0 out1 out tally0 tally1 fault first second =
     visits.stops_more IsEntry IsEntryLine IsVerifyTally out0 out1 out tally0 tally1 fault first second
 
@@ -80,7 +80,7 @@ summary_in_part out0 out1 out tally0 tally told front = record {
   };
 }
 
-pub stops_entries : (out0 out : Device) (fault : DeviceFault) → StopsTelling out0 out fault →
+pub stops_entries : (out0 out : Device) (fault : DeviceFault) → StopsTellingJudged out0 out fault →
     StopsAt (WalksInPart out0 out) out0 out fault
 stops_entries out0 out fault told = stops_within out0 out0 out fault (calm_same out0)
     (entries_in_part out0 out) told

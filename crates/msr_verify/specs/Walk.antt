@@ -45,8 +45,8 @@ abbrev pub TellsInPart : Device → Device → Type 0
 TellsInPart out0 out = visits.TellsInPart IsEntry IsEntryLine out0 out
 
 -- that was printed when the walk stopped
-abbrev pub StopsTelling : Device → Device → DeviceFault → Type 0
-StopsTelling out0 out fault = StopsAt (TellsInPart out0 out) out0 out fault
+abbrev pub StopsTellingJudged : Device → Device → DeviceFault → Type 0
+StopsTellingJudged out0 out fault = StopsAt (TellsInPart out0 out) out0 out fault
 
 -- The text of a whole walk: a line for each of some entries, and then what these very entries sum up to.
 pub record IsWalk (text : List ℕ) (entries : List Entry) : Type 0 where

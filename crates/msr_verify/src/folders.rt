@@ -4,7 +4,7 @@ ghost use Rattle.msr_devices.specs.Device.{CanCountCall, HasFailed};
 ghost use Rattle.msr_sds.specs.SdsPath.{ReadsAsDay, SdsPath};
 ghost use Rattle.msr_folders.proofs.VisitLemmas.{visitor_laws};
 ghost use Rattle.msr_verify.specs.Entries.{IsEntry, IsEntryLine, IsJudgementOf, IsVerifyTally};
-ghost use Rattle.msr_verify.specs.Walk.{StopsTelling, TellsJudged, Verifies};
+ghost use Rattle.msr_verify.specs.Walk.{StopsTellingJudged, TellsJudged, Verifies};
 
 use crate::day::judge_day;
 use crate::judgement::{Judgement, Refusal};
@@ -47,7 +47,7 @@ fn tell<R: Files, O: Sink>(
     ensures told { IsJudgementOf path.now judgement →
         OnOk result (TellsJudged (O.device out.old) (O.device out.new) tally.old tally.new) }
     ensures stops { IsJudgementOf path.now judgement →
-        IfErr result (StopsTelling (O.device out.old) (O.device out.new)) }
+        IfErr result (StopsTellingJudged (O.device out.old) (O.device out.new)) }
 {
     let line = judgement.line(verifier.alloc, path)?;
     write_all(out, line.as_bytes())?;
@@ -66,7 +66,7 @@ fn tell_day<R: Files, O: Sink>(
     ensures told { (name : SdsPath) → ReadsAsDay path.now name →
         OnOk result (TellsJudged (O.device out.old) (O.device out.new) tally.old tally.new) }
     ensures stops { (name : SdsPath) → ReadsAsDay path.now name →
-        IfErr result (StopsTelling (O.device out.old) (O.device out.new)) }
+        IfErr result (StopsTellingJudged (O.device out.old) (O.device out.new)) }
 {
     let folders = verifier.archive.folders;
     if verifier.tree == Tree::Root {
@@ -87,7 +87,7 @@ impl<R: Files> Visitor for Verifier<'_, R> {
 
     ghost tells = { λ _. TellsJudged };
 
-    ghost stops = { λ _. StopsTelling };
+    ghost stops = { λ _. StopsTellingJudged };
 
     ghost laws = { visitor_laws (λ _. IsEntry) (λ _. IsEntryLine) IsVerifyTally };
 
@@ -142,7 +142,7 @@ fn walk_tree<R: Files, O: Sink>(
 ) -> Result<(), DeviceFault>
     requires { CanCountCall (O.device out.old) }
     ensures told { OnOk result (TellsJudged (O.device out.old) (O.device out.new) tally.old tally.new) }
-    ensures stops { IfErr result (StopsTelling (O.device out.old) (O.device out.new)) }
+    ensures stops { IfErr result (StopsTellingJudged (O.device out.old) (O.device out.new)) }
 {
     let root = match tree {
         Tree::Root => archive.folders.root,

@@ -14,12 +14,12 @@ use Rattle.msr_tool.specs.Fault.{fault_of_writing}
 use Rattle.msr_tool.specs.declared.fault.ToolFault.TheVariants.{Write}
 use Rattle.msr_options.specs.declared.days.DayOptions.{DayOptions}
 use Rattle.msr_walk.specs.Entries.{Entry, IsEntry, IsEntryLine, IsTally, first_unopened}
-use Rattle.msr_walk.specs.Walk.{IsWalkInPart, StopsPrefix, StopsTelling, TellsOutcomes, TellsEnd, TellsInPart, Walks, summary}
+use Rattle.msr_walk.specs.Walk.{IsWalkInPart, StopsPrefix, StopsTellingOutcomes, TellsOutcomes, TellsEnd, TellsInPart, Walks, summary}
 use Rattle.msr_walk.specs.declared.folders.Walked.{Walked}
 use Rattle.msr_walk.specs.declared.tally.Tally.{Tally}
 
 -- nothing was printed
-pub none_told : (asked : DayOptions) (out : Device) → StopsTelling asked out out Memory
+pub none_told : (asked : DayOptions) (out : Device) → StopsTellingOutcomes asked out out Memory
 none_told asked out = (part_none (IsEntry asked) (IsEntryLine asked.bytes) out, (calm_same out).steady)
 
 -- a prefix of the text of a walk was printed
@@ -64,7 +64,7 @@ summary_in_part asked out0 out1 out tally0 tally told front = record {
   };
 }
 
-pub stops_entries : (asked : DayOptions) (out0 out : Device) (fault : DeviceFault) → StopsTelling asked out0 out fault →
+pub stops_entries : (asked : DayOptions) (out0 out : Device) (fault : DeviceFault) → StopsTellingOutcomes asked out0 out fault →
     StopsAt (WalksInPart asked out0 out) out0 out fault
 stops_entries asked out0 out fault told = stops_within out0 out0 out fault (calm_same out0)
     (entries_in_part asked out0 out) told

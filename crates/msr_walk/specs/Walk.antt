@@ -79,8 +79,8 @@ abbrev pub TellsInPart : DayOptions → Device → Device → Type 0
 TellsInPart asked out0 out = visits.TellsInPart (IsEntry asked) (IsEntryLine asked.bytes) out0 out
 
 -- that was printed when the walk stopped
-abbrev pub StopsTelling : DayOptions → Device → Device → DeviceFault → Type 0
-StopsTelling asked out0 out fault = StopsAt (TellsInPart asked out0 out) out0 out fault
+abbrev pub StopsTellingOutcomes : DayOptions → Device → Device → DeviceFault → Type 0
+StopsTellingOutcomes asked out0 out fault = StopsAt (TellsInPart asked out0 out) out0 out fault
 
 -- The text of a whole walk: a line for each of some entries, and then what these very entries sum up to.
 pub record IsWalk (asked : DayOptions) (text : List ℕ) (entries : List Entry) : Type 0 where

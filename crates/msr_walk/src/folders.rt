@@ -6,7 +6,7 @@ ghost use Rattle.msr_sds.specs.SdsPath.{ReadsAsDay};
 ghost use Rattle.msr_folders.proofs.VisitLemmas.{visitor_laws};
 ghost use Rattle.msr_walk.specs.Day.{IsOutcomeOfDay};
 ghost use Rattle.msr_walk.specs.Entries.{Entry, IsEntry, IsEntryLine, IsOutcomeOf, IsTally, channel_of};
-ghost use Rattle.msr_walk.specs.Walk.{StopsTelling, TellsOutcomes, Walks};
+ghost use Rattle.msr_walk.specs.Walk.{StopsTellingOutcomes, TellsOutcomes, Walks};
 
 use crate::claim::LockFile;
 use crate::day::Day;
@@ -53,7 +53,7 @@ fn tell<R: Files, O: Sink>(
     ensures told { IsOutcomeOf walker.now.archive.now.days path.now channel.now outcome →
         OnOk result (TellsOutcomes walker.now.archive.now.days (O.device out.old) (O.device out.new) tally.old tally.new) }
     ensures stops { IsOutcomeOf walker.now.archive.now.days path.now channel.now outcome →
-        IfErr result (StopsTelling walker.now.archive.now.days (O.device out.old) (O.device out.new)) }
+        IfErr result (StopsTellingOutcomes walker.now.archive.now.days (O.device out.old) (O.device out.new)) }
 {
     let line = outcome.line(walker.alloc, path, walker.archive.days.bytes)?;
     write_all(out, line.as_bytes())?;
@@ -125,7 +125,7 @@ where
         requires count { CanCountCall (O.device out.old) }
         ensures told { OnOk result (TellsOutcomes self.now.archive.now.days (O.device out.old)
             (O.device out.new) tally.old tally.new) }
-        ensures stops { IfErr result (StopsTelling self.now.archive.now.days (O.device out.old)
+        ensures stops { IfErr result (StopsTellingOutcomes self.now.archive.now.days (O.device out.old)
             (O.device out.new)) }
     {
         let channel = channel_text(self.alloc, name)?;
@@ -169,7 +169,7 @@ where
 
     ghost tells = { λ walker. TellsOutcomes walker.archive.now.days };
 
-    ghost stops = { λ walker. StopsTelling walker.archive.now.days };
+    ghost stops = { λ walker. StopsTellingOutcomes walker.archive.now.days };
 
     ghost laws = { visitor_laws (λ walker. IsEntry walker.archive.now.days)
         (λ walker. IsEntryLine walker.archive.now.days.bytes) IsTally };
