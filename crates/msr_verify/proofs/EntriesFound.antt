@@ -17,7 +17,7 @@ use Rattle.msr_verify.specs.declared.judgement.Judgement.{Judgement}
 use Rattle.msr_verify.specs.declared.judgement.Judgement.TheVariants.{Refused, Skipped}
 use Rattle.msr_verify.specs.declared.judgement.Refusal.TheVariants.{FileUnopened, Listing, RecordsListing}
 use Rattle.msr_verify.specs.Entries.{Entry, IsDay, IsEntry, IsEntryLine, IsJudgementOf, IsJudgementOfDay, IsVerifyTally}
-use Rattle.msr_verify.specs.Walk.{IsWalkInPart, StopsPrefix, StopsTellingJudged, TellsJudged, TellsEnd, TellsInPart, Verifies, counts_line, summary}
+use Rattle.msr_verify.specs.Walk.{IsWalkInPart, StopsPrefix, StopsTellingJudged, TellsJudged, TellsEnd, TellsInPart, Verifies, judged_line, summary}
 use Rattle.msr_verify.specs.declared.tally.VerifyTally.{VerifyTally}
 
 -- no entry more
@@ -127,7 +127,7 @@ walk_ends out0 out1 out tally0 tally found told prints end = record {
 }
 
 -- the last line, from the counts of the entries
-pub summary_is : (entries : List Entry) (tally : VerifyTally) → IsVerifyTally entries tally → counts_line tally ≡ summary entries
+pub summary_is : (entries : List Entry) (tally : VerifyTally) → IsVerifyTally entries tally → judged_line tally ≡ summary entries
 summary_is entries tally h =
     rw (h.verified, h.skipped, h.refused, h.missing, h.not_shown, h.differ, h.orphans) refl
 

@@ -22,15 +22,15 @@ others_told tally =
     ++ (codes " orphan " ++ decimal tally.orphans))))))
 
 -- the last line
-abbrev pub counts_line : VerifyTally → List ℕ
-counts_line tally =
+abbrev pub judged_line : VerifyTally → List ℕ
+judged_line tally =
     codes "files " ++ (decimal tally.verified ++ (codes " skipped "
     ++ (decimal tally.skipped ++ (codes " refused " ++ (decimal tally.refused
     ++ (others_told tally ++ codes "\n"))))))
 
 -- the line after those of the entries
 abbrev pub summary : List Entry → List ℕ
-summary entries = counts_line (tally_of entries)
+summary entries = judged_line (tally_of entries)
 
 -- a prefix of a text was printed when the walk stops: the sink failed, or else memory was refused
 abbrev pub StopsPrefix : Device → Device → List ℕ → DeviceFault → Type 0

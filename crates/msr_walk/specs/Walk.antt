@@ -35,8 +35,8 @@ larger_told false larger = []
 larger_told true larger = codes " larger " ++ decimal larger
 
 -- the last line
-abbrev pub counts_line : DayOptions → Tally → List ℕ
-counts_line asked tally =
+abbrev pub files_line : DayOptions → Tally → List ℕ
+files_line asked tally =
     codes "files " ++ (decimal tally.done ++ (codes " skipped "
     ++ (decimal tally.skipped ++ (codes " refused " ++ (decimal tally.refused
     ++ (larger_told asked.only_smaller tally.larger
@@ -45,7 +45,7 @@ counts_line asked tally =
 -- the lines after those of the entries, from what is counted of these
 abbrev pub tally_lines : DayOptions → Tally → List ℕ
 tally_lines asked tally = flat_map (channel_line asked.bytes) (with_bytes tally.channels tally.bytes)
-    ++ counts_line asked tally
+    ++ files_line asked tally
 
 -- the counts and totals of the entries
 abbrev pub tally_of : List Entry → Tally
