@@ -73,17 +73,17 @@ IsLineWithReason word path line = (why : List ℕ)
     × (line ≡ word ++ (shown_path path ++ (codes ": " ++ (why ++ codes "\n"))))
 
 -- The line of an entry. The texts of faults are shown by tests.
-abbrev pub IsLineOf : List ℕ → Judgement → List ℕ → Type 0
-IsLineOf path Verified line = line ≡ codes "verified " ++ (shown_path path ++ codes "\n")
-IsLineOf path Missing line = line ≡ codes "missing " ++ (shown_path path ++ codes "\n")
-IsLineOf path NotShown line = line ≡ codes "notshown " ++ (shown_path path ++ codes "\n")
-IsLineOf path Differs line = line ≡ codes "differs " ++ (shown_path path ++ codes "\n")
-IsLineOf path Orphan line = line ≡ codes "orphan " ++ (shown_path path ++ codes "\n")
-IsLineOf path (Skipped fault) line = IsLineWithReason (codes "skipped ") path line
-IsLineOf path (Refused refusal) line = IsLineWithReason (codes "refused ") path line
+abbrev pub IsJudgementLine : List ℕ → Judgement → List ℕ → Type 0
+IsJudgementLine path Verified line = line ≡ codes "verified " ++ (shown_path path ++ codes "\n")
+IsJudgementLine path Missing line = line ≡ codes "missing " ++ (shown_path path ++ codes "\n")
+IsJudgementLine path NotShown line = line ≡ codes "notshown " ++ (shown_path path ++ codes "\n")
+IsJudgementLine path Differs line = line ≡ codes "differs " ++ (shown_path path ++ codes "\n")
+IsJudgementLine path Orphan line = line ≡ codes "orphan " ++ (shown_path path ++ codes "\n")
+IsJudgementLine path (Skipped fault) line = IsLineWithReason (codes "skipped ") path line
+IsJudgementLine path (Refused refusal) line = IsLineWithReason (codes "refused ") path line
 
 abbrev pub IsEntryLine : Entry → List ℕ → Type 0
-IsEntryLine entry line = IsLineOf entry.path entry.judgement line
+IsEntryLine entry line = IsJudgementLine entry.path entry.judgement line
 
 -- the lines of entries, one after another
 abbrev pub AreLines : List Entry → List ℕ → Type 0

@@ -83,15 +83,15 @@ IsRefusedLine bytes shown (Larger repacked) line = line ≡ codes "larger " ++ (
 IsRefusedLine bytes shown _ line = IsRefused shown line
 
 -- The line of an entry, with bytes or without.
-abbrev pub IsLineOf : (bytes : Bool) → List ℕ → Outcome → List ℕ → Type 0
-IsLineOf bytes path (Done repacked) line = line ≡ codes "done " ++ (shown_path path ++ counts_told bytes repacked)
-IsLineOf bytes path (Same repacked) line = line ≡ codes "same " ++ (shown_path path ++ counts_told bytes repacked)
-IsLineOf bytes path (Skipped fault) line = (why : List ℕ)
+abbrev pub IsOutcomeLine : (bytes : Bool) → List ℕ → Outcome → List ℕ → Type 0
+IsOutcomeLine bytes path (Done repacked) line = line ≡ codes "done " ++ (shown_path path ++ counts_told bytes repacked)
+IsOutcomeLine bytes path (Same repacked) line = line ≡ codes "same " ++ (shown_path path ++ counts_told bytes repacked)
+IsOutcomeLine bytes path (Skipped fault) line = (why : List ℕ)
     × (line ≡ codes "skipped " ++ (shown_path path ++ (codes ": " ++ (why ++ codes "\n"))))
-IsLineOf bytes path (Refused why) line = IsRefusedLine bytes (shown_path path) why line
+IsOutcomeLine bytes path (Refused why) line = IsRefusedLine bytes (shown_path path) why line
 
 abbrev pub IsEntryLine : (bytes : Bool) → Entry → List ℕ → Type 0
-IsEntryLine bytes entry line = IsLineOf bytes entry.path entry.outcome line
+IsEntryLine bytes entry line = IsOutcomeLine bytes entry.path entry.outcome line
 
 -- a line for each entry, in order
 abbrev pub AreLines : (bytes : Bool) → List Entry → List ℕ → Type 0

@@ -1,7 +1,7 @@
 //! What becomes of an entry of a folder, and its line.
 ghost use Rattle.std.specs.Prelude.{◌≡◌, ◌++◌, IfOk};
 ghost use Rattle.std.specs.String.{string_bytes};
-ghost use Rattle.msr_walk.specs.Entries.{IsLineOf, IsRefused, IsRefusedLine, bytes_told, counts_told};
+ghost use Rattle.msr_walk.specs.Entries.{IsOutcomeLine, IsRefused, IsRefusedLine, bytes_told, counts_told};
 
 use msr_folders::shown_path;
 use msr_options::Unopened;
@@ -129,7 +129,7 @@ impl Repacked {
 impl Outcome {
     /// The line that tells it of the entry with this path, with bytes or without.
     pub(crate) fn line(self, alloc: Global, path: &str, bytes: bool) -> Result<String, AllocError>
-        ensures { IfOk result (λ line. IsLineOf bytes path.now self (string_bytes line)) }
+        ensures { IfOk result (λ line. IsOutcomeLine bytes path.now self (string_bytes line)) }
     {
         let path = shown_path(alloc, path)?;
         match self {
