@@ -16,7 +16,7 @@ use Rattle.msr_tool.specs.declared.fault.ToolFault.TheVariants.{Write}
 use Rattle.msr_verify.specs.declared.judgement.Judgement.{Judgement}
 use Rattle.msr_verify.specs.declared.judgement.Judgement.TheVariants.{Refused, Skipped}
 use Rattle.msr_verify.specs.declared.judgement.Refusal.TheVariants.{FileUnopened, Listing, RecordsListing}
-use Rattle.msr_verify.specs.Entries.{Entry, IsDay, IsEntry, IsEntryLine, IsJudgementOf, IsJudgementOfDay, IsVerifyTally}
+use Rattle.msr_verify.specs.Entries.{JudgedEntry, IsDay, IsEntry, IsEntryLine, IsJudgementOf, IsJudgementOfDay, IsVerifyTally}
 use Rattle.msr_verify.specs.Walk.{IsWalkInPart, StopsPrefix, StopsTellingJudged, TellsJudged, TellsEnd, TellsInPart, Verifies, judged_line, summary}
 use Rattle.msr_verify.specs.declared.tally.VerifyTally.{VerifyTally}
 
@@ -103,7 +103,7 @@ stop_tells Part out0 out Failed h = ((λ e. h.1), (λ has_failed. refl))
 stop_tells Part out0 out Memory h = ((λ e. absurd cc), (λ has_failed. absurd (steady_sound out0 out h.1 has_failed)))
 
 -- what the counts find is what the entries tell
-pub tells_end : (entries : List Entry) (tally : VerifyTally) (found : WalkFound) → IsVerifyTally entries tally
+pub tells_end : (entries : List JudgedEntry) (tally : VerifyTally) (found : WalkFound) → IsVerifyTally entries tally
     → Finds tally.unverified tally.verified found → TellsEnd entries found
 tells_end entries tally found counts finds = rw (counts.unverified, counts.verified) at finds
 
@@ -127,7 +127,7 @@ walk_ends out0 out1 out tally0 tally found told prints end = record {
 }
 
 -- the last line, from the counts of the entries
-pub summary_is : (entries : List Entry) (tally : VerifyTally) → IsVerifyTally entries tally → judged_line tally ≡ summary entries
+pub summary_is : (entries : List JudgedEntry) (tally : VerifyTally) → IsVerifyTally entries tally → judged_line tally ≡ summary entries
 summary_is entries tally h =
     rw (h.verified, h.skipped, h.refused, h.missing, h.not_shown, h.differ, h.orphans) refl
 

@@ -16,7 +16,7 @@ use Rattle.msr_verify.specs.declared.judgement.Refusal.TheVariants.{FileUnopened
 use Rattle.msr_verify.specs.declared.tally.VerifyTally.{VerifyTally}
 
 -- an entry: its path from the archive's folder, and what was found of it
-pub record Entry : Type 0 where
+pub record JudgedEntry : Type 0 where
   pub path : List ℕ
   pub judgement : Judgement
 
@@ -64,7 +64,7 @@ IsJudgementOf path (Refused RecordsListing) = ⊤
 IsJudgementOf path (Skipped fault) = IsNoDay path fault
 IsJudgementOf path judgement = IsFoundOfDay path judgement
 
-abbrev pub IsEntry : Entry → Type 0
+abbrev pub IsEntry : JudgedEntry → Type 0
 IsEntry entry = IsJudgementOf entry.path entry.judgement
 
 -- a line that says why
@@ -82,11 +82,11 @@ IsJudgementLine path Orphan line = line ≡ codes "orphan " ++ (shown_path path 
 IsJudgementLine path (Skipped fault) line = IsLineWithReason (codes "skipped ") path line
 IsJudgementLine path (Refused refusal) line = IsLineWithReason (codes "refused ") path line
 
-abbrev pub IsEntryLine : Entry → List ℕ → Type 0
+abbrev pub IsEntryLine : JudgedEntry → List ℕ → Type 0
 IsEntryLine entry line = IsJudgementLine entry.path entry.judgement line
 
 -- the lines of entries, one after another
-abbrev pub AreLines : List Entry → List ℕ → Type 0
+abbrev pub AreLines : List JudgedEntry → List ℕ → Type 0
 AreLines entries lines = visits.AreLines IsEntryLine entries lines
 
 abbrev pub is_verified : Judgement → Bool
@@ -124,11 +124,11 @@ is_unverified (Skipped fault) = false
 is_unverified _ = true
 
 -- how many entries have such a judgement, or 2^64 - 1 if they are more
-abbrev pub counted : (Judgement → Bool) → List Entry → ℕ
+abbrev pub counted : (Judgement → Bool) → List JudgedEntry → ℕ
 counted of entries = saturated (count_by (λ entry. of entry.judgement) entries)
 
 -- the counts of the entries
-abbrev pub tally_of : List Entry → VerifyTally
+abbrev pub tally_of : List JudgedEntry → VerifyTally
 tally_of entries = record {
   verified = counted is_verified entries;
   skipped = counted is_skipped entries;
@@ -141,7 +141,7 @@ tally_of entries = record {
 }
 
 -- These are the counts of the entries.
-pub record IsVerifyTally (entries : List Entry) (tally : VerifyTally) : Type 0 where
+pub record IsVerifyTally (entries : List JudgedEntry) (tally : VerifyTally) : Type 0 where
   pub verified : tally.verified ≡ counted is_verified entries
   pub skipped : tally.skipped ≡ counted is_skipped entries
   pub refused : tally.refused ≡ counted is_refused entries

@@ -11,7 +11,7 @@ use Rattle.msr_folders.specs.declared.found.WalkFound.{WalkFound}
 use Rattle.msr_report.specs.Writing.{TakesPrefix}
 use Rattle.msr_tool.specs.declared.fault.ToolFault.{ToolFault}
 use Rattle.msr_tool.specs.declared.fault.ToolFault.TheVariants.{Input, Report, Read, Write, Memory}
-use Rattle.msr_verify.specs.Entries.{Entry, IsEntry, IsEntryLine, AreLines, IsVerifyTally, counted, is_unverified, is_verified, tally_of}
+use Rattle.msr_verify.specs.Entries.{JudgedEntry, IsEntry, IsEntryLine, AreLines, IsVerifyTally, counted, is_unverified, is_verified, tally_of}
 use Rattle.msr_verify.specs.declared.tally.VerifyTally.{VerifyTally}
 
 -- the counts at the end of the last line
@@ -29,7 +29,7 @@ judged_line tally =
     ++ (others_told tally ++ codes "\n"))))))
 
 -- the line after those of the entries
-abbrev pub summary : List Entry → List ℕ
+abbrev pub summary : List JudgedEntry → List ℕ
 summary entries = judged_line (tally_of entries)
 
 -- a prefix of a text was printed when the walk stops: the sink failed, or else memory was refused
@@ -49,7 +49,7 @@ abbrev pub StopsTellingJudged : Device → Device → DeviceFault → Type 0
 StopsTellingJudged out0 out fault = StopsAt (TellsInPart out0 out) out0 out fault
 
 -- The text of a whole walk: a line for each of some entries, and then what these very entries sum up to.
-pub record IsWalk (text : List ℕ) (entries : List Entry) : Type 0 where
+pub record IsWalk (text : List ℕ) (entries : List JudgedEntry) : Type 0 where
   pub lines : List ℕ
   pub are_entries : AllByRecursion IsEntry entries
   pub are_lines : AreLines entries lines
@@ -57,18 +57,18 @@ pub record IsWalk (text : List ℕ) (entries : List Entry) : Type 0 where
 
 -- a walk that came to its end tells whether one of its entries is neither verified nor skipped, and if none is, whether
 -- one is verified
-abbrev pub TellsEnd : List Entry → WalkFound → Type 0
+abbrev pub TellsEnd : List JudgedEntry → WalkFound → Type 0
 TellsEnd entries found = Finds (counted is_unverified entries) (counted is_verified entries) found
 
 -- A prefix of the text of a whole walk.
 pub record IsWalkInPart (printed : List ℕ) : Type 0 where
-  pub entries : List Entry
+  pub entries : List JudgedEntry
   pub rest : List ℕ
   pub walk : IsWalk (printed ++ rest) entries
 
 -- the whole text was printed, or a prefix of it when the walk stopped, which no input and no source can make it do
 abbrev pub WalkEnds : (printed : List ℕ) → Result WalkFound ToolFault → Type 0
-WalkEnds printed (Ok found) = (entries : List Entry) × IsWalk printed entries × TellsEnd entries found
+WalkEnds printed (Ok found) = (entries : List JudgedEntry) × IsWalk printed entries × TellsEnd entries found
 WalkEnds printed (Err (Input found)) = ⊥
 WalkEnds printed (Err (Report line)) = ⊥
 WalkEnds printed (Err Read) = ⊥

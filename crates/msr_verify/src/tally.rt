@@ -2,7 +2,7 @@
 ghost use Rattle.std.specs.Prelude.{◌≡◌, ◌++◌, ◌∷◌, [], List, IfErr, IfOk, OnOk};
 ghost use Rattle.std.specs.String.{string_bytes};
 ghost use Rattle.msr_devices.specs.Device.{CanCountCall, IsCalm, Takes};
-ghost use Rattle.msr_verify.specs.Entries.{Entry, IsVerifyTally};
+ghost use Rattle.msr_verify.specs.Entries.{JudgedEntry, IsVerifyTally};
 ghost use Rattle.msr_verify.specs.Walk.{StopsPrefix, judged_line, others_told};
 
 use crate::judgement::Judgement;
@@ -32,7 +32,7 @@ impl VerifyTally {
 
     /// Counts one entry more.
     pub(crate) fn add(&mut self, judgement: Judgement)
-        ensures { (before : List Entry) (entry : Entry) → IsVerifyTally before self.old → entry.judgement ≡ judgement
+        ensures { (before : List JudgedEntry) (entry : JudgedEntry) → IsVerifyTally before self.old → entry.judgement ≡ judgement
             → IsVerifyTally (before ++ entry ∷ []) self.new }
     {
         match judgement {
