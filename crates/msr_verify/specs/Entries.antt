@@ -64,8 +64,8 @@ IsJudgementOf path (Refused RecordsListing) = ⊤
 IsJudgementOf path (Skipped fault) = IsNoDay path fault
 IsJudgementOf path judgement = IsFoundOfDay path judgement
 
-abbrev pub IsEntry : JudgedEntry → Type 0
-IsEntry entry = IsJudgementOf entry.path entry.judgement
+abbrev pub IsJudgedEntry : JudgedEntry → Type 0
+IsJudgedEntry entry = IsJudgementOf entry.path entry.judgement
 
 -- a line that says why
 abbrev pub IsLineWithReason : (word path line : List ℕ) → Type 0

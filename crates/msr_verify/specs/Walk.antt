@@ -11,7 +11,7 @@ use Rattle.msr_folders.specs.declared.found.WalkFound.{WalkFound}
 use Rattle.msr_report.specs.Writing.{TakesPrefix}
 use Rattle.msr_tool.specs.declared.fault.ToolFault.{ToolFault}
 use Rattle.msr_tool.specs.declared.fault.ToolFault.TheVariants.{Input, Report, Read, Write, Memory}
-use Rattle.msr_verify.specs.Entries.{JudgedEntry, IsEntry, IsEntryLine, AreLines, IsVerifyTally, counted, is_unverified, is_verified, tally_of}
+use Rattle.msr_verify.specs.Entries.{JudgedEntry, IsJudgedEntry, IsEntryLine, AreLines, IsVerifyTally, counted, is_unverified, is_verified, tally_of}
 use Rattle.msr_verify.specs.declared.tally.VerifyTally.{VerifyTally}
 
 -- the counts at the end of the last line
@@ -38,11 +38,11 @@ StopsPrefix out0 out text fault = StopsAt (TakesPrefix out0 out text) out0 out f
 
 -- some more entries were told: their lines were printed, and they are counted
 abbrev pub TellsJudged : Device → Device → VerifyTally → VerifyTally → Type 0
-TellsJudged out0 out tally0 tally = visits.Tells IsEntry IsEntryLine IsVerifyTally out0 out tally0 tally
+TellsJudged out0 out tally0 tally = visits.Tells IsJudgedEntry IsEntryLine IsVerifyTally out0 out tally0 tally
 
 -- a prefix of the lines of some more entries was printed
 abbrev pub TellsInPart : Device → Device → Type 0
-TellsInPart out0 out = visits.TellsInPart IsEntry IsEntryLine out0 out
+TellsInPart out0 out = visits.TellsInPart IsJudgedEntry IsEntryLine out0 out
 
 -- that was printed when the walk stopped
 abbrev pub StopsTellingJudged : Device → Device → DeviceFault → Type 0
@@ -51,7 +51,7 @@ StopsTellingJudged out0 out fault = StopsAt (TellsInPart out0 out) out0 out faul
 -- The text of a whole walk: a line for each of some entries, and then what these very entries sum up to.
 pub record IsWalk (text : List ℕ) (entries : List JudgedEntry) : Type 0 where
   pub lines : List ℕ
-  pub are_entries : AllByRecursion IsEntry entries
+  pub are_entries : AllByRecursion IsJudgedEntry entries
   pub are_lines : AreLines entries lines
   pub whole : text ≡ lines ++ summary entries
 
