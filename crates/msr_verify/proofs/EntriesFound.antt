@@ -16,27 +16,27 @@ use Rattle.msr_tool.specs.declared.fault.ToolFault.TheVariants.{Write}
 use Rattle.msr_verify.specs.declared.judgement.Judgement.{Judgement}
 use Rattle.msr_verify.specs.declared.judgement.Judgement.TheVariants.{Refused, Skipped}
 use Rattle.msr_verify.specs.declared.judgement.Refusal.TheVariants.{FileUnopened, Listing, RecordsListing}
-use Rattle.msr_verify.specs.Entries.{JudgedEntry, IsDay, IsJudgedEntry, IsEntryLine, IsJudgementOf, IsJudgementOfDay, IsVerifyTally}
+use Rattle.msr_verify.specs.Entries.{JudgedEntry, IsDay, IsJudgedEntry, IsJudgedEntryLine, IsJudgementOf, IsJudgementOfDay, IsVerifyTally}
 use Rattle.msr_verify.specs.Walk.{IsWalkInPart, StopsPrefix, StopsTellingJudged, TellsJudged, TellsEnd, TellsInPart, Verifies, judged_line, summary}
 use Rattle.msr_verify.specs.declared.tally.VerifyTally.{VerifyTally}
 
 -- no entry more
 pub tells_none : (out : Device) (tally : VerifyTally) → TellsJudged out out tally tally
-tells_none out tally = visits.tells_none IsJudgedEntry IsEntryLine IsVerifyTally out tally
+tells_none out tally = visits.tells_none IsJudgedEntry IsJudgedEntryLine IsVerifyTally out tally
 
 pub tells_more : (out0 out1 out : Device) (tally0 tally1 tally : VerifyTally) →
     TellsJudged out0 out1 tally0 tally1 → TellsJudged out1 out tally1 tally → TellsJudged out0 out tally0 tally
 tells_more out0 out1 out tally0 tally1 tally first second =
-    visits.tells_more IsJudgedEntry IsEntryLine IsVerifyTally out0 out1 out tally0 tally1 tally first second
+    visits.tells_more IsJudgedEntry IsJudgedEntryLine IsVerifyTally out0 out1 out tally0 tally1 tally first second
 
 -- nothing was printed
 pub none_told : (out : Device) → StopsTellingJudged out out Memory
-none_told out = (part_none IsJudgedEntry IsEntryLine out, (calm_same out).steady)
+none_told out = (part_none IsJudgedEntry IsJudgedEntryLine out, (calm_same out).steady)
 
 pub stops_more : (out0 out1 out : Device) (tally0 tally1 : VerifyTally) (fault : DeviceFault) →
     TellsJudged out0 out1 tally0 tally1 → StopsTellingJudged out1 out fault → StopsTellingJudged out0 out fault
 stops_more out0 out1 out tally0 tally1 fault first second =
-    visits.stops_more IsJudgedEntry IsEntryLine IsVerifyTally out0 out1 out tally0 tally1 fault first second
+    visits.stops_more IsJudgedEntry IsJudgedEntryLine IsVerifyTally out0 out1 out tally0 tally1 fault first second
 
 -- a prefix of the text of a walk was printed
 pub record WalksInPart (out0 out : Device) : Type 0 where

@@ -82,12 +82,12 @@ IsJudgementLine path Orphan line = line ≡ codes "orphan " ++ (shown_path path 
 IsJudgementLine path (Skipped fault) line = IsLineWithReason (codes "skipped ") path line
 IsJudgementLine path (Refused refusal) line = IsLineWithReason (codes "refused ") path line
 
-abbrev pub IsEntryLine : JudgedEntry → List ℕ → Type 0
-IsEntryLine entry line = IsJudgementLine entry.path entry.judgement line
+abbrev pub IsJudgedEntryLine : JudgedEntry → List ℕ → Type 0
+IsJudgedEntryLine entry line = IsJudgementLine entry.path entry.judgement line
 
 -- the lines of entries, one after another
 abbrev pub AreLines : List JudgedEntry → List ℕ → Type 0
-AreLines entries lines = visits.AreLines IsEntryLine entries lines
+AreLines entries lines = visits.AreLines IsJudgedEntryLine entries lines
 
 abbrev pub is_verified : Judgement → Bool
 is_verified Verified = true

@@ -11,7 +11,7 @@ use Rattle.msr_folders.specs.declared.found.WalkFound.{WalkFound}
 use Rattle.msr_report.specs.Writing.{TakesPrefix}
 use Rattle.msr_tool.specs.declared.fault.ToolFault.{ToolFault}
 use Rattle.msr_tool.specs.declared.fault.ToolFault.TheVariants.{Input, Report, Read, Write, Memory}
-use Rattle.msr_verify.specs.Entries.{JudgedEntry, IsJudgedEntry, IsEntryLine, AreLines, IsVerifyTally, counted, is_unverified, is_verified, tally_of}
+use Rattle.msr_verify.specs.Entries.{JudgedEntry, IsJudgedEntry, IsJudgedEntryLine, AreLines, IsVerifyTally, counted, is_unverified, is_verified, tally_of}
 use Rattle.msr_verify.specs.declared.tally.VerifyTally.{VerifyTally}
 
 -- the counts at the end of the last line
@@ -38,11 +38,11 @@ StopsPrefix out0 out text fault = StopsAt (TakesPrefix out0 out text) out0 out f
 
 -- some more entries were told: their lines were printed, and they are counted
 abbrev pub TellsJudged : Device → Device → VerifyTally → VerifyTally → Type 0
-TellsJudged out0 out tally0 tally = visits.Tells IsJudgedEntry IsEntryLine IsVerifyTally out0 out tally0 tally
+TellsJudged out0 out tally0 tally = visits.Tells IsJudgedEntry IsJudgedEntryLine IsVerifyTally out0 out tally0 tally
 
 -- a prefix of the lines of some more entries was printed
 abbrev pub TellsInPart : Device → Device → Type 0
-TellsInPart out0 out = visits.TellsInPart IsJudgedEntry IsEntryLine out0 out
+TellsInPart out0 out = visits.TellsInPart IsJudgedEntry IsJudgedEntryLine out0 out
 
 -- that was printed when the walk stopped
 abbrev pub StopsTellingJudged : Device → Device → DeviceFault → Type 0

@@ -3,7 +3,7 @@ ghost use Rattle.std.specs.Prelude.{◌↔◌, IfErr, IsErrOf, OnOk};
 ghost use Rattle.msr_devices.specs.Device.{CanCountCall, HasFailed};
 ghost use Rattle.msr_sds.specs.SdsPath.{ReadsAsDay, SdsPath};
 ghost use Rattle.msr_folders.proofs.VisitLemmas.{visitor_laws};
-ghost use Rattle.msr_verify.specs.Entries.{IsJudgedEntry, IsEntryLine, IsJudgementOf, IsVerifyTally};
+ghost use Rattle.msr_verify.specs.Entries.{IsJudgedEntry, IsJudgedEntryLine, IsJudgementOf, IsVerifyTally};
 ghost use Rattle.msr_verify.specs.Walk.{StopsTellingJudged, TellsJudged, Verifies};
 
 use crate::day::judge_day;
@@ -89,7 +89,7 @@ impl<R: Files> Visitor for Verifier<'_, R> {
 
     ghost stops = { λ _. StopsTellingJudged };
 
-    ghost laws = { visitor_laws (λ _. IsJudgedEntry) (λ _. IsEntryLine) IsVerifyTally };
+    ghost laws = { visitor_laws (λ _. IsJudgedEntry) (λ _. IsJudgedEntryLine) IsVerifyTally };
 
     fn enter_folder(&self, _folder: &str, _levels: u8) -> Result<(), AllocError> {
         Ok(())

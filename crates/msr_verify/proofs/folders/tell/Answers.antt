@@ -1,7 +1,7 @@
 use Rattle.std.proofs.lemmas.Result.{err_from_is_err_and}
 use Rattle.std.proofs.Common.{refl}
 use Rattle.msr_folders.proofs.VisitLemmas.{part_line, tells_one}
-use Rattle.msr_verify.specs.Entries.{JudgedEntry, IsJudgedEntry, IsEntryLine, IsVerifyTally}
+use Rattle.msr_verify.specs.Entries.{JudgedEntry, IsJudgedEntry, IsJudgedEntryLine, IsVerifyTally}
 use Rattle.msr_verify.proofs.EntriesFound.{none_told}
 use Rattle.msr_verify.proofs.folders.tell.Goals as goal
 
@@ -16,7 +16,7 @@ returns-in_err-write_all-clause-stops g c =
     let part = c.in_err-write_all.ensures.part in
     let entry : JudgedEntry = record { path = c.args.path.now; judgement = c.args.judgement } in
     λ is. rw (p.1, p.2) (
-      part_line IsJudgedEntry IsEntryLine _ _ part.0 entry c.as_bytes.result.now is
+      part_line IsJudgedEntry IsJudgedEntryLine _ _ part.0 entry c.as_bytes.result.now is
           (rw c.as_bytes.ensures.value c.in_ok-line.ensures) part.1,
       c.in_err-write_all.ensures.failed,
     )
@@ -24,6 +24,6 @@ returns-in_err-write_all-clause-stops g c =
 pub returns-clause-told : goal.returns-clause-told
 returns-clause-told g c =
     let entry : JudgedEntry = record { path = c.args.path.now; judgement = c.args.judgement } in
-    λ is. tells_one IsJudgedEntry IsEntryLine IsVerifyTally _ _ _ _ entry c.as_bytes.result.now is
+    λ is. tells_one IsJudgedEntry IsJudgedEntryLine IsVerifyTally _ _ _ _ entry c.as_bytes.result.now is
     (rw c.as_bytes.ensures.value c.in_ok-line.ensures) c.in_ok-write_all.ensures.all c.in_ok-write_all.ensures.calm
     (λ before h. c.add.ensures before entry h refl)
