@@ -29,7 +29,7 @@ judgement_of (Err fault) = Refused (Day fault)
 
 -- Some files, the day's own, its records, twice, and its report, have this answer. Nothing is known of the files of the
 -- system but that they have some bytes.
-pub record HasAnswer (answer : Result Finding VerifyFault) : Type 0 where
+pub record HasDayAnswer (answer : Result Finding VerifyFault) : Type 0 where
   pub file : List ℕ
   pub records : List ℕ
   pub again : List ℕ
@@ -38,10 +38,10 @@ pub record HasAnswer (answer : Result Finding VerifyFault) : Type 0 where
 
 -- what a judgement says of a day
 abbrev pub IsJudgementOfDay : Judgement → Type 0
-IsJudgementOfDay Verified = HasAnswer (Ok finding.Verified)
-IsJudgementOfDay NotShown = HasAnswer (Ok finding.NotShown)
-IsJudgementOfDay Differs = HasAnswer (Ok finding.Differs)
-IsJudgementOfDay (Refused (Day fault)) = HasAnswer (Err fault)
+IsJudgementOfDay Verified = HasDayAnswer (Ok finding.Verified)
+IsJudgementOfDay NotShown = HasDayAnswer (Ok finding.NotShown)
+IsJudgementOfDay Differs = HasDayAnswer (Ok finding.Differs)
+IsJudgementOfDay (Refused (Day fault)) = HasDayAnswer (Err fault)
 IsJudgementOfDay (Refused Listing) = ⊥
 IsJudgementOfDay (Refused RecordsListing) = ⊥
 IsJudgementOfDay (Skipped fault) = ⊥
