@@ -124,29 +124,29 @@ is_unverified (Skipped fault) = false
 is_unverified _ = true
 
 -- how many entries have such a judgement, or 2^64 - 1 if they are more
-abbrev pub counted : (Judgement → Bool) → List JudgedEntry → ℕ
-counted of entries = saturated (count_by (λ entry. of entry.judgement) entries)
+abbrev pub judged_count : (Judgement → Bool) → List JudgedEntry → ℕ
+judged_count of entries = saturated (count_by (λ entry. of entry.judgement) entries)
 
 -- the counts of the entries
 abbrev pub tally_of : List JudgedEntry → VerifyTally
 tally_of entries = record {
-  verified = counted is_verified entries;
-  skipped = counted is_skipped entries;
-  refused = counted is_refused entries;
-  missing = counted is_missing entries;
-  not_shown = counted is_not_shown entries;
-  differ = counted is_different entries;
-  orphans = counted is_orphan entries;
-  unverified = counted is_unverified entries;
+  verified = judged_count is_verified entries;
+  skipped = judged_count is_skipped entries;
+  refused = judged_count is_refused entries;
+  missing = judged_count is_missing entries;
+  not_shown = judged_count is_not_shown entries;
+  differ = judged_count is_different entries;
+  orphans = judged_count is_orphan entries;
+  unverified = judged_count is_unverified entries;
 }
 
 -- These are the counts of the entries.
 pub record IsVerifyTally (entries : List JudgedEntry) (tally : VerifyTally) : Type 0 where
-  pub verified : tally.verified ≡ counted is_verified entries
-  pub skipped : tally.skipped ≡ counted is_skipped entries
-  pub refused : tally.refused ≡ counted is_refused entries
-  pub missing : tally.missing ≡ counted is_missing entries
-  pub not_shown : tally.not_shown ≡ counted is_not_shown entries
-  pub differ : tally.differ ≡ counted is_different entries
-  pub orphans : tally.orphans ≡ counted is_orphan entries
-  pub unverified : tally.unverified ≡ counted is_unverified entries
+  pub verified : tally.verified ≡ judged_count is_verified entries
+  pub skipped : tally.skipped ≡ judged_count is_skipped entries
+  pub refused : tally.refused ≡ judged_count is_refused entries
+  pub missing : tally.missing ≡ judged_count is_missing entries
+  pub not_shown : tally.not_shown ≡ judged_count is_not_shown entries
+  pub differ : tally.differ ≡ judged_count is_different entries
+  pub orphans : tally.orphans ≡ judged_count is_orphan entries
+  pub unverified : tally.unverified ≡ judged_count is_unverified entries

@@ -11,7 +11,7 @@ use Rattle.msr_folders.specs.declared.found.WalkFound.{WalkFound}
 use Rattle.msr_report.specs.Writing.{TakesPrefix}
 use Rattle.msr_tool.specs.declared.fault.ToolFault.{ToolFault}
 use Rattle.msr_tool.specs.declared.fault.ToolFault.TheVariants.{Input, Report, Read, Write, Memory}
-use Rattle.msr_verify.specs.Entries.{JudgedEntry, IsJudgedEntry, IsJudgedEntryLine, AreLines, IsVerifyTally, counted, is_unverified, is_verified, tally_of}
+use Rattle.msr_verify.specs.Entries.{JudgedEntry, IsJudgedEntry, IsJudgedEntryLine, AreLines, IsVerifyTally, judged_count, is_unverified, is_verified, tally_of}
 use Rattle.msr_verify.specs.declared.tally.VerifyTally.{VerifyTally}
 
 -- the counts at the end of the last line
@@ -58,7 +58,7 @@ pub record IsWalk (text : List ℕ) (entries : List JudgedEntry) : Type 0 where
 -- a walk that came to its end tells whether one of its entries is neither verified nor skipped, and if none is, whether
 -- one is verified
 abbrev pub TellsEnd : List JudgedEntry → WalkFound → Type 0
-TellsEnd entries found = Finds (counted is_unverified entries) (counted is_verified entries) found
+TellsEnd entries found = Finds (judged_count is_unverified entries) (judged_count is_verified entries) found
 
 -- A prefix of the text of a whole walk.
 pub record IsWalkInPart (printed : List ℕ) : Type 0 where
