@@ -105,9 +105,9 @@ abbrev pub is_different : Judgement → Bool
 is_different Differs = true
 is_different _ = false
 
-abbrev pub is_refused : Judgement → Bool
-is_refused (Refused refusal) = true
-is_refused _ = false
+abbrev pub is_judged_refused : Judgement → Bool
+is_judged_refused (Refused refusal) = true
+is_judged_refused _ = false
 
 abbrev pub is_skipped : Judgement → Bool
 is_skipped (Skipped fault) = true
@@ -132,7 +132,7 @@ abbrev pub tally_of : List JudgedEntry → VerifyTally
 tally_of entries = record {
   verified = judged_count is_verified entries;
   skipped = judged_count is_skipped entries;
-  refused = judged_count is_refused entries;
+  refused = judged_count is_judged_refused entries;
   missing = judged_count is_missing entries;
   not_shown = judged_count is_not_shown entries;
   differ = judged_count is_different entries;
@@ -144,7 +144,7 @@ tally_of entries = record {
 pub record IsVerifyTally (entries : List JudgedEntry) (tally : VerifyTally) : Type 0 where
   pub verified : tally.verified ≡ judged_count is_verified entries
   pub skipped : tally.skipped ≡ judged_count is_skipped entries
-  pub refused : tally.refused ≡ judged_count is_refused entries
+  pub refused : tally.refused ≡ judged_count is_judged_refused entries
   pub missing : tally.missing ≡ judged_count is_missing entries
   pub not_shown : tally.not_shown ≡ judged_count is_not_shown entries
   pub differ : tally.differ ≡ judged_count is_different entries
