@@ -109,9 +109,9 @@ abbrev pub is_judged_refused : Judgement → Bool
 is_judged_refused (Refused refusal) = true
 is_judged_refused _ = false
 
-abbrev pub is_skipped : Judgement → Bool
-is_skipped (Skipped fault) = true
-is_skipped _ = false
+abbrev pub is_judged_skipped : Judgement → Bool
+is_judged_skipped (Skipped fault) = true
+is_judged_skipped _ = false
 
 abbrev pub is_orphan : Judgement → Bool
 is_orphan Orphan = true
@@ -131,7 +131,7 @@ judged_count of entries = saturated (count_by (λ entry. of entry.judgement) ent
 abbrev pub tally_of : List JudgedEntry → VerifyTally
 tally_of entries = record {
   verified = judged_count is_verified entries;
-  skipped = judged_count is_skipped entries;
+  skipped = judged_count is_judged_skipped entries;
   refused = judged_count is_judged_refused entries;
   missing = judged_count is_missing entries;
   not_shown = judged_count is_not_shown entries;
@@ -143,7 +143,7 @@ tally_of entries = record {
 -- These are the counts of the entries.
 pub record IsVerifyTally (entries : List JudgedEntry) (tally : VerifyTally) : Type 0 where
   pub verified : tally.verified ≡ judged_count is_verified entries
-  pub skipped : tally.skipped ≡ judged_count is_skipped entries
+  pub skipped : tally.skipped ≡ judged_count is_judged_skipped entries
   pub refused : tally.refused ≡ judged_count is_judged_refused entries
   pub missing : tally.missing ≡ judged_count is_missing entries
   pub not_shown : tally.not_shown ≡ judged_count is_not_shown entries
