@@ -128,8 +128,8 @@ abbrev pub judged_count : (Judgement → Bool) → List JudgedEntry → ℕ
 judged_count of entries = saturated (count_by (λ entry. of entry.judgement) entries)
 
 -- the counts of the entries
-abbrev pub tally_of : List JudgedEntry → VerifyTally
-tally_of entries = record {
+abbrev pub verify_tally_of : List JudgedEntry → VerifyTally
+verify_tally_of entries = record {
   verified = judged_count is_verified entries;
   skipped = judged_count is_judged_skipped entries;
   refused = judged_count is_judged_refused entries;

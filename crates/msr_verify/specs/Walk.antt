@@ -11,7 +11,7 @@ use Rattle.msr_folders.specs.declared.found.WalkFound.{WalkFound}
 use Rattle.msr_report.specs.Writing.{TakesPrefix}
 use Rattle.msr_tool.specs.declared.fault.ToolFault.{ToolFault}
 use Rattle.msr_tool.specs.declared.fault.ToolFault.TheVariants.{Input, Report, Read, Write, Memory}
-use Rattle.msr_verify.specs.Entries.{JudgedEntry, IsJudgedEntry, IsJudgedEntryLine, AreLines, IsVerifyTally, judged_count, is_unverified, is_verified, tally_of}
+use Rattle.msr_verify.specs.Entries.{JudgedEntry, IsJudgedEntry, IsJudgedEntryLine, AreLines, IsVerifyTally, judged_count, is_unverified, is_verified, verify_tally_of}
 use Rattle.msr_verify.specs.declared.tally.VerifyTally.{VerifyTally}
 
 -- the counts at the end of the last line
@@ -30,7 +30,7 @@ judged_line tally =
 
 -- the line after those of the entries
 abbrev pub summary : List JudgedEntry → List ℕ
-summary entries = judged_line (tally_of entries)
+summary entries = judged_line (verify_tally_of entries)
 
 -- a prefix of a text was printed when the walk stops: the sink failed, or else memory was refused
 abbrev pub StopsPrefix : Device → Device → List ℕ → DeviceFault → Type 0
