@@ -17,7 +17,7 @@ use Rattle.msr_verify.specs.declared.judgement.Judgement.{Judgement}
 use Rattle.msr_verify.specs.declared.judgement.Judgement.TheVariants.{Refused, Skipped}
 use Rattle.msr_verify.specs.declared.judgement.Refusal.TheVariants.{FileUnopened, Listing, RecordsListing}
 use Rattle.msr_verify.specs.Entries.{JudgedEntry, IsDay, IsJudgedEntry, IsJudgedEntryLine, IsJudgementOf, IsJudgementOfDay, IsVerifyTally}
-use Rattle.msr_verify.specs.Walk.{IsWalkInPart, StopsPrefix, StopsTellingJudged, TellsJudged, TellsEnd, TellsInPart, Verifies, judged_line, summary}
+use Rattle.msr_verify.specs.Walk.{IsWalkInPart, StopsPrefix, StopsTellingJudged, TellsJudged, TellsEnd, TellsInPart, Verifies, judged_line, judged_summary}
 use Rattle.msr_verify.specs.declared.tally.VerifyTally.{VerifyTally}
 
 -- no entry more
@@ -51,12 +51,12 @@ entries_in_part out0 out told = record {
   prints = told.prints;
   walk = record {
     entries = told.entries;
-    rest = told.rest ++ summary told.entries;
+    rest = told.rest ++ judged_summary told.entries;
     walk = record {
       lines = told.printed ++ told.rest;
       are_entries = told.are_entries;
       are_lines = told.are_lines;
-      whole = sym (append_assoc told.printed told.rest (summary told.entries));
+      whole = sym (append_assoc told.printed told.rest (judged_summary told.entries));
     };
   };
 }
@@ -64,7 +64,7 @@ entries_in_part out0 out told = record {
 -- all entries, and a prefix of the last lines
 summary_in_part : (out0 out1 out : Device) (tally0 tally : VerifyTally)
     (told : TellsJudged out0 out1 tally0 tally) →
-    TakesPrefix out1 out (summary told.entries) → WalksInPart out0 out
+    TakesPrefix out1 out (judged_summary told.entries) → WalksInPart out0 out
 summary_in_part out0 out1 out tally0 tally told front = record {
   printed = told.lines ++ front.taken;
   prints = takes_append out0 out1 out told.lines front.taken told.prints front.takes;
@@ -86,7 +86,7 @@ stops_entries out0 out fault told = stops_within out0 out0 out fault (calm_same 
     (entries_in_part out0 out) told
 
 pub stops_summary : (out0 out1 out : Device) (tally0 tally : VerifyTally) (fault : DeviceFault) →
-    (told : TellsJudged out0 out1 tally0 tally) → StopsPrefix out1 out (summary told.entries) fault →
+    (told : TellsJudged out0 out1 tally0 tally) → StopsPrefix out1 out (judged_summary told.entries) fault →
     StopsAt (WalksInPart out0 out) out0 out fault
 stops_summary out0 out1 out tally0 tally fault told front =
     stops_within out0 out1 out fault told.calm (summary_in_part out0 out1 out tally0 tally told) front
@@ -108,12 +108,12 @@ pub tells_end : (entries : List JudgedEntry) (tally : VerifyTally) (found : Walk
 tells_end entries tally found counts finds = rw (counts.unverified, counts.verified) at finds
 
 pub walk_ends : (out0 out1 out : Device) (tally0 tally : VerifyTally) (found : WalkFound) →
-    (told : TellsJudged out0 out1 tally0 tally) → Takes out1 out (summary told.entries)
+    (told : TellsJudged out0 out1 tally0 tally) → Takes out1 out (judged_summary told.entries)
     → TellsEnd told.entries found →
     Verifies out0 out (Ok found)
 walk_ends out0 out1 out tally0 tally found told prints end = record {
-  printed = told.lines ++ summary told.entries;
-  prints = takes_append out0 out1 out told.lines (summary told.entries) told.prints prints;
+  printed = told.lines ++ judged_summary told.entries;
+  prints = takes_append out0 out1 out told.lines (judged_summary told.entries) told.prints prints;
   ends = (
     told.entries,
     record {
@@ -127,7 +127,7 @@ walk_ends out0 out1 out tally0 tally found told prints end = record {
 }
 
 -- the last line, from the counts of the entries
-pub summary_is : (entries : List JudgedEntry) (tally : VerifyTally) → IsVerifyTally entries tally → judged_line tally ≡ summary entries
+pub summary_is : (entries : List JudgedEntry) (tally : VerifyTally) → IsVerifyTally entries tally → judged_line tally ≡ judged_summary entries
 summary_is entries tally h =
     rw (h.verified, h.skipped, h.refused, h.missing, h.not_shown, h.differ, h.orphans) refl
 

@@ -29,8 +29,8 @@ judged_line tally =
     ++ (others_told tally ++ codes "\n"))))))
 
 -- the line after those of the entries
-abbrev pub summary : List JudgedEntry → List ℕ
-summary entries = judged_line (verify_tally_of entries)
+abbrev pub judged_summary : List JudgedEntry → List ℕ
+judged_summary entries = judged_line (verify_tally_of entries)
 
 -- a prefix of a text was printed when the walk stops: the sink failed, or else memory was refused
 abbrev pub StopsPrefix : Device → Device → List ℕ → DeviceFault → Type 0
@@ -53,7 +53,7 @@ pub record IsWalk (text : List ℕ) (entries : List JudgedEntry) : Type 0 where
   pub lines : List ℕ
   pub are_entries : AllByRecursion IsJudgedEntry entries
   pub are_lines : AreLines entries lines
-  pub whole : text ≡ lines ++ summary entries
+  pub whole : text ≡ lines ++ judged_summary entries
 
 -- a walk that came to its end tells whether one of its entries is neither verified nor skipped, and if none is, whether
 -- one is verified
