@@ -17,7 +17,7 @@ use Rattle.msr_verify.specs.declared.judgement.Judgement.{Judgement}
 use Rattle.msr_verify.specs.declared.judgement.Judgement.TheVariants.{Refused, Skipped}
 use Rattle.msr_verify.specs.declared.judgement.Refusal.TheVariants.{FileUnopened, Listing, RecordsListing}
 use Rattle.msr_verify.specs.Entries.{JudgedEntry, IsDay, IsJudgedEntry, IsJudgedEntryLine, IsJudgementOf, IsJudgementOfDay, IsVerifyTally}
-use Rattle.msr_verify.specs.Walk.{IsWalkInPart, StopsPrefix, StopsTellingJudged, TellsJudged, TellsEnd, TellsInPart, Verifies, judged_line, judged_summary}
+use Rattle.msr_verify.specs.Walk.{IsWalkInPart, StopsPrefix, StopsTellingJudged, TellsJudged, TellsVerified, TellsInPart, Verifies, judged_line, judged_summary}
 use Rattle.msr_verify.specs.declared.tally.VerifyTally.{VerifyTally}
 
 -- no entry more
@@ -104,12 +104,12 @@ stop_tells Part out0 out Memory h = ((λ e. absurd cc), (λ has_failed. absurd (
 
 -- what the counts find is what the entries tell
 pub tells_end : (entries : List JudgedEntry) (tally : VerifyTally) (found : WalkFound) → IsVerifyTally entries tally
-    → Finds tally.unverified tally.verified found → TellsEnd entries found
+    → Finds tally.unverified tally.verified found → TellsVerified entries found
 tells_end entries tally found counts finds = rw (counts.unverified, counts.verified) at finds
 
 pub walk_ends : (out0 out1 out : Device) (tally0 tally : VerifyTally) (found : WalkFound) →
     (told : TellsJudged out0 out1 tally0 tally) → Takes out1 out (judged_summary told.entries)
-    → TellsEnd told.entries found →
+    → TellsVerified told.entries found →
     Verifies out0 out (Ok found)
 walk_ends out0 out1 out tally0 tally found told prints end = record {
   printed = told.lines ++ judged_summary told.entries;

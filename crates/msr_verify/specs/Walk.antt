@@ -57,8 +57,8 @@ pub record IsWalk (text : List ℕ) (entries : List JudgedEntry) : Type 0 where
 
 -- a walk that came to its end tells whether one of its entries is neither verified nor skipped, and if none is, whether
 -- one is verified
-abbrev pub TellsEnd : List JudgedEntry → WalkFound → Type 0
-TellsEnd entries found = Finds (judged_count is_unverified entries) (judged_count is_verified entries) found
+abbrev pub TellsVerified : List JudgedEntry → WalkFound → Type 0
+TellsVerified entries found = Finds (judged_count is_unverified entries) (judged_count is_verified entries) found
 
 -- A prefix of the text of a whole walk.
 pub record IsWalkInPart (printed : List ℕ) : Type 0 where
@@ -68,7 +68,7 @@ pub record IsWalkInPart (printed : List ℕ) : Type 0 where
 
 -- the whole text was printed, or a prefix of it when the walk stopped, which no input and no source can make it do
 abbrev pub WalkEnds : (printed : List ℕ) → Result WalkFound ToolFault → Type 0
-WalkEnds printed (Ok found) = (entries : List JudgedEntry) × IsWalk printed entries × TellsEnd entries found
+WalkEnds printed (Ok found) = (entries : List JudgedEntry) × IsWalk printed entries × TellsVerified entries found
 WalkEnds printed (Err (Input found)) = ⊥
 WalkEnds printed (Err (Report line)) = ⊥
 WalkEnds printed (Err Read) = ⊥
