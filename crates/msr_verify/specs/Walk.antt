@@ -67,16 +67,16 @@ pub record IsWalkInPart (printed : List ℕ) : Type 0 where
   pub walk : IsWalk (printed ++ rest) entries
 
 -- the whole text was printed, or a prefix of it when the walk stopped, which no input and no source can make it do
-abbrev pub WalkEnds : (printed : List ℕ) → Result WalkFound ToolFault → Type 0
-WalkEnds printed (Ok found) = (entries : List JudgedEntry) × IsWalk printed entries × TellsVerified entries found
-WalkEnds printed (Err (Input found)) = ⊥
-WalkEnds printed (Err (Report line)) = ⊥
-WalkEnds printed (Err Read) = ⊥
-WalkEnds printed (Err Write) = IsWalkInPart printed
-WalkEnds printed (Err Memory) = IsWalkInPart printed
+abbrev pub VerifyingEnds : (printed : List ℕ) → Result WalkFound ToolFault → Type 0
+VerifyingEnds printed (Ok found) = (entries : List JudgedEntry) × IsWalk printed entries × TellsVerified entries found
+VerifyingEnds printed (Err (Input found)) = ⊥
+VerifyingEnds printed (Err (Report line)) = ⊥
+VerifyingEnds printed (Err Read) = ⊥
+VerifyingEnds printed (Err Write) = IsWalkInPart printed
+VerifyingEnds printed (Err Memory) = IsWalkInPart printed
 
 -- What verifying an archive printed, and how it ended.
 pub record Verifies (out0 out : Device) (result : Result WalkFound ToolFault) : Type 0 where
   pub printed : List ℕ
   pub prints : Takes out0 out printed
-  pub ends : WalkEnds printed result
+  pub ends : VerifyingEnds printed result
