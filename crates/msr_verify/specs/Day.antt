@@ -42,7 +42,7 @@ DataAnswers settings file records (Err ReportRead) = ⊥
 DataAnswers settings file records (Err ReportMemory) = ⊥
 
 -- What comparing the day's own file with its records answers.
-pub record ComparesDay (settings : Settings) (file records : Device) (result : Result Finding VerifyFault) : Type 0 where
+pub record ComparesData (settings : Settings) (file records : Device) (result : Result Finding VerifyFault) : Type 0 where
   pub first : List ℕ
   pub second : List ℕ
   pub left_file : HasLeft file first
