@@ -62,7 +62,7 @@ pub record IsVerified (file records again text : List ℕ) : Type 0 where
   pub same : HaveSameSegments (settings_by shown.report) file again
 
 -- The report shows it, and there is a first difference of the segments.
-pub record IsDifferent (file records again text : List ℕ) : Type 0 where
+pub record HasDifferentData (file records again text : List ℕ) : Type 0 where
   pub shown : IsShownLeast records text
   pub differ : HaveDifference (settings_by shown.report) file again
 
@@ -94,7 +94,7 @@ pub record IsAgainRefused (file records again text : List ℕ) (found : Fault) :
 abbrev pub DayAnswers : (file records again text : List ℕ) → Result Finding VerifyFault → Type 0
 DayAnswers file records again text (Ok Verified) = IsVerified file records again text
 DayAnswers file records again text (Ok NotShown) = IsUnshown records text
-DayAnswers file records again text (Ok Differs) = IsDifferent file records again text
+DayAnswers file records again text (Ok Differs) = HasDifferentData file records again text
 DayAnswers file records again text (Err (File (stop.Input found))) = IsFileRefused file records text found
 DayAnswers file records again text (Err (File stop.Read)) = Unit {0}
 DayAnswers file records again text (Err (File stop.Memory)) = Unit {0}
