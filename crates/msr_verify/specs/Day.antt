@@ -17,10 +17,10 @@ use Rattle.msr_verify.specs.declared.judging.VerifyFault.{VerifyFault}
 use Rattle.msr_verify.specs.declared.judging.VerifyFault.TheVariants.{File, Records, ReportLine, ReportRead, ReportMemory}
 
 -- where the report is at fault
-abbrev pub fault_of_report : ReportFault → VerifyFault
-fault_of_report (report_stop.Line line) = ReportLine line
-fault_of_report report_stop.Read = ReportRead
-fault_of_report report_stop.Memory = ReportMemory
+abbrev pub verify_fault_of_report : ReportFault → VerifyFault
+verify_fault_of_report (report_stop.Line line) = ReportLine line
+verify_fault_of_report report_stop.Read = ReportRead
+verify_fault_of_report report_stop.Memory = ReportMemory
 
 -- both are readable, and there is a first difference of their segments
 abbrev pub HaveDifference : Settings → (file records : List ℕ) → Type 0

@@ -2,7 +2,7 @@
 ghost use Rattle.std.specs.Prelude.{◌≡◌, ◌↔◌, ◌⊎◌, ℕ, List, IsErrOf};
 ghost use Rattle.msr_devices.specs.Device.{CanCountCall, CountsFew, HasFailed, HasLeft};
 ghost use Rattle.msr_report.specs.Proper.{IsProper};
-ghost use Rattle.msr_verify.specs.Day.{ComparesData, VerifiesDay, fault_of_report};
+ghost use Rattle.msr_verify.specs.Day.{ComparesData, VerifiesDay, verify_fault_of_report};
 ghost use Rattle.msr_verdict.specs.Packed.{settings_by};
 
 use msr_compare::{CompareFault, Comparison, compare};
@@ -46,7 +46,7 @@ pub enum VerifyFault {
 }
 
 fn report_fault(fault: ReportFault) -> VerifyFault
-    ensures { result ≡ fault_of_report fault }
+    ensures { result ≡ verify_fault_of_report fault }
 {
     match fault {
         ReportFault::Line(line) => VerifyFault::ReportLine(line),
