@@ -77,7 +77,7 @@ pub record WasShown : Type 0 where
   pub shown : IsChecked input text (Ok Least)
 
 -- Some bytes and some text were checked, with another answer that is one about them.
-pub record IsUnshown : Type 0 where
+pub record WasNotShown : Type 0 where
   pub input : List ℕ
   pub text : List ℕ
   pub answer : Result Verdict ToolFault
@@ -100,7 +100,7 @@ fault_of_checking _ = NotShown
 -- why records that were written are not kept
 abbrev pub IsUnkept : DayFault → Type 0
 IsUnkept (CannotOpen unopened) = ⊤
-IsUnkept NotShown = IsUnshown
+IsUnkept NotShown = WasNotShown
 IsUnkept (Tool fault) = IsUnread fault
 IsUnkept _ = ⊥
 
@@ -184,7 +184,7 @@ pub record IsLarger (asked : DayOptions) (repacked : Repacked) : Type 0 where
 -- It was asked for that what is written is shown, and it was not.
 pub record IsNotShown (asked : DayOptions) : Type 0 where
   pub check : IsTrue asked.check
-  pub unshown : IsUnshown
+  pub unshown : WasNotShown
 
 -- It was asked for that what is written is compared with the day's file, and it was not the same.
 pub record IsDifferent (asked : DayOptions) : Type 0 where
