@@ -105,9 +105,9 @@ IsUnkept (Tool fault) = IsUnread fault
 IsUnkept _ = ⊥
 
 -- what holding records against their report answers
-abbrev pub IsShown : Result (Unit {0}) DayFault → Type 0
-IsShown (Ok done) = WasShown
-IsShown (Err refusal) = IsUnkept refusal
+abbrev pub ShownAnswers : Result (Unit {0}) DayFault → Type 0
+ShownAnswers (Ok done) = WasShown
+ShownAnswers (Err refusal) = IsUnkept refusal
 
 -- what holding records against their report answers, if it is asked for
 abbrev pub IsShownIfAsked : Bool → Result (Unit {0}) DayFault → Type 0

@@ -4,7 +4,7 @@ ghost use Rattle.msr_devices.specs.Device.{CanCountCall, HasFailed};
 ghost use Rattle.msr_options.specs.Choice.{size_of};
 ghost use Rattle.msr_report.specs.Proper.{IsProper, records_of};
 ghost use Rattle.msr_folders.specs.Totals.{saturated};
-ghost use Rattle.msr_walk.specs.Day.{ComparesDay, IsReportKept, IsShown, RepacksDay, fault_of_checking, fault_of_comparing};
+ghost use Rattle.msr_walk.specs.Day.{ComparesDay, IsReportKept, ShownAnswers, RepacksDay, fault_of_checking, fault_of_comparing};
 
 use crate::outcome::{DayFault, Repacked};
 use msr_compare::{CompareFault, compare};
@@ -163,7 +163,7 @@ pub(crate) fn require_shown<P: Source, Q: Source>(
 ) -> Result<(), DayFault>
     requires packed { CanCountCall (P.device packed.old) }
     requires report { CanCountCall (Q.device report.old) }
-    ensures answer { IsShown result }
+    ensures answer { ShownAnswers result }
 
     // A failure of a source is answered as such, and nothing else is.
     ensures read { IsErrOf result (DayFault.Tool ToolFault.Read)
