@@ -87,8 +87,8 @@ pub record WasNotShown : Type 0 where
   pub had_memory : answer ≢ Err Memory
 
 -- reading one of two files failed, or memory was refused
-abbrev pub IsUnread : ToolFault → Type 0
-IsUnread fault = (fault ≡ Read) ⊎ (fault ≡ Memory)
+abbrev pub IsReadOrMemory : ToolFault → Type 0
+IsReadOrMemory fault = (fault ≡ Read) ⊎ (fault ≡ Memory)
 
 -- What is told of a day if holding its records against their report stops so. Both were just written, so if one of them
 -- is at fault, nothing is shown.
@@ -101,7 +101,7 @@ fault_of_checking _ = NotShown
 abbrev pub IsUnkept : DayFault → Type 0
 IsUnkept (CannotOpen unopened) = ⊤
 IsUnkept NotShown = WasNotShown
-IsUnkept (Tool fault) = IsUnread fault
+IsUnkept (Tool fault) = IsReadOrMemory fault
 IsUnkept _ = ⊥
 
 -- what holding records against their report answers
@@ -129,7 +129,7 @@ fault_of_comparing read.Memory = Tool Memory
 abbrev pub SameAnswers : Choice → (file records : List ℕ) → Result (Unit {0}) DayFault → Type 0
 SameAnswers choice file records (Ok done) = HaveSameData choice file records
 SameAnswers choice file records (Err Differs) = ¬ (HaveSameData choice file records)
-SameAnswers choice file records (Err (Tool fault)) = IsUnread fault
+SameAnswers choice file records (Err (Tool fault)) = IsReadOrMemory fault
 SameAnswers choice file records (Err _) = ⊥
 
 -- What comparing a day's file with its records did with both sources, and what it answers. A failure of a source is
@@ -160,7 +160,7 @@ abbrev pub IsComparedIfAsked : DayOptions → Result (Unit {0}) DayFault → Typ
 IsComparedIfAsked asked (Ok done) = IsTrue asked.check → WasCompared asked.options
 IsComparedIfAsked asked (Err (CannotOpen unopened)) = IsTrue asked.check
 IsComparedIfAsked asked (Err Differs) = IsTrue asked.check × WasDifferent asked.options
-IsComparedIfAsked asked (Err (Tool fault)) = IsTrue asked.check × IsUnread fault
+IsComparedIfAsked asked (Err (Tool fault)) = IsTrue asked.check × IsReadOrMemory fault
 IsComparedIfAsked asked (Err _) = ⊥
 
 -- the bytes that were written are fewer than those that were read
