@@ -133,8 +133,8 @@ add_of_bytes channel repacked =
     record { name = channel; read = repacked.bytes_read; written = repacked.bytes_written }
 
 -- what an entry adds to the totals of the channels
-abbrev pub adds_of : Entry → List Add
-adds_of entry = map (add_of entry.channel) (dones_of entry.outcome)
+abbrev pub adds_of_entry : Entry → List Add
+adds_of_entry entry = map (add_of entry.channel) (dones_of entry.outcome)
 
 abbrev pub adds_of_bytes : Entry → List Add
 adds_of_bytes entry = map (add_of_bytes entry.channel) (dones_of entry.outcome)
@@ -145,7 +145,7 @@ counted of entries = saturated (count_by (λ entry. of entry.outcome) entries)
 
 -- the totals of the channels, in the order of their first files that were done
 abbrev pub channels_of : List Entry → List (List ℕ × Total)
-channels_of entries = totals_of (flat_map adds_of entries)
+channels_of entries = totals_of (flat_map adds_of_entry entries)
 
 -- those of their bytes, in the same order
 abbrev pub bytes_of_channels : List Entry → List (List ℕ × Total)
