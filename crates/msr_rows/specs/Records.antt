@@ -153,7 +153,7 @@ pub record IsRefusedBeforeTime (bytes : List ℕ) : Type 0 where
   pub before : fault ≢ TimeRange
 
 -- the rate and the kind are those of the record of this header, which has samples
-pub record AreFields (bytes : List ℕ) (header : Header) (fields : SampleRate × Kind) : Type 0 where
+pub record AreRateAndKind (bytes : List ℕ) (header : Header) (fields : SampleRate × Kind) : Type 0 where
   pub has_area : HasArea bytes header fields.1
   pub begins : header.data_at ≤ 2 ^ header.exponent
   pub factor : fields.0.factor ≡ header.factor
@@ -167,4 +167,4 @@ pub record IsOpened (bytes : List ℕ) (opened : Opened) : Type 0 where
   pub within : opened.length ≤ length bytes
   pub small : opened.length ≤ 1_048_576
   pub empty : IfNone opened.fields (opened.header.samples ≡ 0)
-  pub fields_are : IfSome opened.fields (AreFields bytes opened.header)
+  pub fields_are : IfSome opened.fields (AreRateAndKind bytes opened.header)
