@@ -11,7 +11,7 @@ use Rattle.msr_words.specs.Packing.{IsPacking, IsSeparating, Joins, NoneHolds}
 use Rattle.msr_words.proofs.Certificate.{all_split, in_its_run, joins_more}
 use Rattle.msr_words.proofs.LastSamples.{apart_in_window, apart_of_window, apart_stays, apart_was, run_in_window, run_of_window, run_stays, run_was}
 use Rattle.msr_check.proofs.Rising.{separating_all, separating_more}
-use Rattle.msr_check.specs.Judged.{AreShown, Ends, FollowsLast, HasLast, HoldsSoFar, IsFollowed, IsSoundLast, Judged, Judges, NoneShows, StandsAt, becomes_last, last_run, next_run, samples_after, without}
+use Rattle.msr_check.specs.Judged.{AreShown, IsComplete, FollowsLast, HasLast, HoldsSoFar, IsFollowed, IsSoundLast, Judged, Judges, NoneShows, StandsAt, becomes_last, last_run, next_run, samples_after, without}
 use Rattle.msr_check.specs.Next.{IsNextSeparator, SeparatingTo}
 use Rattle.msr_check.specs.declared.judge.LastRun.{LastRun}
 
@@ -340,7 +340,7 @@ module _ (records : Records) (samples new : List ℤ) (runs : List Run) (separat
 -- no run more
 module _ (records : Records) (samples : List ℤ) (runs : List Run) (separators : List ℕ) (number : ℕ) (judged : Judged)
     (judges : Judges records samples runs separators judged) where
-  ends_shown : Ends records judged separators number → AreShown records samples runs separators number
+  ends_shown : IsComplete records judged separators number → AreShown records samples runs separators number
   ends_shown ends =
       let so_far = judges.holds ends.holds in
       let counted = so_far.count_is in
@@ -360,7 +360,7 @@ module _ (records : Records) (samples : List ℤ) (runs : List Run) (separators 
         number_is = sym (number_is records samples [] runs separators judged.held judged.last so_far.at) ∙ ends.number_is;
       }
 
-  shown_ends : AreShown records samples runs separators number → Ends records judged separators number
+  shown_ends : AreShown records samples runs separators number → IsComplete records judged separators number
   shown_ends shown = elim (cases_Bool judged.holds) [
     | inl was ↦
         let so_far = judges.holds was in
@@ -399,7 +399,7 @@ module _ (records : Records) (samples : List ℤ) (runs : List Run) (separators 
           )
 
 pub judges_end : (records : Records) (samples : List ℤ) (runs : List Run) (separators : List ℕ) (number : ℕ)
-    (judged : Judged) (answer : Bool) → IsTrue answer ↔ Ends records judged separators number
+    (judged : Judged) (answer : Bool) → IsTrue answer ↔ IsComplete records judged separators number
     → Judges records samples runs separators judged
     → IsTrue answer ↔ AreShown records samples runs separators number
 judges_end records samples runs separators number judged answer says judges = (

@@ -91,7 +91,7 @@ pub record FollowsLast (records : Records) (held : List ℤ) (last : Option Last
   pub followed : IsFollowed records held last end (end + (separator - samples_after last end))
 
 -- No run follows: there are as many runs as separators and that many samples, and the last run is sound.
-pub record Ends (records : Records) (judged : Judged) (separators : List ℕ) (number : ℕ) : Type 0 where
+pub record IsComplete (records : Records) (judged : Judged) (separators : List ℕ) (number : ℕ) : Type 0 where
   pub holds : judged.holds ≡ true
   pub as_many : judged.count ≡ length separators
   pub number_is : samples_after judged.last (length judged.held) ≡ number
