@@ -12,7 +12,7 @@ ghost use Rattle.msr_record.specs.Written.{IsKey};
 ghost use Rattle.msr_time.specs.Instant.{IsInstant};
 ghost use Rattle.msr_segments.specs.Spans.{SpanIsInTime, span_of};
 ghost use Rattle.msr_segments.specs.declared.joiner.Segment.{Segment};
-ghost use Rattle.msr_output.specs.Opened.{AppendsMore, CanEncode, CanGoOn, EncodesNext, Gives, IsOpen, longer_by};
+ghost use Rattle.msr_output.specs.Opened.{AppendsMore, CanEncode, CanGoOn, EncodesNext, GivesRuns, IsOpen, longer_by};
 ghost use Rattle.msr_output.specs.Output.{next_number};
 ghost use Rattle.msr_output.specs.Writing.{AppendsRecordOfRun};
 
@@ -69,14 +69,14 @@ pub(crate) fn empty_span_is_in_time(key: &Key, start: i64)
 /// The next piece, of samples that others may follow, or of all.
 fn next_piece(packer: &mut BlockPacker, whole: bool) -> Option<Piece>
     ensures given { (form : Form) (samples : List ℤ) (runs : List Run) (separators : List ℕ)
-        → Gives whole form samples runs separators packer.old
-        → Gives whole form samples (runs ++ runs_of (pieces_of result))
+        → GivesRuns whole form samples runs separators packer.old
+        → GivesRuns whole form samples (runs ++ runs_of (pieces_of result))
         (separators ++ separators_of (pieces_of result)) packer.new }
     ensures shows { (form : Form) (samples : List ℤ) (runs : List Run) (separators : List ℕ)
-        → Gives whole form samples runs separators packer.old
+        → GivesRuns whole form samples runs separators packer.old
         → IfSome result (Shows samples packer.new.shown packer.new.before packer.new.groups) }
     ensures all { (form : Form) (samples : List ℤ) (runs : List Run) (separators : List ℕ)
-        → Gives whole form samples runs separators packer.old
+        → GivesRuns whole form samples runs separators packer.old
         → whole ≡ true → IsNone result → IsCanonical (records_of form) samples runs separators }
     ensures fewer { IfSome result (λ _. left_of packer.new < left_of packer.old) }
     ensures count { pushed packer.new ≡ pushed packer.old }
