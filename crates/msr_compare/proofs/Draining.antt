@@ -18,7 +18,7 @@ use Rattle.msr_input.specs.declared.settings.Settings.{Settings}
 use Rattle.msr_input.specs.declared.fault.ReadFault.{ReadFault}
 use Rattle.msr_input.specs.declared.row_reader.NextOutline.{NextOutline}
 use Rattle.msr_compare.specs.Symbols.{Symbol, symbols_of, row_symbols}
-use Rattle.msr_compare.specs.Sides.{Standing, HasBegun, HasTaken, IsAtEnd, IsDrained}
+use Rattle.msr_compare.specs.Sides.{Standing, HasSource, HasTaken, IsAtEnd, IsDrained}
 use Rattle.msr_compare.proofs.Sides.{grown, grown_symbols}
 
 -- Some records came, whose segments have these symbols, and maybe more after them.
@@ -132,7 +132,7 @@ drained_before {side = side} h ended =
     drained side.ended (draining h) h.records h.read refl refl (h.end ended) (λ e. refl)
 
 pub has_begun : {settings : Settings} {start now : Device} {side : Standing} {done : List Symbol}
-    → HasTaken settings start now side done → CanCountCall start → HasBegun now side
+    → HasTaken settings start now side done → CanCountCall start → HasSource now side
 has_begun {settings} {start} {done = done} taken can =
     record { settings = settings; start = start; done = done; taken = taken; can = can }
 
@@ -144,7 +144,7 @@ pub record IsDraining (now : Device) (reading : RowReading) : Type 0 where
   pub drains : Draining settings start now reading symbols
   pub can : CanCountCall start
 
-pub is_draining : {now : Device} {side : Standing} → HasBegun now side → IsDraining now side.reading
+pub is_draining : {now : Device} {side : Standing} → HasSource now side → IsDraining now side.reading
 is_draining {side = side} h = record {
   settings = h.settings;
   start = h.start;

@@ -4,7 +4,7 @@ ghost use Rattle.msr_devices.specs.Device.{Device, CanCountCall, CountsFew, HasF
 ghost use Rattle.msr_input.specs.declared.settings.Settings.{Settings as How};
 ghost use Rattle.msr_compare.specs.Answers.{CompareAnswers};
 ghost use Rattle.msr_compare.specs.Symbols.{Symbol};
-ghost use Rattle.msr_compare.specs.Sides.{HasBegun, HasTaken};
+ghost use Rattle.msr_compare.specs.Sides.{HasSource, HasTaken};
 ghost use Rattle.msr_compare.specs.Meetings.{BothBegin, HaveMet, HaveTaken, IsAnswered, ReadsFirst, StopsMeeting};
 
 use crate::comparison::{Comparison, Difference, SameSegments};
@@ -51,7 +51,7 @@ fn agree<One: Source, Other: Source>(
 
 /// Reading the other input stopped. If it is refused, the first one is read to its end: it may be refused too.
 fn refuse<One: Source>(side: &mut Side, one: &mut One, why: ReadFault) -> CompareFault
-    requires { HasBegun (One.device one.old) side.old }
+    requires { HasSource (One.device one.old) side.old }
     ensures refused { (settings : How) (start : Device) (done : List Symbol)
         → HasTaken settings start (One.device one.old) side.old done
         → ReadsFirst settings start (One.device one.new) why result }
