@@ -9,7 +9,7 @@ use Rattle.msr_steim.specs.declared.sums.Progress.{Progress}
 use Rattle.msr_steim.specs.declared.word.WordLayout.{WordLayout}
 use Rattle.msr_kinds.specs.declared.storage.Version.{Version}
 use Rattle.msr_steim.specs.Area.{CarriesSteim, WordHolds, arranged_word, code_of, constant, differences, samples_of, sums_after, whole_word, word_count}
-use Rattle.msr_steim.specs.InOrder.{BeginsAfter, HasSamples, differences_from}
+use Rattle.msr_steim.specs.InOrder.{BeginsAfter, CarriesCount, differences_from}
 use Rattle.msr_steim.specs.Sums.{IsInnerWritten, ReachesEnd}
 use Rattle.msr_steim.specs.Word.{AreFields, IsUndefinedWord, layout_of, numbers_in}
 use Rattle.msr_steim.proofs.Beginning.{begins_here, begins_on, code_here, held_in_order}
@@ -198,7 +198,7 @@ module _ (version : Version) (order : Order) (area : List ℕ) (number count lef
   -- none is left: what the places have up to the last sample is the end of the samples
   pub passed_enough : left ≤ next.place → (agrees : Bool) (last : List ℤ) → last ≡ take left new
       → (IsTrue agrees ↔ (slice_get last (length last - 1) ≡ Some (constant order area 2)))
-      → HasSamples version order area count agrees
+      → CarriesCount version order area count agrees
   passed_enough enough agrees last last_is test =
       let size : length (take count all) ≡ count = length-take count all
       ∙ omega (arith, length-all, passed.left_is, enough) in

@@ -42,7 +42,7 @@ pub record HasFields (version : Version) (order : Order) (area : List ℕ) (numb
       ≡ Some (record { count = fields.count; width = fields.width })
 
 -- The area carries `count` samples. `agrees` says whether the last of them is the reverse constant.
-pub record HasSamples (version : Version) (order : Order) (area : List ℕ) (count : ℕ) (agrees : Bool) : Type 0 where
+pub record CarriesCount (version : Version) (order : Order) (area : List ℕ) (count : ℕ) (agrees : Bool) : Type 0 where
   pub samples : List ℤ
   pub carried : CarriesSteim version order area samples
   pub count_is : length samples ≡ count
