@@ -214,7 +214,7 @@ pub record BothBegin (start_one start_other : Device) (one other : Standing) : T
   pub taken : HaveTaken settings start_one start_one start_other start_other one other
 
 -- What is answered of the inputs that the sources have, and what it tells of the sources.
-pub record IsAnswered (settings : Settings) (start_one one_now start_other other_now : Device)
+pub record AnswersInputs (settings : Settings) (start_one one_now start_other other_now : Device)
     (answer : Result Comparison CompareFault) : Type 0 where
   pub first : List ℕ
   pub second : List ℕ

@@ -5,7 +5,7 @@ ghost use Rattle.msr_input.specs.declared.settings.Settings.{Settings as How};
 ghost use Rattle.msr_compare.specs.Answers.{CompareAnswers};
 ghost use Rattle.msr_compare.specs.Symbols.{Symbol};
 ghost use Rattle.msr_compare.specs.Sides.{HasSource, HasTaken};
-ghost use Rattle.msr_compare.specs.Meetings.{BothBegin, HaveMet, HaveTaken, IsAnswered, ReadsFirst, StopsMeeting};
+ghost use Rattle.msr_compare.specs.Meetings.{BothBegin, HaveMet, HaveTaken, AnswersInputs, ReadsFirst, StopsMeeting};
 
 use crate::comparison::{Comparison, Difference, SameSegments};
 use crate::fault::CompareFault;
@@ -82,7 +82,7 @@ fn answer<One: Source, Other: Source>(
     ensures { (settings : How)
         → HaveTaken settings (One.device one.old) (One.device one.old) (Other.device other.old) (Other.device other.old)
         one_side.old other_side.old
-        → IsAnswered settings (One.device one.old) (One.device one.new) (Other.device other.old)
+        → AnswersInputs settings (One.device one.old) (One.device one.new) (Other.device other.old)
         (Other.device other.new) result }
 {
     match agree(one_side, one, other_side, other) {
