@@ -105,8 +105,8 @@ abbrev pub segment_at : List ℤ → Span → Segment
 segment_at samples span = record { key = span.key; start = span.start; samples = samples }
 
 -- the samples are as many as the span says
-abbrev pub IsCounted : Option Span → List ℤ → Type 0
-IsCounted current samples = (span : Span) → current ≡ Some span → span.count ≡ length samples
+abbrev pub AreAsMany : Option Span → List ℤ → Type 0
+AreAsMany current samples = (span : Span) → current ≡ Some span → span.count ≡ length samples
 
 -- a joiner's follower and samples together
 abbrev pub joining_of : Following → List ℤ → Joining
