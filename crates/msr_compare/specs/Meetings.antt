@@ -150,14 +150,14 @@ pub record HaveFetched (settings : Settings) (start_one one_now start_other othe
   pub other_some : other.ahead ≡ [] → other.ended ≡ true
 
 -- how the sides differ then, or that both have ended
-abbrev pub IsFound : Standing → Standing → Option Difference → Type 0
-IsFound one other None = (one.ahead ≡ []) × (other.ahead ≡ [])
-IsFound one other (Some difference) = DiffersAhead one other difference
+abbrev pub IsFoundAhead : Standing → Standing → Option Difference → Type 0
+IsFoundAhead one other None = (one.ahead ≡ []) × (other.ahead ≡ [])
+IsFoundAhead one other (Some difference) = DiffersAhead one other difference
 
 pub record HaveMet (settings : Settings) (start_one one_now start_other other_now : Device) (one other : Standing)
     (found : Option Difference) : Type 0 where
   pub fetched : HaveFetched settings start_one one_now start_other other_now one other
-  pub is_found : IsFound one other found
+  pub is_found : IsFoundAhead one other found
 
 -- one side has come so far
 pub record HasSomeTaken (settings : Settings) (start now : Device) (side : Standing) : Type 0 where
