@@ -10,7 +10,7 @@ use Rattle.msr_report.specs.Proper.{records_of}
 use Rattle.msr_report.specs.Text.{separators_line, end_line}
 use Rattle.msr_report.specs.declared.report.SegmentLine.{SegmentLine}
 use Rattle.msr_report.specs.declared.report.Report.{Report}
-use Rattle.msr_report_reader.specs.Content.{IsKey, IsFirst, IsContentLine, IsOpening, first_then, content_line}
+use Rattle.msr_report_reader.specs.Content.{IsReportKey, IsFirst, IsContentLine, IsOpening, first_then, content_line}
 use Rattle.msr_report_reader.specs.Fault.{IsOneLine, IsFaultLine}
 use Rattle.msr_report_reader.specs.LastLine.{IsLast}
 use Rattle.msr_report_reader.specs.Reading.{IsReadFrom}
@@ -124,7 +124,7 @@ first_step old new first text rest n expected new_expected segments numbers is_f
 
 pub opening_step : (old new : Draft) (first : FirstLines) (line : FirstLine) (text rest : List ℕ) (n : ℕ)
     → old.expected ≡ Segment first → new.expected ≡ Separators first line → new.segments.items ≡ old.segments.items
-    → new.numbers.items ≡ old.numbers.items → IsKey line.key → IsInstant line.start → line.samples < 2 ^ 64
+    → new.numbers.items ≡ old.numbers.items → IsReportKey line.key → IsInstant line.start → line.samples < 2 ^ 64
     → line.records < 2 ^ 64 → IsOpening line.key line.start line.samples line.records rest text
     → n ≡ length text - length rest → IsConsumed old new text n
 opening_step old new first line text rest n expected new_expected segments numbers is_key start samples records opens

@@ -6,7 +6,7 @@ use Rattle.msr_kinds.specs.Lengths.{bytes_of}
 use Rattle.msr_report.specs.Proper.{records_of}
 use Rattle.msr_report.specs.Text.{end_line}
 use Rattle.msr_report.specs.declared.report.SegmentLine.{SegmentLine}
-use Rattle.msr_report_reader.specs.Content.{IsFirst, IsKey, IsContentLine, IsOpening, AreContentLineTexts, first_then, content_line}
+use Rattle.msr_report_reader.specs.Content.{IsFirst, IsReportKey, IsContentLine, IsOpening, AreContentLineTexts, first_then, content_line}
 use Rattle.msr_report_reader.specs.Fault.{IsOneLine, IsFaultLine}
 use Rattle.msr_report_reader.specs.TextFault.{IsTextFault}
 use Rattle.msr_report_reader.specs.declared.fault.ReportFault.{ReportFault}
@@ -54,7 +54,7 @@ pub record ReadOpening (first : FirstLines) (segments : List SegmentLine) (line 
   pub before : List ℕ
   pub read : ReadSegments first segments before
   pub opening : List ℕ
-  pub is_key : IsKey line.key
+  pub is_key : IsReportKey line.key
   pub start : IsInstant line.start
   pub samples : line.samples < 2 ^ 64
   pub records : line.records < 2 ^ 64
