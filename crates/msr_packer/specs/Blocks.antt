@@ -4,7 +4,7 @@ use Rattle.msr_words.specs.Fit.{Records, records_of}
 use Rattle.msr_words.specs.declared.kinds.Run.{Run}
 use Rattle.msr_words.specs.Laws.{most_any}
 use Rattle.msr_words.specs.Packing.{IsCanonical}
-use Rattle.msr_packer.specs.HeldSamples.{BeginsAll, IsWindow, LeavesFew, Shows, Stays, before_shown, frontier_of, pieces_of, runs_of, separators_of, shown_by, sizes_shown}
+use Rattle.msr_packer.specs.HeldSamples.{BeginsAll, HoldsWindow, LeavesFew, Shows, Stays, before_shown, frontier_of, pieces_of, runs_of, separators_of, shown_by, sizes_shown}
 use Rattle.msr_packer.specs.declared.held.RunToCut.{RunToCut}
 use Rattle.msr_packer.specs.declared.held.HeldSamples.{HeldSamples}
 use Rattle.msr_packer.specs.declared.held.Piece.{Piece}
@@ -44,14 +44,14 @@ pushed packer = packer.offset + length packer.held
 pub record Packs (records : Records) (samples : List ℤ) (runs : List Run) (separators : List ℕ)
     (packer : Holding) : Type 0 where
   pub of_form : packer.records ≡ records
-  pub holds : IsWindow records samples runs separators packer.held packer.offset packer.current
+  pub holds : HoldsWindow records samples runs separators packer.held packer.offset packer.current
   pub stays : Stays packer.current (length packer.held)
   pub goes_on : packer.ended ≡ false
 
 -- what is left, if no sample follows
 abbrev pub LeftAt : Bool → Records → List ℤ → List Run → List ℕ → Holding → Type 0
 LeftAt false records samples runs separators packer =
-    IsWindow records samples runs separators packer.held packer.offset packer.current
+    HoldsWindow records samples runs separators packer.held packer.offset packer.current
 LeftAt true records samples runs separators packer = IsCanonical records samples runs separators
 
 -- After these samples, which no sample follows, these runs and separators were given.

@@ -44,7 +44,7 @@ Stays None number = ⊤
 Stays (Some current) number = current.end < number
 
 -- The last samples are held, with the step after these runs and separators.
-pub record IsWindow (records : Records) (samples : List ℤ) (runs : List Run) (separators : List ℕ) (held : List ℤ)
+pub record HoldsWindow (records : Records) (samples : List ℤ) (runs : List Run) (separators : List ℕ) (held : List ℤ)
     (offset : ℕ) (current : Option RunToCut) : Type 0 where
   pub window : held ≡ drop offset samples
   pub within : offset ≤ length samples
@@ -52,7 +52,7 @@ pub record IsWindow (records : Records) (samples : List ℤ) (runs : List Run) (
 
 -- the last samples of a segment are held so
 abbrev pub HoldsRest : List ℤ → List Run → List ℕ → HeldSamples → Type 0
-HoldsRest samples runs separators held = IsWindow
+HoldsRest samples runs separators held = HoldsWindow
     (records_of held.form) samples runs separators held.samples.items held.offset held.current
 
 -- the step starts at its frontier or before, ends after it, within `number` samples, and is no
