@@ -11,7 +11,7 @@ use Rattle.msr_time.proofs.SignedFacts.{signed_arith}
 use Rattle.msr_time.specs.declared.btime.BTime.{BTime}
 use Rattle.msr_time.specs.Instant.{IsSplit, instant_of}
 use Rattle.msr_header.specs.Reading.{header_of, is_sequence_byte, is_quality}
-use Rattle.msr_header.specs.Writing.{header_bytes, IsWritable, as_read}
+use Rattle.msr_header.specs.Writing.{header_bytes, IsWritableHeader, as_read}
 use Rattle.msr_base.specs.declared.order.Order.TheVariants.{Big}
 use Rattle.msr_header.specs.declared.header.Header.{Header}
 use Rattle.msr_kinds.specs.RecordLength.{least_exponent, most_exponent}
@@ -47,7 +47,7 @@ digits n = rw (digit n 100_000, digit n 10_000, digit n 1_000, digit n 100, digi
 -- the header of a written record is such as a reader accepts
 writable : (key : Key) (time : BTime) (micros sequence count : ℕ) (kind : Kind) (exponent frames : ℕ) (start : ℤ)
     → IsTrue (is_quality key.quality) → IsSplit start time micros → least_exponent ≤ exponent
-    → exponent ≤ most_exponent → IsWritable (header_for key time micros sequence count kind exponent frames)
+    → exponent ≤ most_exponent → IsWritableHeader (header_for key time micros sequence count kind exponent frames)
 writable key time micros sequence count kind exponent frames start quality split low high = record {
   sequence = digits sequence;
   quality = quality;
@@ -114,7 +114,7 @@ pub appends_record : (old new front area : List ℕ) (key : Key) (start : ℤ) (
     → length front ≡ 64
     → IsWrittenArea (storage_of kind) before samples (size - 64) frames area
     → length area ≡ size - 64
-    → ((rest : List ℕ) → IsWritable (header_for key time micros sequence count kind exponent frames)
+    → ((rest : List ℕ) → IsWritableHeader (header_for key time micros sequence count kind exponent frames)
     → 2 ^ exponent ≤ 64 + length rest → header_of (front ++ rest)
     ≡ Ok (as_read (header_for key time micros sequence count kind exponent frames)))
     → Carries (storage_of kind) Big area samples
