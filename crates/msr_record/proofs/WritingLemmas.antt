@@ -21,7 +21,7 @@ use Rattle.msr_kinds.specs.declared.kinds.Kind.{Kind}
 use Rattle.msr_kinds.specs.declared.kinds.Kind.TheVariants.{Int16, Int24, Int32, Steim1, Steim2}
 use Rattle.msr_rows.specs.Records.{kind_of_code}
 use Rattle.msr_rows.specs.Correction.{key_of, start_of, is_pending, correction_micros}
-use Rattle.msr_rows.specs.Area.{Carries, ReverseAgrees}
+use Rattle.msr_rows.specs.Area.{Carries, ReverseAgreesIfAny}
 use Rattle.msr_rows.specs.Records.{has_area, field_faults, data_area, IsRowOf}
 use Rattle.msr_base.specs.Faults.{first_fault}
 use Rattle.msr_record.specs.Written.{sequence_digits, header_for, IsWrittenArea, AppendsRecord}
@@ -118,7 +118,7 @@ pub appends_record : (old new front area : List ℕ) (key : Key) (start : ℤ) (
     → 2 ^ exponent ≤ 64 + length rest → header_of (front ++ rest)
     ≡ Ok (as_read (header_for key time micros sequence count kind exponent frames)))
     → Carries (storage_of kind) Big area samples
-    → ReverseAgrees (storage_of kind) Big area samples
+    → ReverseAgreesIfAny (storage_of kind) Big area samples
     → IsSplit start time micros → size ≡ 2 ^ exponent → least_exponent ≤ exponent → exponent ≤ most_exponent
     → IsTrue (is_quality key.quality) → is_pending key.activity key.correction ≡ false → 1 ≤ length samples
     → (key.rate.factor ≢ pos 0) × (key.rate.multiplier ≢ pos 0)

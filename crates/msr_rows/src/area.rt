@@ -1,6 +1,6 @@
 //! The samples of a data area.
 ghost use Rattle.std.specs.Prelude.{◌≡◌, ◌≢◌, ◌≤◌, ◌-◌, ◌↔◌, true, length, IfOk, IfErr, IsTrue};
-ghost use Rattle.msr_rows.specs.Area.{Carries, AreaHasFault, ReverseAgrees};
+ghost use Rattle.msr_rows.specs.Area.{Carries, AreaHasFault, ReverseAgreesIfAny};
 
 use crate::fault::FaultKind;
 use msr_header::Order;
@@ -22,7 +22,7 @@ pub(crate) fn decode_area(
     requires small { length area.now ≤ 1048576 }
     ensures samples { IfOk result (λ d. Carries storage order area.now d.samples) }
     ensures count { IfOk result (λ d. length d.samples ≡ count) }
-    ensures reverse { IfOk result (λ d. IsTrue d.reverse_agrees ↔ ReverseAgrees storage order area.now d.samples) }
+    ensures reverse { IfOk result (λ d. IsTrue d.reverse_agrees ↔ ReverseAgreesIfAny storage order area.now d.samples) }
     ensures fault { IfErr result (λ f. f ≢ FaultKind.Memory → AreaHasFault storage order area.now count f) }
 {
     let Ok(mut values) = spare.into_places(usize::from(count)) else {
