@@ -14,7 +14,7 @@ use Rattle.msr_words.specs.Packing.{IsCanonical}
 use Rattle.msr_kinds.specs.declared.forms.Form.{Form}
 use Rattle.msr_kinds.specs.Lengths.{bytes_of}
 use Rattle.msr_packer.specs.Blocks.{Holding, Packs, pushed}
-use Rattle.msr_packer.specs.HeldSamples.{Shows}
+use Rattle.msr_packer.specs.HeldSamples.{ShowsPiece}
 use Rattle.msr_packer.specs.declared.held.Piece.{Piece}
 use Rattle.msr_packer.proofs.PackingsExist.{HasRest}
 use Rattle.msr_packer.proofs.Holding.{begins_all, begins_rest}
@@ -74,7 +74,7 @@ given_fits form samples runs run separators rest =
 pub can_encode : (whole : Bool) (opened : Opened) (piece : Piece) (separators : List ℕ) (packer : Holding)
     → (can : CanGoOn whole opened) → GivesRuns whole opened.form can.segment.samples
     (can.runs ++ piece.run ∷ []) separators packer
-    → Shows can.segment.samples packer.shown packer.before packer.groups piece
+    → ShowsPiece can.segment.samples packer.shown packer.before packer.groups piece
     → CanEncode (bytes_of opened.form.length) opened.key opened.start packer piece.run
 can_encode whole opened piece separators packer can gives shows =
     let samples = can.segment.samples in

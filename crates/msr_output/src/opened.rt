@@ -6,7 +6,7 @@ ghost use Rattle.msr_kinds.specs.declared.forms.Form.{Form};
 ghost use Rattle.msr_kinds.specs.Lengths.{bytes_of};
 ghost use Rattle.msr_words.specs.Packing.{IsCanonical};
 ghost use Rattle.msr_packer.specs.Blocks.{HoldsFew, left_of, pushed};
-ghost use Rattle.msr_packer.specs.HeldSamples.{Shows, pieces_of, runs_of, separators_of};
+ghost use Rattle.msr_packer.specs.HeldSamples.{ShowsPiece, pieces_of, runs_of, separators_of};
 ghost use Rattle.msr_packer.specs.declared.held.Piece.{Piece};
 ghost use Rattle.msr_record.specs.Written.{IsKey};
 ghost use Rattle.msr_time.specs.Instant.{IsInstant};
@@ -74,7 +74,7 @@ fn next_piece(packer: &mut BlockPacker, whole: bool) -> Option<Piece>
         (separators ++ separators_of (pieces_of result)) packer.new }
     ensures shows { (form : Form) (samples : List ℤ) (runs : List Run) (separators : List ℕ)
         → GivesRuns whole form samples runs separators packer.old
-        → IfSome result (Shows samples packer.new.shown packer.new.before packer.new.groups) }
+        → IfSome result (ShowsPiece samples packer.new.shown packer.new.before packer.new.groups) }
     ensures all { (form : Form) (samples : List ℤ) (runs : List Run) (separators : List ℕ)
         → GivesRuns whole form samples runs separators packer.old
         → whole ≡ true → IsNone result → IsCanonical (records_of form) samples runs separators }
@@ -117,7 +117,7 @@ impl OpenSegment {
         requires least { 1 ≤ number }
         requires most { number ≤ 999_999 }
         ensures { (segment : Segment) (separator : ℕ) → self.now.key ≡ segment.key → self.now.start ≡ segment.start
-            → Shows segment.samples self.now.packer.shown self.now.packer.before self.now.packer.groups
+            → ShowsPiece segment.samples self.now.packer.shown self.now.packer.before self.now.packer.groups
             (record { run = run; separator = separator })
             → OnOk result (AppendsRecordOfRun (bytes_of self.now.form.length) number segment run
             out.old.items out.new.items) }

@@ -4,7 +4,7 @@ use Rattle.msr_words.specs.Fit.{Records, records_of}
 use Rattle.msr_words.specs.declared.kinds.Run.{Run}
 use Rattle.msr_words.specs.Laws.{most_any}
 use Rattle.msr_words.specs.Packing.{IsCanonical}
-use Rattle.msr_packer.specs.HeldSamples.{BeginsAll, HoldsWindow, LeavesFew, Shows, Stays, before_shown, frontier_of, pieces_of, runs_of, separators_of, shown_by, sizes_shown}
+use Rattle.msr_packer.specs.HeldSamples.{BeginsAll, HoldsWindow, LeavesFew, ShowsPiece, Stays, before_shown, frontier_of, pieces_of, runs_of, separators_of, shown_by, sizes_shown}
 use Rattle.msr_packer.specs.declared.held.RunToCut.{RunToCut}
 use Rattle.msr_packer.specs.declared.held.HeldSamples.{HeldSamples}
 use Rattle.msr_packer.specs.declared.held.Piece.{Piece}
@@ -66,7 +66,7 @@ pub record GivesNext (packs : List ℤ → List Run → List ℕ → Holding →
   pub given : (samples : List ℤ) (runs : List Run) (separators : List ℕ) → packs samples runs separators old
       → packs samples (runs ++ runs_of (pieces_of piece)) (separators ++ separators_of (pieces_of piece)) new
   pub shows : (samples : List ℤ) (runs : List Run) (separators : List ℕ) → packs samples runs separators old
-      → IfSome piece (Shows samples new.shown new.before new.groups)
+      → IfSome piece (ShowsPiece samples new.shown new.before new.groups)
 
 -- how many steps can be left at most
 abbrev pub left_of : Holding → ℕ

@@ -128,7 +128,7 @@ pub record ShowsRun (samples shown : List ℤ) (before : Option ℤ) (piece : Pi
   pub before_run : before ≡ before_place samples piece.run.start
 
 -- They are, and the sizes are those of its groups of Steim-2, if these are known.
-pub record Shows (samples shown : List ℤ) (before : Option ℤ) (groups : List ℕ) (piece : Piece) : Type 0 where
+pub record ShowsPiece (samples shown : List ℤ) (before : Option ℤ) (groups : List ℕ) (piece : Piece) : Type 0 where
   pub run : shown ≡ slice_range samples piece.run.start piece.run.end
   pub before_run : before ≡ before_place samples piece.run.start
   pub sizes : AreGroupSizesIfKnown (differences before shown) groups
