@@ -11,7 +11,7 @@ use Rattle.msr_words.specs.Packing.{IsPacking, IsSeparating, Joins, NoneHolds}
 use Rattle.msr_words.proofs.Certificate.{all_split, in_its_run, joins_more}
 use Rattle.msr_words.proofs.LastSamples.{apart_in_window, apart_of_window, apart_stays, apart_was, run_in_window, run_of_window, run_stays, run_was}
 use Rattle.msr_check.proofs.Rising.{separating_all, separating_more}
-use Rattle.msr_check.specs.Judged.{AreShown, IsComplete, FollowsLast, HasLast, HoldsSoFar, IsFollowed, IsSoundLast, Judged, Judges, NoneShows, StandsAt, becomes_last, last_run, next_run, samples_after, without}
+use Rattle.msr_check.specs.Judged.{AreShown, IsComplete, FollowsLast, HasLast, HoldsSoFar, IsFollowed, IsSoundLast, Judged, Judges, NoneShows, HasLastIfAny, becomes_last, last_run, next_run, samples_after, without}
 use Rattle.msr_check.specs.Next.{IsNextSeparator, SeparatingTo}
 use Rattle.msr_check.specs.declared.judge.LastRun.{LastRun}
 
@@ -35,7 +35,7 @@ fits_stay records samples more runs all =
 
 module _ (records : Records) (samples new : List ℤ) (runs : List Run) (separators : List ℕ) (held : List ℤ) where
   -- as many samples came
-  pub number_is : (last : Option LastRun) → StandsAt records samples runs separators held last
+  pub number_is : (last : Option LastRun) → HasLastIfAny records samples runs separators held last
       → samples_after last (length held) ≡ length samples
   number_is None at = sym (ap length at.0)
   number_is (Some last) at =
@@ -51,7 +51,7 @@ module _ (records : Records) (samples new : List ℤ) (runs : List Run) (separat
   more_held last at = ap (λ xs. xs ++ new) at.held_is ∙ sym (drop-append-le at.offset samples new at.within)
 
   -- where they stand in the segment; two of them stand before the end, or all
-  place_held : (last : Option LastRun) → StandsAt records samples runs separators held last
+  place_held : (last : Option LastRun) → HasLastIfAny records samples runs separators held last
       → (o : ℕ) × (o ≤ length samples) × (held ≡ drop o samples) × ((o ≡ 0) ⊎ (2 ≤ length held))
   place_held None at = (0, omega arith, at.2 ∙ sym at.0, inl refl)
   place_held (Some last) at =
@@ -63,7 +63,7 @@ module _ (records : Records) (samples new : List ℤ) (runs : List Run) (separat
   sound_last None next followed = tt
   sound_last (Some last) next followed = followed.0
 
-  module _ (last : Option LastRun) (at : StandsAt records samples runs separators held last) where
+  module _ (last : Option LastRun) (at : HasLastIfAny records samples runs separators held last) where
     -- all runs so far are sound, and join to where the next one starts
     sound_so_far : IsSoundLast records (held ++ new) last (length held)
         → All (λ run. run.start < run.end) runs
@@ -71,7 +71,7 @@ module _ (records : Records) (samples new : List ℤ) (runs : List Run) (separat
         × Joins 0 runs (length samples)
     sound_so_far followed = sound_by last at followed
       where
-        sound_by : (last : Option LastRun) → StandsAt records samples runs separators held last
+        sound_by : (last : Option LastRun) → HasLastIfAny records samples runs separators held last
             → IsSoundLast records (held ++ new) last (length held)
             → All (λ run. run.start < run.end) runs
             × All (λ run. IsRun (FitsIn run.kind records) (samples ++ new) run.start run.end) runs
@@ -155,7 +155,7 @@ module _ (records : Records) (samples new : List ℤ) (runs : List Run) (separat
         let past = follows.past in
         record { within = omega arith; apart = λ some. apart_by last at some follows }
       where
-        apart_by : (last : Option LastRun) → StandsAt records samples runs separators held last → 0 < length runs
+        apart_by : (last : Option LastRun) → HasLastIfAny records samples runs separators held last → 0 < length runs
             → FollowsLast records (held ++ new) last (length held) (slice_index separators (length runs))
             → (slice_index separators (length runs - 1) < slice_index separators (length runs))
             × NoneHolds records (samples ++ new) (slice_index separators (length runs - 1)) (slice_index separators (length runs))
@@ -195,7 +195,7 @@ module _ (records : Records) (samples new : List ℤ) (runs : List Run) (separat
         let past = lies.1 in
         record { from = omega arith; past = omega arith; followed = followed_by last at from }
       where
-        followed_by : (last : Option LastRun) → StandsAt records samples runs separators held last
+        followed_by : (last : Option LastRun) → HasLastIfAny records samples runs separators held last
             → length samples ≤ slice_index separators (length runs)
             → IsFollowed records (held ++ new) last (length held)
             (length held + (slice_index separators (length runs) - samples_after last (length held)))
@@ -374,7 +374,7 @@ module _ (records : Records) (samples : List ℤ) (runs : List Run) (separators 
         (rw append-nil shown.separating) (rw append-nil shown.as_many))
   ]
     where
-      sound_end : (last : Option LastRun) → StandsAt records samples runs separators judged.held last
+      sound_end : (last : Option LastRun) → HasLastIfAny records samples runs separators judged.held last
           → IsSoundLast records judged.held last (length judged.held)
       sound_end None at = tt
       sound_end (Some last) at =

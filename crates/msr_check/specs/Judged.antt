@@ -39,16 +39,16 @@ pub record HasLast (records : Records) (samples : List ℤ) (runs : List Run) (s
   pub joined : Joins 0 earlier last.number
 
 -- before the first run there are no samples
-abbrev pub StandsAt : Records → List ℤ → List Run → List ℕ → List ℤ → Option LastRun → Type 0
-StandsAt records samples runs separators held None = (samples ≡ []) × (runs ≡ []) × (held ≡ [])
-StandsAt records samples runs separators held (Some last) = HasLast records samples runs separators held last
+abbrev pub HasLastIfAny : Records → List ℤ → List Run → List ℕ → List ℤ → Option LastRun → Type 0
+HasLastIfAny records samples runs separators held None = (samples ≡ []) × (runs ≡ []) × (held ≡ [])
+HasLastIfAny records samples runs separators held (Some last) = HasLast records samples runs separators held last
 
 -- All that was judged held: the separators of the runs so far, and each run but the last.
 pub record HoldsSoFar (records : Records) (samples : List ℤ) (runs : List Run) (separators : List ℕ)
     (judged : Judged) : Type 0 where
   pub count_is : judged.count ≡ length runs
   pub separating : SeparatingTo records samples separators (length runs)
-  pub at : StandsAt records samples runs separators judged.held judged.last
+  pub at : HasLastIfAny records samples runs separators judged.held judged.last
 
 -- Whatever samples and runs follow, the runs are no packing for which these separators are separating and as many.
 pub record NoneShows (records : Records) (samples : List ℤ) (runs : List Run) (separators : List ℕ) : Type 0 where
