@@ -16,7 +16,7 @@ use Rattle.msr_segments.specs.Segments.{Part, segment_of, part_span, row_segment
 use Rattle.msr_segments.specs.Joining.{Joining, HasJoined, HasFollowed, following_of}
 use Rattle.msr_segments.proofs.Histories.{followed_none, followed_step}
 use Rattle.msr_input.specs.Input.{Agrees, NoneOverruns, HaveBegun, rows_of_records}
-use Rattle.msr_input.specs.Records.{Position, HaveCome, StopsRecords}
+use Rattle.msr_input.specs.Records.{Position, HaveCome, StopsGiving}
 use Rattle.msr_input.specs.Reading.{GaveReadable, IsWritable, StopsReading, room_with}
 use Rattle.msr_input.specs.Outlines.{outline_of, row_outline, outline_span}
 use Rattle.msr_input.specs.Rows.{RowReading, HasReadRows, ReadsNoRow, ReadsOne, ReadsOutline, ReadsRecord, ReadsRow, ReadsToEnd, StepsTo, StopsRows, AllRowsAreReadable, answer_told, next_outline, next_row, row_settings, row_told}
@@ -95,7 +95,7 @@ rows_come s a b reading new records answers has come =
 
 -- no further record was given
 pub rows_stop : (settings : Settings) (s a : Device) (records : List Record) (why : ReadFault)
-    → StopsRecords settings.strict s a records why → NoneOverruns settings.tolerance records
+    → StopsGiving settings.strict s a records why → NoneOverruns settings.tolerance records
     → StopsRows settings s a records why
 rows_stop settings s a records why stop none =
     λ given begun. stops_reading settings s a records given why stop none begun

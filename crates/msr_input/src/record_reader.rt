@@ -44,7 +44,7 @@ impl RecordReader {
     ghost use Rattle.std.specs.Prelude.{◌≡◌, ◌≢◌, ◌↔◌, ◌≤◌, ◌<◌, ◌⊎◌, List, [], ◌∷◌, ◌++◌, length, true, IsTrue, OnOk, IfOk, IfErr, IsErrOf, MatchResult, MatchOption};
     ghost use Rattle.msr_devices.specs.Device.{Device, CanCountCall, CountsFew, IsSteady};
     ghost use Rattle.msr_rows.specs.declared.row.Record.{Record as Found};
-    ghost use Rattle.msr_input.specs.Records.{HaveCome, HaveComeShort, StopsRecords, left_with};
+    ghost use Rattle.msr_input.specs.Records.{HaveCome, HaveComeShort, StopsGiving, left_with};
     ghost use Rattle.msr_input.specs.Reading.{HoldsRecord};
     ghost use Rattle.msr_input.specs.Steps.{IsGiven, IsRecordAhead};
 
@@ -81,7 +81,7 @@ impl RecordReader {
         ensures came { (start : Device) (records : List Found) → HaveCome start (R.device source.old) self.old records
             → MatchResult result
             (λ _. HaveCome start (R.device source.new) self.new records)
-            (StopsRecords self.old.strict start (R.device source.new) records) }
+            (StopsGiving self.old.strict start (R.device source.new) records) }
         ensures next { IfOk result (λ next. MatchOption next
             ((self.new.waiting ≡ []) × (self.new.ended ≡ true))
             (λ made. IsGiven (F.stands made) self.new.strict self.new.waiting self.new.room self.old.room)) }
