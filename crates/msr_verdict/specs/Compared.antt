@@ -92,7 +92,7 @@ pub record AddsRow (form : Form) (lines : List SegmentLine) (old : Compared) (ro
       (separators_at lines before.place) new.judged
 
 -- a full record: its row ends the open segment if it begins one, and belongs to the one that is open then
-pub record TakesNext (form : Form) (lines : List SegmentLine) (old : Compared) (next : NextRow)
+pub record TakesFullRecord (form : Form) (lines : List SegmentLine) (old : Compared) (next : NextRow)
     (new : Compared) : Type 0 where
   pub ended : Compared
   pub ends : EndsBy form lines next.step old ended
@@ -101,4 +101,4 @@ pub record TakesNext (form : Form) (lines : List SegmentLine) (old : Compared) (
 -- a record that is not full agrees with no report
 abbrev pub TakesRow : Form → List SegmentLine → Compared → Option NextRow → Compared → Type 0
 TakesRow form lines old None new = new.agrees ≡ false
-TakesRow form lines old (Some next) new = TakesNext form lines old next new
+TakesRow form lines old (Some next) new = TakesFullRecord form lines old next new
