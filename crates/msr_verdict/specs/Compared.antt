@@ -99,6 +99,6 @@ pub record TakesFullRecord (form : Form) (lines : List SegmentLine) (old : Compa
   pub adds : AddsRow form lines ended next.row new
 
 -- a record that is not full agrees with no report
-abbrev pub TakesRow : Form → List SegmentLine → Compared → Option NextRow → Compared → Type 0
-TakesRow form lines old None new = new.agrees ≡ false
-TakesRow form lines old (Some next) new = TakesFullRecord form lines old next new
+abbrev pub TakesRecord : Form → List SegmentLine → Compared → Option NextRow → Compared → Type 0
+TakesRecord form lines old None new = new.agrees ≡ false
+TakesRecord form lines old (Some next) new = TakesFullRecord form lines old next new
