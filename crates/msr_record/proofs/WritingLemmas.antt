@@ -11,7 +11,7 @@ use Rattle.msr_time.proofs.SignedFacts.{signed_arith}
 use Rattle.msr_time.specs.declared.btime.BTime.{BTime}
 use Rattle.msr_time.specs.Instant.{IsSplit, instant_of}
 use Rattle.msr_header.specs.Reading.{header_of, is_sequence_byte, is_quality}
-use Rattle.msr_header.specs.Writing.{header_bytes, IsWritableHeader, as_read}
+use Rattle.msr_header.specs.Writing.{header_bytes, IsWritableHeader, header_as_read}
 use Rattle.msr_base.specs.declared.order.Order.TheVariants.{Big}
 use Rattle.msr_header.specs.declared.header.Header.{Header}
 use Rattle.msr_kinds.specs.RecordLength.{least_exponent, most_exponent}
@@ -116,7 +116,7 @@ pub appends_record : (old new front area : List ℕ) (key : Key) (start : ℤ) (
     → length area ≡ size - 64
     → ((rest : List ℕ) → IsWritableHeader (header_for key time micros sequence count kind exponent frames)
     → 2 ^ exponent ≤ 64 + length rest → header_of (front ++ rest)
-    ≡ Ok (as_read (header_for key time micros sequence count kind exponent frames)))
+    ≡ Ok (header_as_read (header_for key time micros sequence count kind exponent frames)))
     → Carries (storage_of kind) Big area samples
     → ReverseAgreesIfAny (storage_of kind) Big area samples
     → IsSplit start time micros → size ≡ 2 ^ exponent → least_exponent ≤ exponent → exponent ≤ most_exponent
