@@ -9,7 +9,7 @@ use Rattle.msr_base.specs.declared.order.Order.{Order}
 use Rattle.msr_steim.specs.declared.sums.Progress.{Progress}
 use Rattle.msr_steim.specs.declared.word.WordLayout.{WordLayout}
 use Rattle.msr_kinds.specs.declared.storage.Version.{Version}
-use Rattle.msr_steim.specs.Area.{FirstWordsHold, WordHolds, arranged_word, code_of, constant, differences, samples_of, sums_after, whole_word, word_count}
+use Rattle.msr_steim.specs.Area.{FirstWordsHold, WordHolds, arranged_word, word_code, constant, differences, samples_of, sums_after, whole_word, word_count}
 use Rattle.msr_steim.specs.InOrder.{BeginsAfter, differences_from, numbers_of, word_differences}
 use Rattle.msr_steim.specs.Sums.{IsWritten, ReachesEnd}
 use Rattle.msr_steim.specs.Word.{AreFields, layout_of}
@@ -31,7 +31,7 @@ held_differences : (version : Version) (order : Order) (area : List ℕ) (number
     → WordHolds version order area number group → word_differences version order area number ≡ group
 unfolding word_differences
 held_differences version order area number group holds =
-    let code = code_of order area number in
+    let code = word_code order area number in
     let word = arranged_word version order code area number in
     let layout = layout_of version code (word / 2 ^ 30) in
     holds_one version code word (numbers_of layout word) group
@@ -103,7 +103,7 @@ begins_here version order area count number samples group last read none begins 
 -- the first samples begin after it, the others after the one before
 pub starts_here : (version : Version) (order : Order) (area : List ℕ) (number code word : ℕ) (at : Progress) (out : List ℤ)
     → IsReached version order area number at out → (at.place ≡ 0 → BeginsAfter version order area at.last)
-    → number < word_count area → code ≡ code_of order area number
+    → number < word_count area → code ≡ word_code order area number
     → word ≡ arranged_word version order code area number → IsStart version code word (constant order area 1) at at
 starts_here version order area number code word at out reached begins within code_is word_is = record {
   place = refl;
@@ -150,7 +150,7 @@ end_reached version code word at next old new ends written room same =
 -- the highest bits are the code of the next word
 pub code_here : (order : Order) (area : List ℕ) (frame slot codes : ℕ) → 1 ≤ slot → slot < 16
     → 3 ≤ 16 * frame + slot → codes ≡ whole_word order area (16 * frame) * 2 ^ (2 * slot) % 4294967296
-    → codes / 1073741824 ≡ code_of order area (16 * frame + slot)
+    → codes / 1073741824 ≡ word_code order area (16 * frame + slot)
 code_here order area frame slot codes some small late same =
     let word = whole_word order area (16 * frame) in
     code_data order area frame slot word (codes / 1073741824) some small late refl

@@ -8,7 +8,7 @@ use Rattle.msr_base.specs.declared.order.Order.{Order}
 use Rattle.msr_steim.specs.declared.sums.Progress.{Progress}
 use Rattle.msr_steim.specs.declared.word.WordLayout.{WordLayout}
 use Rattle.msr_kinds.specs.declared.storage.Version.{Version}
-use Rattle.msr_steim.specs.Area.{CarriesSteim, WordHolds, arranged_word, code_of, constant, differences, samples_of, sums_after, whole_word, word_count}
+use Rattle.msr_steim.specs.Area.{CarriesSteim, WordHolds, arranged_word, word_code, constant, differences, samples_of, sums_after, whole_word, word_count}
 use Rattle.msr_steim.specs.InOrder.{BeginsAfter, CarriesCount, differences_from}
 use Rattle.msr_steim.specs.Sums.{IsInnerWritten, ReachesEnd}
 use Rattle.msr_steim.specs.Word.{AreFields, IsUndefinedWord, layout_of, numbers_in}
@@ -83,7 +83,7 @@ pub record IsLookedAt (version : Version) (order : Order) (area : List ℕ) (num
   pub inner : IsInnerWritten version code word at old new next
   pub zeroth : at.place ≡ 0
   pub same : length new ≡ length old
-  pub code_is : code ≡ code_of order area number
+  pub code_is : code ≡ word_code order area number
   pub word_is : word ≡ arranged_word version order code area number
   pub within : number < word_count area
 

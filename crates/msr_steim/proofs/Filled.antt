@@ -22,7 +22,7 @@ use Rattle.msr_base.specs.declared.order.Order.TheVariants.{Big}
 use Rattle.msr_kinds.specs.declared.storage.Version.{Version}
 use Rattle.msr_kinds.specs.declared.storage.Version.TheVariants.{One, Two}
 use Rattle.msr_steim.specs.Word.{AreGroups, FitsBits, Holds, IsGroup, IsInnerGroup, IsWordOf, as_read, layout_of, group_code, group_width, group_word, joined_fields, padding_of}
-use Rattle.msr_steim.specs.Area.{CarriesSteim, FirstWordsHold, ReverseAgrees, WordHolds, arranged_word, code_of, constant, differences, samples_of, sums_after, whole_word}
+use Rattle.msr_steim.specs.Area.{CarriesSteim, FirstWordsHold, ReverseAgrees, WordHolds, arranged_word, word_code, constant, differences, samples_of, sums_after, whole_word}
 use Rattle.msr_steim.specs.Frames.{code_in, codes_word, differences_after, frame_bytes, frame_word, frame_words, group_in}
 use Rattle.msr_steim.proofs.Fields.{joined_fields_lt, all_fit_zeros, pow_pow}
 use Rattle.msr_steim.proofs.OneList.{number_after}
@@ -248,7 +248,7 @@ code_cases version false g x e = e
 -- a code of the area is the code of the word with that number
 code_is : (version : Version) (first last : ℤ) (gs : List (List ℤ)) (frames number : ℕ) → AreGroups version gs
     → SFits w32 first → SFits w32 last → number < 16 * frames
-    → code_of Big (frame_bytes version first last gs frames) number ≡ code_in version gs number
+    → word_code Big (frame_bytes version first last gs frames) number ≡ code_in version gs number
 code_is version first last gs frames number are f g within =
     let s = number / 16 * 16 in
     let p = number % 16 in
@@ -332,10 +332,10 @@ word_holds_group : (version : Version) (first last : ℤ) (gs : List (List ℤ))
     → WordHolds version Big (frame_bytes version first last gs frames) number (as_read version (group_in gs number))
 word_holds_group version first last gs frames number are f g within =
     let area = frame_bytes version first last gs frames in
-    held_here version gs number (code_of Big area number)
-    (arranged_word version Big (code_of Big area number) area number) are
+    held_here version gs number (word_code Big area number)
+    (arranged_word version Big (word_code Big area number) area number) are
     (code_is version first last gs frames number are f g within)
-    (λ e. arranged_is version (code_of Big area number) area number
+    (λ e. arranged_is version (word_code Big area number) area number
     ∙ word_is version first last gs frames number are f g within ∙ data_word version first last gs number e)
 
 pub length-frame_bytes : (version : Version) (first last : ℤ) (gs : List (List ℤ)) (frames : ℕ)

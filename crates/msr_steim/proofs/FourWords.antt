@@ -14,7 +14,7 @@ use Rattle.msr_base.specs.declared.order.Order.TheVariants.{Big, Little}
 use Rattle.msr_kinds.specs.declared.storage.Version.{Version}
 use Rattle.msr_kinds.specs.declared.storage.Version.TheVariants.{One, Two}
 use Rattle.msr_steim.specs.declared.sums.Progress.{Progress}
-use Rattle.msr_steim.specs.Area.{FirstWordsHold, WordHolds, code_of, constant, differences, samples_of, sums_after, whole_word, word_count}
+use Rattle.msr_steim.specs.Area.{FirstWordsHold, WordHolds, word_code, constant, differences, samples_of, sums_after, whole_word, word_count}
 use Rattle.msr_steim.specs.InOrder.{BeginsAfter, differences_from}
 use Rattle.msr_steim.specs.Sums.{AreSumsWritten}
 use Rattle.msr_steim.specs.Word.{AreFields, layout_of, numbers_in, signed_of}
@@ -193,13 +193,13 @@ byte_groups area number (suc words) =
 
 pub byte_groups_hold : (version : Version) (area : List ℕ) (number words : ℕ)
     → ((k : ℕ) → Fits w8 (get_or area k 0)) → 4 * (number + words) ≤ length area
-    → ((k : ℕ) → k < words → code_of Big area (number + k) ≡ 1)
+    → ((k : ℕ) → k < words → word_code Big area (number + k) ≡ 1)
     → HoldFrom version Big area number (byte_groups area number words)
 byte_groups_hold version area number zero fits within codes = tt
 byte_groups_hold version area number (suc words) fits within codes = (
   here,
   byte_groups_hold version area (number + 1) words fits (omega (arith, within))
-      (λ k less. ap (code_of Big area) (next k) ∙ codes (suc k) (omega (arith, less))),
+      (λ k less. ap (word_code Big area) (next k) ∙ codes (suc k) (omega (arith, less))),
 )
   where
     next : (k : ℕ) → number + 1 + k ≡ number + suc k
@@ -210,8 +210,8 @@ byte_groups_hold version area number (suc words) fits within codes = (
         let bytes = drop (4 * number) area in
         let word = whole_word Big area number in
         let same : number + 0 ≡ number = omega arith in
-        let code_is : 1 ≡ code_of Big area number =
-        sym (ap (code_of Big area) (sym same) ∙ codes 0 (omega arith)) in
+        let code_is : 1 ≡ word_code Big area number =
+        sym (ap (word_code Big area) (sym same) ∙ codes 0 (omega arith)) in
         let numbers : numbers_in word 8 4 ≡ map (signed_of 8) (take 4 bytes) =
         word_of_bytes bytes (omega (arith, length-drop (4 * number) area, within))
         (λ k. subst (Fits w8) (sym (get_or-drop (4 * number) area k 0)) (fits (4 * number + k))) in
@@ -263,12 +263,12 @@ highest codes (suc (suc (suc (suc k)))) ones less = absurd (omega (arith, less))
 
 pub codes_are_ones : (order : Order) (area : List ℕ) (frame slot codes : ℕ) → 1 ≤ slot → 3 ≤ 16 * frame + slot
     → codes ≡ whole_word order area (16 * frame) * 2 ^ (2 * slot) % 4294967296 → codes / 16777216 ≡ 85
-    → (k : ℕ) → k < 4 → code_of order area (16 * frame + slot + k) ≡ 1
+    → (k : ℕ) → k < 4 → word_code order area (16 * frame + slot + k) ≡ 1
 codes_are_ones order area frame slot codes some late same ones k less =
     let word = whole_word order area (16 * frame) in
     let within : slot + 4 ≤ 16 = four_left word slot codes same ones in
     let number : 16 * frame + (slot + k) ≡ 16 * frame + slot + k = omega arith in
-    ap (code_of order area) (sym number)
+    ap (word_code order area) (sym number)
     ∙ sym (code_here order area frame (slot + k) (codes * 2 ^ (2 * k) % 4294967296) (omega (arith, some))
     (omega (arith, within, less)) (omega (arith, late)) (codes_by codes word slot k same)) ∙ highest codes k ones less
 

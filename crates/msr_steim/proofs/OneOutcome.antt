@@ -7,7 +7,7 @@ use Rattle.std.proofs.lemmas.Grind.{flat_map-append}
 use Rattle.std.proofs.lemmas.List.{take-append-drop, take-append-le, length-take, get_or-take}
 use Rattle.msr_base.specs.declared.order.Order.{Order}
 use Rattle.msr_kinds.specs.declared.storage.Version.{Version}
-use Rattle.msr_steim.specs.Area.{CarriesSteim, EndsBefore, FirstWordsHold, IsUndefined, IsUndefinedBefore, arranged_word, code_of, constant, differences, samples_of, sums_after}
+use Rattle.msr_steim.specs.Area.{CarriesSteim, EndsBefore, FirstWordsHold, IsUndefined, IsUndefinedBefore, arranged_word, word_code, constant, differences, samples_of, sums_after}
 use Rattle.msr_steim.proofs.OneList.{holds_one, undefined_holds_none}
 use Rattle.msr_steim.proofs.Decoding.{length-samples_of}
 
@@ -17,8 +17,8 @@ same_groups : (version : Version) (order : Order) (area : List ℕ) (gs hs : Lis
     → gs ≡ take (length gs) hs
 same_groups version order area gs hs f g few =
     ext_get_or [] gs (take (length gs) hs) (sym (length-take (length gs) hs ∙ omega arith))
-    (λ k (within : k < length gs). holds_one version (code_of order area k)
-    (arranged_word version order (code_of order area k) area k) (get_or gs k []) (get_or (take (length gs) hs) k [])
+    (λ k (within : k < length gs). holds_one version (word_code order area k)
+    (arranged_word version order (word_code order area k) area k) (get_or gs k []) (get_or (take (length gs) hs) k [])
     (f.each k within) (rw (get_or-take (length gs) hs k [] within) (g.each k (omega arith))))
 
 -- so the differences of fewer words begin those of more
@@ -53,8 +53,8 @@ enough_after version order area gs hs count f g few enough =
 undefined_not_held : (version : Version) (order : Order) (area : List ℕ) (hs : List (List ℤ)) (number : ℕ)
     → IsUndefined version order area number → FirstWordsHold version order area hs → number < length hs → ⊥
 undefined_not_held version order area hs number undefined held within =
-    undefined_holds_none version (code_of order area number)
-    (arranged_word version order (code_of order area number) area number) (get_or hs number []) undefined
+    undefined_holds_none version (word_code order area number)
+    (arranged_word version order (word_code order area number) area number) (get_or hs number []) undefined
     (held.each number within)
 
 pub not_short : (version : Version) (order : Order) (area : List ℕ) (samples : List ℤ)

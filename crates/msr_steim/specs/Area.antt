@@ -22,8 +22,8 @@ whole_word Little area number = little_number 4 (drop (4 * number) area)
 -- the two-bit code of a word: the first word of its frame has the codes of all sixteen, the first in
 -- its highest bits. That word and the two constants of the first frame have no differences, as if their
 -- code was 0.
-abbrev pub code_of : Order → List ℕ → ℕ → ℕ
-code_of order area number =
+abbrev pub word_code : Order → List ℕ → ℕ → ℕ
+word_code order area number =
     if nat_lt number 3 || number % 16 == 0 then 0
     else whole_word order area (number / 16 * 16) / 2 ^ (30 - 2 * (number % 16)) % 4
 
@@ -42,13 +42,13 @@ arranged_word Two Little code area number =
 -- the word with this number holds these differences
 abbrev pub WordHolds : Version → Order → List ℕ → ℕ → List ℤ → Type 0
 WordHolds version order area number =
-    Holds version (code_of order area number) (arranged_word version order (code_of order area number) area number)
+    Holds version (word_code order area number) (arranged_word version order (word_code order area number) area number)
 
 -- the word with this number is undefined
 abbrev pub IsUndefined : Version → Order → List ℕ → ℕ → Type 0
 IsUndefined version order area number =
-    IsUndefinedWord version (code_of order area number)
-    (arranged_word version order (code_of order area number) area number)
+    IsUndefinedWord version (word_code order area number)
+    (arranged_word version order (word_code order area number) area number)
 
 -- the first words hold these groups, one each
 pub record FirstWordsHold (version : Version) (order : Order) (area : List ℕ) (groups : List (List ℤ)) : Type 0 where
