@@ -8,7 +8,7 @@ use Rattle.msr_base.specs.declared.order.Order.{Order}
 use Rattle.msr_steim.specs.declared.sums.Progress.{Progress}
 use Rattle.msr_steim.specs.declared.word.WordLayout.{WordLayout}
 use Rattle.msr_kinds.specs.declared.storage.Version.{Version}
-use Rattle.msr_steim.specs.Area.{CarriesSteim, WordHolds, arranged_word, word_code, constant, differences, samples_of, sums_after, whole_word, word_count}
+use Rattle.msr_steim.specs.Area.{CarriesSteim, WordHolds, arranged_word, word_code, constant, joined_groups, samples_of, sums_after, whole_word, word_count}
 use Rattle.msr_steim.specs.InOrder.{BeginsAfter, CarriesCount, differences_from}
 use Rattle.msr_steim.specs.Sums.{IsInnerWritten, ReachesEnd}
 use Rattle.msr_steim.specs.Word.{AreFields, IsUndefinedWord, layout_of, numbers_in}
@@ -211,7 +211,7 @@ module _ (version : Version) (order : Order) (area : List ℕ) (number count lef
         passed.left_is,
         passed.read.few,
         ap length passed.read.sums,
-        length-samples_of (constant order area 1) (differences passed.read.groups),
+        length-samples_of (constant order area 1) (joined_groups passed.read.groups),
       ) in
       let some : 0 < length last =
       omega (arith, few, ap length last_is, length-take left new, enough, looked.inner.room, looked.same) in
@@ -235,8 +235,8 @@ pub in_order_is : (version : Version) (order : Order) (area : List ℕ) (ds samp
 in_order_is version order area ds samples before c same begins =
     let first = constant order area 1 in
     let more = differences_from version order area (length c.groups) in
-    let spread : differences_from version order area 0 ≡ differences c.groups ++ more =
+    let spread : differences_from version order area 0 ≡ joined_groups c.groups ++ more =
     held_in_order version order area c.groups (length c.groups) c.held (omega arith)
-    ∙ ap (λ gs. differences gs ++ more) (take_all (length c.groups) c.groups (omega arith)) in
-    c.sums ∙ sym (samples_more first (differences c.groups) more (length samples) c.enough)
+    ∙ ap (λ gs. joined_groups gs ++ more) (take_all (length c.groups) c.groups (omega arith)) in
+    c.sums ∙ sym (samples_more first (joined_groups c.groups) more (length samples) c.enough)
     ∙ ap (λ xs. take (length samples) (samples_of first xs)) (sym spread ∙ same) ∙ ap (take (length samples)) begins

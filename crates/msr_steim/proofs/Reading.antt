@@ -9,7 +9,7 @@ use Rattle.msr_base.specs.declared.order.Order.{Order}
 use Rattle.msr_steim.specs.declared.sums.Progress.{Progress}
 use Rattle.msr_kinds.specs.declared.storage.Version.{Version}
 use Rattle.msr_kinds.specs.declared.storage.Version.TheVariants.{One, Two}
-use Rattle.msr_steim.specs.Area.{CarriesSteim, IsUndefined, IsUndefinedBefore, WordHolds, arranged_word, word_code, constant, differences, samples_of, sums_after, whole_word, word_count}
+use Rattle.msr_steim.specs.Area.{CarriesSteim, IsUndefined, IsUndefinedBefore, WordHolds, arranged_word, word_code, constant, joined_groups, samples_of, sums_after, whole_word, word_count}
 use Rattle.msr_steim.specs.Sums.{IsWritten}
 use Rattle.msr_steim.specs.Word.{Holds, IsUndefinedWord, layout_of}
 use Rattle.msr_steim.proofs.Decoding.{AreReadBelow, differences_push, length-samples_of, one_more_held, read_enough, read_more}
@@ -203,8 +203,8 @@ skip_one version order area count n first samples read within none =
     let empty : WordHolds version order area n [] =
     held_so version order area n 0 word [] (sym none) refl
     (holds_none version 0 word (no_layout version (word / 2 ^ 30))) in
-    let same : differences (read.groups ++ [] ∷ []) ≡ differences read.groups = differences_push read.groups []
-    ∙ append-nil (differences read.groups) in
+    let same : joined_groups (read.groups ++ [] ∷ []) ≡ joined_groups read.groups = differences_push read.groups []
+    ∙ append-nil (joined_groups read.groups) in
     record {
       groups = read.groups ++ [] ∷ [];
       held = one_more_held version order area read.groups [] read.held (omega (arith, read.number_is, within))

@@ -57,8 +57,8 @@ pub record FirstWordsHold (version : Version) (order : Order) (area : List ℕ) 
       → WordHolds version order area number (slice_index_or groups number [])
 
 -- the differences of some groups, one group after the other
-abbrev pub differences : List (List ℤ) → List ℤ
-differences groups = flat_map (λ group. group) groups
+abbrev pub joined_groups : List (List ℤ) → List ℤ
+joined_groups groups = flat_map (λ group. group) groups
 
 -- a constant of the first frame: word 1 is the first sample, word 2 the last
 abbrev pub constant : Order → List ℕ → ℕ → ℤ
@@ -80,8 +80,8 @@ samples_of first (d ∷ ds) = first ∷ sums_after first ds
 pub record CarriesSteim (version : Version) (order : Order) (area : List ℕ) (samples : List ℤ) : Type 0 where
   pub groups : List (List ℤ)
   pub held : FirstWordsHold version order area groups
-  pub enough : length samples ≤ length (differences groups)
-  pub sums : samples ≡ take (length samples) (samples_of (constant order area 1) (differences groups))
+  pub enough : length samples ≤ length (joined_groups groups)
+  pub sums : samples ≡ take (length samples) (samples_of (constant order area 1) (joined_groups groups))
 
 -- the last of these samples is the reverse constant, word 2
 abbrev pub ReverseAgrees : Order → List ℕ → List ℤ → Type 0
@@ -92,7 +92,7 @@ pub record EndsBefore (version : Version) (order : Order) (area : List ℕ) (cou
   pub groups : List (List ℤ)
   pub held : FirstWordsHold version order area groups
   pub all : length groups ≡ word_count area
-  pub few : length (differences groups) < count
+  pub few : length (joined_groups groups) < count
 
 -- the word with this number is undefined, and those before it hold lists with fewer differences than this
 pub record IsUndefinedBefore (version : Version) (order : Order) (area : List ℕ) (count number : ℕ) : Type 0 where
@@ -100,7 +100,7 @@ pub record IsUndefinedBefore (version : Version) (order : Order) (area : List �
   pub held : FirstWordsHold version order area groups
   pub first : length groups ≡ number
   pub within : number < word_count area
-  pub few : length (differences groups) < count
+  pub few : length (joined_groups groups) < count
   pub undefined : IsUndefined version order area number
 
 -- why the area does not carry `count` samples: its words end first, or an undefined word comes first
