@@ -7,7 +7,7 @@ use Rattle.msr_devices.specs.declared.fault.DeviceFault.TheVariants as fill
 use Rattle.msr_devices.proofs.Chaining.{calm_calm, calm_failed, calm_same, gives_append, left_of, steady_sound, steady_steady, steady_then_few}
 use Rattle.msr_report.specs.declared.report.Report.{Report}
 use Rattle.msr_report_reader.specs.Draft.{HasRead, IsDraftStep, IsConsumed}
-use Rattle.msr_report_reader.specs.Reading.{IsReadFrom, ReadsReport, fault_of_fill}
+use Rattle.msr_report_reader.specs.Reading.{IsReadFrom, ReadsReport, report_fault_of_fill}
 use Rattle.msr_report_reader.specs.TextFault.{IsTextFault}
 use Rattle.msr_report_reader.specs.declared.draft.Draft.{Draft}
 use Rattle.msr_report_reader.specs.declared.draft.Progress.{Progress}
@@ -18,7 +18,7 @@ use Rattle.msr_report_reader.specs.declared.fault.ReportFault.TheVariants.{Line,
 use Rattle.msr_report_reader.proofs.Steps.{drop_taken}
 
 pub stopped : (source : Device) (why : DeviceFault)
-    → (text : List ℕ) × HasLeft source text × ReadsReport text (Err (fault_of_fill why))
+    → (text : List ℕ) × HasLeft source text × ReadsReport text (Err (report_fault_of_fill why))
 stopped source fill.Failed = let left = left_of source in (left.0, left.1, tt)
 stopped source fill.Memory = let left = left_of source in (left.0, left.1, tt)
 
@@ -34,7 +34,7 @@ judged start now bytes Memory came fault = let left = left_of start in (left.0, 
 -- a source that was not read to its end failed, or memory was refused
 pub stopped_tells : {T : Type 0} (start old new : Device) (want : ℕ) (before after : Window) (why : DeviceFault)
     → IsCalm start old → StopsFilling want old new before after why
-    → IsErrOf {T = T} (Err (fault_of_fill why)) Read ↔ HasFailed start new
+    → IsErrOf {T = T} (Err (report_fault_of_fill why)) Read ↔ HasFailed start new
 stopped_tells start old new want before after fill.Failed calm stops =
     ((λ e. calm_failed start old new calm stops.0), (λ has_failed. refl))
 stopped_tells start old new want before after fill.Memory calm stops = (
