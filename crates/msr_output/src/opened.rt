@@ -5,7 +5,7 @@ ghost use Rattle.msr_words.specs.declared.kinds.Run.{Run};
 ghost use Rattle.msr_kinds.specs.declared.forms.Form.{Form};
 ghost use Rattle.msr_kinds.specs.Lengths.{bytes_of};
 ghost use Rattle.msr_words.specs.Packing.{IsCanonical};
-ghost use Rattle.msr_packer.specs.Blocks.{HoldsFew, left_of, pushed};
+ghost use Rattle.msr_packer.specs.Blocks.{HoldsFew, steps_left, pushed};
 ghost use Rattle.msr_packer.specs.HeldSamples.{ShowsPiece, pieces_of, runs_of, separators_of};
 ghost use Rattle.msr_packer.specs.declared.held.Piece.{Piece};
 ghost use Rattle.msr_record.specs.Written.{IsKey};
@@ -78,7 +78,7 @@ fn next_piece(packer: &mut BlockPacker, whole: bool) -> Option<Piece>
     ensures all { (form : Form) (samples : List ℤ) (runs : List Run) (separators : List ℕ)
         → GivesRuns whole form samples runs separators packer.old
         → whole ≡ true → IsNone result → IsCanonical (records_of form) samples runs separators }
-    ensures fewer { IfSome result (λ _. left_of packer.new < left_of packer.old) }
+    ensures fewer { IfSome result (λ _. steps_left packer.new < steps_left packer.old) }
     ensures count { pushed packer.new ≡ pushed packer.old }
     ensures few { whole ≡ false → IsNone result → HoldsFew packer.new }
 {
@@ -150,7 +150,7 @@ impl OpenSegment {
         ensures can { OnOk result (CanGoOn whole self.new) }
         ensures appends { (segment : Segment) (runs : List Run) → IsOpen whole segment runs self.old
             → IfOk result (λ more. EncodesNext whole segment runs self.new number out.old.items out.new.items more) }
-        ensures fewer { IfOk result (λ more. IsTrue more → left_of self.new.packer < left_of self.old.packer) }
+        ensures fewer { IfOk result (λ more. IsTrue more → steps_left self.new.packer < steps_left self.old.packer) }
         ensures form { self.new.form ≡ self.old.form }
         ensures count { pushed self.new.packer ≡ pushed self.old.packer }
         ensures key { self.new.key ≡ self.old.key }

@@ -69,8 +69,8 @@ pub record GivesNext (packs : List ℤ → List Run → List ℕ → Holding →
       → IfSome piece (ShowsPiece samples new.shown new.before new.groups)
 
 -- how many steps can be left at most
-abbrev pub left_of : Holding → ℕ
-left_of packer = (if packer.ended then 0 else 1) + (length packer.held - frontier_of packer.current)
+abbrev pub steps_left : Holding → ℕ
+steps_left packer = (if packer.ended then 0 else 1) + (length packer.held - frontier_of packer.current)
 
 -- at most one longest run is held after the frontier
 abbrev pub HoldsFew : Holding → Type 0
