@@ -1,13 +1,13 @@
 //! Whether channels alternate in what was repacked.
 ghost use Rattle.std.specs.Prelude.{◌≡◌, ◌↔◌, ◌-◌, IsTrue};
-ghost use Rattle.msr_report.specs.Proper.{records_of};
+ghost use Rattle.msr_report.specs.Proper.{records_in};
 ghost use Rattle.msr_command.specs.Turns.{AreTurns};
 
 use msr_tool::{Report, SegmentLine};
 
 /// How many records fewer were written than were read.
 fn saved(read: u64, segments: &[SegmentLine]) -> u64
-    ensures { result ≡ read - records_of segments.now }
+    ensures { result ≡ read - records_in segments.now }
 {
     let mut left = read;
     for line in segments {

@@ -3,7 +3,7 @@ use Rattle.std.proofs.Common.{◌≡◌, ◌∙◌, ap, sym, refl, rules, arith,
 use Rattle.std.proofs.lemmas.List.{append-nil}
 use Rattle.msr_kinds.specs.declared.kinds.Kinds.{Kinds}
 use Rattle.msr_kinds.specs.declared.kinds.Kinds.TheVariants.{All as AllKinds, WithoutInt24}
-use Rattle.msr_report.specs.Proper.{records_of}
+use Rattle.msr_report.specs.Proper.{records_in}
 use Rattle.msr_report.specs.Text.{segment_words, separators_line, end_line, kinds_words, kinds_line, counts_line}
 use Rattle.msr_base.specs.declared.counts.Counts.{Counts}
 use Rattle.msr_report.specs.declared.report.SegmentLine.{SegmentLine}
@@ -240,13 +240,13 @@ before_second text bytes tolerance kinds counts segments rest more line going is
 -- when the last line was read
 pub before_behind : (text : List ℕ) (bytes tolerance : ℕ) (kinds : Kinds) (counts : Counts)
     (segments : List SegmentLine) (rest more : List ℕ) → Going text bytes tolerance kinds counts segments rest
-    → records_of segments < 2 ^ 64 → rest ≡ end_line (length segments) (records_of segments) ++ more
+    → records_in segments < 2 ^ 64 → rest ≡ end_line (length segments) (records_in segments) ++ more
     → BeginsReport text (suc (lines_before kinds + 2 * length segments))
 before_behind text bytes tolerance kinds counts segments rest more going fits is =
-    let body : List ℕ = end_body (length segments) (records_of segments) in
+    let body : List ℕ = end_body (length segments) (records_in segments) in
     let end : List ℕ = end_line (length (map content_line segments)) (content_records (map content_line segments)) in
-    let last : body ++ (10 ∷ []) ≡ end = sym (end_then (length segments) (records_of segments) [])
-    ∙ append-nil (end_line (length segments) (records_of segments))
+    let last : body ++ (10 ∷ []) ≡ end = sym (end_then (length segments) (records_in segments) [])
+    ∙ append-nil (end_line (length segments) (records_in segments))
     ∙ rw (length-lines segments, records_same segments) refl in
     record {
       content = content_from bytes tolerance kinds counts (map content_line segments);
@@ -255,9 +255,9 @@ before_behind text bytes tolerance kinds counts segments rest more going fits is
       rest = [];
       is_content = record { first = going.is_first; segments = going.each };
       lines = more_lines text bytes tolerance kinds counts segments rest body going
-          (end_is_one (length segments) (records_of segments));
+          (end_is_one (length segments) (records_in segments));
       shown = more_shown text bytes tolerance kinds counts going.lines rest body more going.shown
-          (is ∙ end_then (length segments) (records_of segments) more);
+          (is ∙ end_then (length segments) (records_in segments) more);
       begins = record {
         segments = going.lines;
         are = going.are;

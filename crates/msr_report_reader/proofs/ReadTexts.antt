@@ -6,7 +6,7 @@ use Rattle.msr_kinds.specs.Lengths.{bytes_of}
 use Rattle.msr_kinds.specs.declared.kinds.Kinds.{Kinds}
 use Rattle.msr_kinds.specs.declared.kinds.Kinds.TheVariants.{All as AllKinds, WithoutInt24}
 use Rattle.msr_rows.specs.declared.row.Key.{Key}
-use Rattle.msr_report.specs.Proper.{records_of}
+use Rattle.msr_report.specs.Proper.{records_in}
 use Rattle.msr_report.specs.Text.{separators_line, kinds_line, counts_line}
 use Rattle.msr_base.specs.declared.counts.Counts.{Counts}
 use Rattle.msr_report.specs.declared.report.SegmentLine.{SegmentLine}
@@ -154,7 +154,7 @@ going_of first segments past rest read =
       is_first = read.is_first;
       shown = shown;
       at = at_numbers (0 + length (map content_line segments)) (length segments)
-          (0 + content_records (map content_line segments)) (records_of segments)
+          (0 + content_records (map content_line segments)) (records_in segments)
           (lines_before first.kinds + 2 * length (map content_line segments))
           (lines_before first.kinds + 2 * length segments) (past ++ rest) rest
           (omega (arith, length-lines segments)) (omega (arith, records_same segments))

@@ -6,7 +6,7 @@ use Rattle.std.proofs.lemmas.List.Elements.{All-push}
 use Rattle.std.specs.List.{list_any}
 use Rattle.msr_time.specs.Instant.{IsInstant}
 use Rattle.msr_kinds.specs.Lengths.{bytes_of}
-use Rattle.msr_report.specs.Proper.{records_of}
+use Rattle.msr_report.specs.Proper.{records_in}
 use Rattle.msr_report.specs.Text.{separators_line, end_line}
 use Rattle.msr_report.specs.declared.report.SegmentLine.{SegmentLine}
 use Rattle.msr_report.specs.declared.report.Report.{Report}
@@ -166,7 +166,7 @@ pub end_step : (old new : Draft) (first : FirstLines) (text rest : List ℕ) (n 
     → new.expected ≡ End first → new.segments.items ≡ old.segments.items → new.numbers.items ≡ old.numbers.items
     → IsLast old.segments.items text rest → n ≡ length text - length rest → IsConsumed old new text n
 end_step old new first text rest n expected new_expected segments numbers last count =
-    let taken : List ℕ = end_line (length old.segments.items) (records_of old.segments.items) in
+    let taken : List ℕ = end_line (length old.segments.items) (records_in old.segments.items) in
     let long : 4 ≤ length taken = simp length-append (omega arith) in
     let size : n ≡ length taken =
     omega (arith, count, ap (λ (l : List ℕ). length l) last.is, length-append taken rest) in
@@ -307,7 +307,7 @@ pub whole_report : (report : Report) (first : FirstLines) (past : List ℕ) → 
     → report.kinds ≡ first.kinds → report.tolerance ≡ first.tolerance → report.counts ≡ first.counts
     → ReadEnd first report.segments.items past → IsReadFrom report past
 whole_report report first past same_length same_kinds same_tolerance same_counts read =
-    let last : List ℕ = end_line (length report.segments.items) (records_of report.segments.items) in
+    let last : List ℕ = end_line (length report.segments.items) (records_in report.segments.items) in
     let going : Going (read.before ++ last) (bytes_of report.length) report.tolerance report.kinds report.counts
     report.segments.items last = rw (same_length, same_kinds, same_tolerance, same_counts)
     (going_of first report.segments.items read.before last read.read) in

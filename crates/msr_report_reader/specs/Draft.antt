@@ -3,7 +3,7 @@ use Rattle.std.specs.Prelude.{◌≡◌, ℕ, ◌<◌, ◌≤◌, ◌^◌, ◌�
 use Rattle.std.specs.Fmt.{decimal}
 use Rattle.msr_time.specs.Instant.{IsInstant}
 use Rattle.msr_kinds.specs.Lengths.{bytes_of}
-use Rattle.msr_report.specs.Proper.{records_of}
+use Rattle.msr_report.specs.Proper.{records_in}
 use Rattle.msr_report.specs.Text.{end_line}
 use Rattle.msr_report.specs.declared.report.SegmentLine.{SegmentLine}
 use Rattle.msr_report_reader.specs.Content.{IsFirst, IsReportKey, IsContentLine, IsOpening, AreContentLineTexts, first_then, content_line}
@@ -73,8 +73,8 @@ pub record ReadNumbers (first : FirstLines) (segments : List SegmentLine) (line 
 pub record ReadEnd (first : FirstLines) (segments : List SegmentLine) (past : List ℕ) : Type 0 where
   pub before : List ℕ
   pub read : ReadSegments first segments before
-  pub fits : records_of segments < 2 ^ 64
-  pub is : past ≡ before ++ end_line (length segments) (records_of segments)
+  pub fits : records_in segments < 2 ^ 64
+  pub is : past ≡ before ++ end_line (length segments) (records_in segments)
 
 -- the text that was read before what is expected
 abbrev pub ReadTo : Expected → List SegmentLine → List ℕ → List ℕ → Type 0

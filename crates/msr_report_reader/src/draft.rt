@@ -1,7 +1,7 @@
 //! A report that is read as its text comes.
 ghost use Rattle.std.specs.Prelude.{◌≡◌, ◌<◌, ◌+◌, ◌*◌, ◌^◌, ◌++◌, ◌∷◌, [], ℕ, List, Bool, All, IfOk, IfErr, IfSome, IsSomeAnd, SomeIff, OnOk, length, codes};
 ghost use Rattle.std.specs.Fmt.{decimal};
-ghost use Rattle.msr_report.specs.Proper.{records_of};
+ghost use Rattle.msr_report.specs.Proper.{records_in};
 ghost use Rattle.msr_report_reader.specs.Content.{lines_before};
 ghost use Rattle.msr_report_reader.specs.Draft.{HasRead, IsLineRefused, IsDraftStep, ReadOpening, numbers_then, stop_byte};
 ghost use Rattle.msr_report_reader.specs.LastLine.{IsLast};
@@ -104,7 +104,7 @@ fn separator(text: &[u8]) -> Option<(u64, bool, &[u8])>
 
 /// How many records the segments have in all, if that fits 64 bits.
 fn all_records(segments: &[SegmentLine]) -> Option<u64>
-    ensures { SomeIff result (records_of segments.now < 2 ^ 64) (records_of segments.now) }
+    ensures { SomeIff result (records_in segments.now < 2 ^ 64) (records_in segments.now) }
 {
     let mut records = 0u64;
     for segment in segments {

@@ -2,7 +2,7 @@
 use Rattle.std.specs.Prelude.{◌≡◌, ◌≢◌, ◌↔◌, ◌⊎◌, ◌<◌, ◌*◌, ℕ, ⊤, Bool, false, IsTrue, List, Result, Ok, Err, IsErrOf}
 use Rattle.msr_devices.specs.Device.{Device, HasFailed, HasLeft, Takes}
 use Rattle.msr_report_reader.specs.Reading.{IsReadFrom}
-use Rattle.msr_report.specs.Proper.{records_of}
+use Rattle.msr_report.specs.Proper.{records_in}
 use Rattle.msr_report.specs.declared.report.Report.{Report}
 use Rattle.msr_input.specs.declared.fault.ReadFault.{ReadFault}
 use Rattle.msr_input.specs.declared.fault.ReadFault.TheVariants as read
@@ -44,7 +44,7 @@ pub record IsCounted (choice : Choice) (input records told : List ℕ) (repacked
   pub report : Report
   pub reported : IsReported choice input records told report
   pub read : repacked.read ≡ report.counts.read
-  pub written : repacked.written ≡ records_of report.segments.items
+  pub written : repacked.written ≡ records_in report.segments.items
   pub bytes : HasBytesWritten choice repacked
 
 -- what an answer says of the input, of the records that were written, and of the text of the report
@@ -214,7 +214,7 @@ pub record IsReportKept (choice : Choice) (repacked : Repacked) : Type 0 where
   pub tolerance : report.tolerance ≡ choice.tolerance
   pub agree : IsTrue choice.strict → report.counts.mismatched ≡ 0
   pub read : repacked.read ≡ report.counts.read
-  pub written : repacked.written ≡ records_of report.segments.items
+  pub written : repacked.written ≡ records_in report.segments.items
   pub bytes : HasBytesWritten choice repacked
 
 -- What an earlier walk left is of these options, and smaller than what was read if that is asked for.

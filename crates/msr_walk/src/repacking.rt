@@ -2,7 +2,7 @@
 ghost use Rattle.std.specs.Prelude.{◌≡◌, ◌↔◌, ◌⊎◌, ◌+◌, ◌*◌, IfSome, IsErrOf};
 ghost use Rattle.msr_devices.specs.Device.{CanCountCall, HasFailed};
 ghost use Rattle.msr_options.specs.Choice.{size_of};
-ghost use Rattle.msr_report.specs.Proper.{IsProper, records_of};
+ghost use Rattle.msr_report.specs.Proper.{IsProper, records_in};
 ghost use Rattle.msr_folders.specs.Totals.{saturated};
 ghost use Rattle.msr_walk.specs.Day.{ComparesDay, IsReportKept, ShownAnswers, RepacksDay, fault_of_checking, fault_of_comparing};
 
@@ -23,7 +23,7 @@ const LONGEST: usize = 65_536;
 
 fn records_written(report: &Report) -> u64
     requires { IsProper report.now }
-    ensures { result ≡ records_of report.now.segments.items }
+    ensures { result ≡ records_in report.now.segments.items }
 {
     let mut records = 0;
     for line in &report.segments {
