@@ -23,12 +23,12 @@ pub record Compared : Type 0 where
   pub agrees : Bool
 
 -- the separators of the line at that place, none if there is no line
-abbrev pub separators_of : Option SegmentLine → List ℕ
-separators_of None = []
-separators_of (Some line) = line.separators.items
+abbrev pub separators_of_line : Option SegmentLine → List ℕ
+separators_of_line None = []
+separators_of_line (Some line) = line.separators.items
 
 abbrev pub separators_at : List SegmentLine → ℕ → List ℕ
-separators_at lines place = separators_of (slice_get lines place)
+separators_at lines place = separators_of_line (slice_get lines place)
 
 -- the record that was read has that length, and this row
 pub record HasFullRow (size : ℕ) (next : NextRecord) (row : NextRow) : Type 0 where
