@@ -9,7 +9,7 @@ use Rattle.msr_input.specs.declared.fault.ReadFault.TheVariants as read
 use Rattle.msr_compare.specs.Answers.{HaveSameSegments}
 use Rattle.msr_tool.specs.Checking.{CheckAnswers, IsChecked}
 use Rattle.msr_tool.specs.Settings.{settings_of}
-use Rattle.msr_options.specs.Choice.{Choice, as_strict, size_of}
+use Rattle.msr_options.specs.Choice.{Choice, as_strict, record_size}
 use Rattle.msr_options.specs.Days.{in_length}
 use Rattle.msr_options.specs.declared.days.DayOptions.{DayOptions}
 use Rattle.msr_tool.specs.Tasks.{IsReported, ReportAnswers}
@@ -35,7 +35,7 @@ pub record IsForDay (days asked : DayOptions) : Type 0 where
 
 -- the bytes that were written are those of the records that were, or the greatest number of 64 bits if they are more
 abbrev pub HasBytesWritten : Choice → Repacked → Type 0
-HasBytesWritten choice repacked = repacked.bytes_written ≡ saturated (repacked.written * size_of choice)
+HasBytesWritten choice repacked = repacked.bytes_written ≡ saturated (repacked.written * record_size choice)
 
 -- The input was repacked, what was told is the text of its report, and the counts are those of this report: the
 -- records that were read, and those that were written, and their bytes. How many bytes were read is what the source
@@ -209,7 +209,7 @@ pub record IsReportKept (choice : Choice) (repacked : Repacked) : Type 0 where
   pub text : List ℕ
   pub report : Report
   pub reads : IsReadFrom report text
-  pub record_length : bytes_of report.length ≡ size_of choice
+  pub record_length : bytes_of report.length ≡ record_size choice
   pub kinds : report.kinds ≡ choice.kinds
   pub tolerance : report.tolerance ≡ choice.tolerance
   pub agree : IsTrue choice.strict → report.counts.mismatched ≡ 0

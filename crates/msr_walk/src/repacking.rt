@@ -1,7 +1,7 @@
 //! The part of a day file that is under contract: from a source to two sinks.
 ghost use Rattle.std.specs.Prelude.{◌≡◌, ◌↔◌, ◌⊎◌, ◌+◌, ◌*◌, IfSome, IsErrOf};
 ghost use Rattle.msr_devices.specs.Device.{CanCountCall, HasFailed};
-ghost use Rattle.msr_options.specs.Choice.{size_of};
+ghost use Rattle.msr_options.specs.Choice.{record_size};
 ghost use Rattle.msr_report.specs.Proper.{IsProper, records_in};
 ghost use Rattle.msr_folders.specs.Totals.{saturated};
 ghost use Rattle.msr_walk.specs.Day.{ComparesDay, IsReportKept, ShownAnswers, RepacksDay, fault_of_checking, fault_of_comparing};
@@ -34,7 +34,7 @@ fn records_written(report: &Report) -> u64
 
 /// The bytes of so many records, or the greatest number of 64 bits if they are more.
 pub(crate) fn bytes_of_records(records: u64, options: Options) -> u64
-    ensures { result ≡ saturated (records * size_of options) }
+    ensures { result ≡ saturated (records * record_size options) }
 {
     records.saturating_mul(u64::from(options.length().bytes()))
 }
