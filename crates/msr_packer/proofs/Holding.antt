@@ -12,7 +12,7 @@ use Rattle.msr_words.proofs.AnyKind.{back_step_any, short_any, size_any}
 use Rattle.msr_words.specs.Packing.{IsCanonical, IsStep, Joins}
 use Rattle.msr_words.proofs.Runs.{length-run_points, run_points_stay}
 use Rattle.msr_packer.specs.SoFar.{IsSoFar}
-use Rattle.msr_packer.specs.HeldSamples.{BeginsAll, GivesPiece, HoldsRest, InsideIfAny, IsRunToCut, IsNextStep, IsSound, HoldsWindow, LeavesFew, ShowsRun, StandsAt, Stays, before_place, frontier_of, piece_of, pieces_of, runs_of, samples_of_piece, separators_of, start_of}
+use Rattle.msr_packer.specs.HeldSamples.{BeginsAll, GivesPiece, HoldsRest, InsideIfAny, IsRunToCut, IsNextStep, IsSound, HoldsWindow, LeavesFew, ShowsRun, StandsAt, Stays, before_place, frontier_of, piece_of, pieces_of, runs_of, samples_of_piece, separators_of, first_ungiven}
 use Rattle.msr_packer.specs.declared.held.RunToCut.{RunToCut}
 use Rattle.msr_packer.specs.declared.held.HeldSamples.{HeldSamples}
 use Rattle.msr_packer.specs.declared.held.Piece.{Piece}
@@ -226,8 +226,8 @@ begins_all records enough samples runs separators held offset (Some c) w stays m
 -- where the samples begin that were not given
 pub record Leaves (samples : List ℤ) (runs : List Run) (held : List ℤ) (offset : ℕ)
     (current : Option RunToCut) : Type 0 where
-  pub joined : Joins 0 runs (offset + start_of current)
-  pub from_there : drop (start_of current) held ≡ drop (offset + start_of current) samples
+  pub joined : Joins 0 runs (offset + first_ungiven current)
+  pub from_there : drop (first_ungiven current) held ≡ drop (offset + first_ungiven current) samples
 
 pub leaves : (records : Records) (samples : List ℤ) (runs : List Run) (separators : List ℕ) (held : List ℤ) (offset : ℕ)
     (current : Option RunToCut) → HoldsWindow records samples runs separators held offset current
@@ -341,8 +341,8 @@ before_in_window samples o (suc a) (inr h) =
 -- the samples of the next piece, with the one before them
 pub shows_next : (records : Records) (samples : List ℤ) (runs : List Run) (separators : List ℕ) (held : List ℤ)
     (offset : ℕ) (current : Option RunToCut) (a : ℕ) → HoldsWindow records samples runs separators held offset current
-    → IfSome (piece_of offset current a) (ShowsRun samples (slice_range held (start_of current) a)
-    (before_place held (start_of current)))
+    → IfSome (piece_of offset current a) (ShowsRun samples (slice_range held (first_ungiven current) a)
+    (before_place held (first_ungiven current)))
 shows_next records samples runs separators held offset None a w = tt
 shows_next records samples runs separators held offset (Some c) a w = record {
   run = ap (λ xs. slice_range xs c.start a) w.window ∙ sym (slice_in_window samples offset c.start a);
@@ -408,7 +408,7 @@ next_stepped records enough held current next is =
 
 pub start_before : (records : Records) (number : ℕ) (current : Option RunToCut) (a : ℕ)
     → InsideIfAny records number current
-    → frontier_of current ≤ a + 1 → start_of current ≤ a
+    → frontier_of current ≤ a + 1 → first_ungiven current ≤ a
 start_before records number None a inside near = omega arith
 start_before records number (Some c) a inside near = let before = inside.before in let on = inside.on in omega arith
 

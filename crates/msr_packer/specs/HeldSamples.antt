@@ -34,9 +34,9 @@ frontier_of None = 0
 frontier_of (Some current) = current.end
 
 -- where the samples begin that were not given yet
-abbrev pub start_of : Option RunToCut → ℕ
-start_of None = 0
-start_of (Some current) = current.start
+abbrev pub first_ungiven : Option RunToCut → ℕ
+first_ungiven None = 0
+first_ungiven (Some current) = current.start
 
 -- the step ends before the last of `number` samples, so that it stays whatever follows
 abbrev pub Stays : Option RunToCut → ℕ → Type 0
@@ -142,7 +142,7 @@ before_shown held = before_place held.samples.items held.from
 
 -- the sizes and words that are told of the groups of the next piece
 pub record KnowsNext (held : HeldSamples) : Type 0 where
-  pub next : HaveSizes held.samples.items (start_of held.current) (frontier_of held.current) held.sizes.next.count
+  pub next : HaveSizes held.samples.items (first_ungiven held.current) (frontier_of held.current) held.sizes.next.count
       held.sizes.next.places.items held.sizes.next.words.items
 
 -- and of the piece that is shown
