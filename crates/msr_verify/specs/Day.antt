@@ -5,11 +5,12 @@ use Rattle.msr_report.specs.declared.report.Report.{Report}
 use Rattle.msr_report_reader.specs.Reading.{IsReadFrom, ReadsReport}
 use Rattle.msr_report_reader.specs.declared.fault.ReportFault.{ReportFault}
 use Rattle.msr_report_reader.specs.declared.fault.ReportFault.TheVariants as report_stop
+use Rattle.msr_input.specs.Input.{HasFirstFault}
 use Rattle.msr_input.specs.declared.settings.Settings.{Settings}
 use Rattle.msr_input.specs.declared.fault.Fault.{Fault}
 use Rattle.msr_input.specs.declared.fault.ReadFault.TheVariants as stop
 use Rattle.msr_verdict.specs.Packed.{ShowsLeast, DoesNotShow, VerifyAnswers, settings_by}
-use Rattle.msr_compare.specs.Answers.{DifferFirst, HasFirstFault, HaveSameSegments, OtherHasFault}
+use Rattle.msr_compare.specs.Answers.{DifferFirst, HaveSameSegments, OtherHasFault}
 use Rattle.msr_compare.specs.declared.comparison.Difference.{Difference}
 use Rattle.msr_verify.specs.declared.judging.Finding.{Finding}
 use Rattle.msr_verify.specs.declared.judging.Finding.TheVariants.{Verified, NotShown, Differs}
