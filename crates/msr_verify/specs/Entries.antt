@@ -5,7 +5,7 @@ use Rattle.msr_sds.specs.SdsPath.{SdsPath, ReadsAsDay}
 use Rattle.msr_folders.specs.Totals.{saturated}
 use Rattle.msr_folders.specs.Days.{IsNoDay}
 use Rattle.msr_folders.specs.Paths.{shown_path}
-use Rattle.msr_folders.specs.Visits as visits
+use Rattle.msr_folders.specs.Visits.{IsLineWithReason}
 use Rattle.msr_verify.specs.Day.{DayAnswers}
 use Rattle.msr_verify.specs.declared.judging.Finding.{Finding}
 use Rattle.msr_verify.specs.declared.judging.Finding.TheVariants as finding
@@ -67,11 +67,6 @@ IsJudgementOf path judgement = IsFoundOfDay path judgement
 abbrev pub IsJudgedEntry : JudgedEntry → Type 0
 IsJudgedEntry entry = IsJudgementOf entry.path entry.judgement
 
--- a line that says why
-abbrev pub IsLineWithReason : (word path line : List ℕ) → Type 0
-IsLineWithReason word path line = (why : List ℕ)
-    × (line ≡ word ++ (shown_path path ++ (codes ": " ++ (why ++ codes "\n"))))
-
 -- The line of an entry. The texts of faults are shown by tests.
 abbrev pub IsJudgementLine : List ℕ → Judgement → List ℕ → Type 0
 IsJudgementLine path Verified line = line ≡ codes "verified " ++ (shown_path path ++ codes "\n")
@@ -79,15 +74,11 @@ IsJudgementLine path Missing line = line ≡ codes "missing " ++ (shown_path pat
 IsJudgementLine path NotShown line = line ≡ codes "notshown " ++ (shown_path path ++ codes "\n")
 IsJudgementLine path Differs line = line ≡ codes "differs " ++ (shown_path path ++ codes "\n")
 IsJudgementLine path Orphan line = line ≡ codes "orphan " ++ (shown_path path ++ codes "\n")
-IsJudgementLine path (Skipped fault) line = IsLineWithReason (codes "skipped ") path line
-IsJudgementLine path (Refused refusal) line = IsLineWithReason (codes "refused ") path line
+IsJudgementLine path (Skipped fault) line = IsLineWithReason (codes "skipped ") (shown_path path) line
+IsJudgementLine path (Refused refusal) line = IsLineWithReason (codes "refused ") (shown_path path) line
 
 abbrev pub IsJudgedEntryLine : JudgedEntry → List ℕ → Type 0
 IsJudgedEntryLine entry line = IsJudgementLine entry.path entry.judgement line
-
--- the lines of entries, one after another
-abbrev pub AreLines : List JudgedEntry → List ℕ → Type 0
-AreLines entries lines = visits.AreLines IsJudgedEntryLine entries lines
 
 abbrev pub is_verified : Judgement → Bool
 is_verified Verified = true

@@ -2,8 +2,9 @@
 ghost use Rattle.std.specs.Prelude.{◌≡◌, ◌++◌, ◌∷◌, [], List, IfErr, IfOk, OnOk};
 ghost use Rattle.std.specs.String.{string_bytes};
 ghost use Rattle.msr_devices.specs.Device.{CanCountCall, IsCalm, Takes};
+ghost use Rattle.msr_folders.specs.Visits.{StopsPrefix};
 ghost use Rattle.msr_verify.specs.Entries.{JudgedEntry, IsVerifyTally};
-ghost use Rattle.msr_verify.specs.Walk.{StopsPrefix, judged_line, others_told};
+ghost use Rattle.msr_verify.specs.Walk.{judged_line, others_told};
 
 use crate::judgement::Judgement;
 use msr_devices::{DeviceFault, Sink, write_all};

@@ -11,7 +11,7 @@ use Rattle.msr_options.specs.declared.hint.Unopened.{Unopened}
 use Rattle.msr_walk.specs.Day.{IsOutcomeOfDay}
 use Rattle.msr_folders.specs.Days.{IsNoDay}
 use Rattle.msr_folders.specs.Paths.{shown_path}
-use Rattle.msr_folders.specs.Visits as visits
+use Rattle.msr_folders.specs.Visits.{IsLineWithReason}
 use Rattle.msr_walk.specs.declared.outcome.Outcome.{Outcome}
 use Rattle.msr_walk.specs.declared.outcome.Outcome.TheVariants.{Done, Same, Skipped, Refused}
 use Rattle.msr_walk.specs.declared.outcome.DayFault.{DayFault}
@@ -71,31 +71,22 @@ counts_told bytes repacked =
     codes " read " ++ (decimal repacked.read ++ (codes " written " ++ (decimal repacked.written
     ++ (bytes_told bytes repacked.bytes_read repacked.bytes_written ++ codes "\n"))))
 
--- The line of an entry that is refused, whose path is shown so. The texts of faults are shown by tests.
-abbrev pub IsRefused : (shown line : List ℕ) → Type 0
-IsRefused shown line = (why : List ℕ) × (line ≡ codes "refused " ++ (shown ++ (codes ": " ++ (why ++ codes "\n"))))
-
--- The line of an entry that is refused or not kept, whose path is shown so.
+-- The line of an entry that is refused or not kept, whose path is shown so. The texts of faults are shown by tests.
 abbrev pub IsRefusedLine : (bytes : Bool) → List ℕ → DayFault → List ℕ → Type 0
 IsRefusedLine bytes shown NotShown line = line ≡ codes "notshown " ++ (shown ++ codes "\n")
 IsRefusedLine bytes shown Differs line = line ≡ codes "differs " ++ (shown ++ codes "\n")
 IsRefusedLine bytes shown (Larger repacked) line = line ≡ codes "larger " ++ (shown ++ counts_told bytes repacked)
-IsRefusedLine bytes shown _ line = IsRefused shown line
+IsRefusedLine bytes shown _ line = IsLineWithReason (codes "refused ") shown line
 
 -- The line of an entry, with bytes or without.
 abbrev pub IsOutcomeLine : (bytes : Bool) → List ℕ → Outcome → List ℕ → Type 0
 IsOutcomeLine bytes path (Done repacked) line = line ≡ codes "done " ++ (shown_path path ++ counts_told bytes repacked)
 IsOutcomeLine bytes path (Same repacked) line = line ≡ codes "same " ++ (shown_path path ++ counts_told bytes repacked)
-IsOutcomeLine bytes path (Skipped fault) line = (why : List ℕ)
-    × (line ≡ codes "skipped " ++ (shown_path path ++ (codes ": " ++ (why ++ codes "\n"))))
+IsOutcomeLine bytes path (Skipped fault) line = IsLineWithReason (codes "skipped ") (shown_path path) line
 IsOutcomeLine bytes path (Refused why) line = IsRefusedLine bytes (shown_path path) why line
 
 abbrev pub IsEntryLine : (bytes : Bool) → Entry → List ℕ → Type 0
 IsEntryLine bytes entry line = IsOutcomeLine bytes entry.path entry.outcome line
-
--- a line for each entry, in order
-abbrev pub AreLines : (bytes : Bool) → List Entry → List ℕ → Type 0
-AreLines bytes entries lines = visits.AreLines (IsEntryLine bytes) entries lines
 
 -- done in this walk or an earlier one
 abbrev pub is_done : Outcome → Bool

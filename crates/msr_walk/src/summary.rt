@@ -3,8 +3,9 @@ ghost use Rattle.std.specs.Prelude.{◌≡◌, List, IfErr, IfOk, OnOk};
 ghost use Rattle.std.specs.List.{flat_map};
 ghost use Rattle.std.specs.String.{string_bytes};
 ghost use Rattle.msr_devices.specs.Device.{CanCountCall, IsCalm, Takes};
+ghost use Rattle.msr_folders.specs.Visits.{StopsPrefix};
 ghost use Rattle.msr_walk.specs.Entries.{Entry, IsTally, bytes_told};
-ghost use Rattle.msr_walk.specs.Walk.{StopsPrefix, channel_line, files_line, larger_told, summary, with_bytes};
+ghost use Rattle.msr_walk.specs.Walk.{channel_line, files_line, larger_told, summary, with_bytes};
 
 use crate::outcome::bytes_told;
 use crate::tally::Tally;
