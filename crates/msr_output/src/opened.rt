@@ -18,8 +18,9 @@ ghost use Rattle.msr_output.specs.Writing.{AppendsRecordOfRun};
 
 use msr_kinds::Form;
 use msr_packer::{BlockPacker, Piece};
-use msr_record::{Key, WrittenRun, encode_run};
+use msr_record::{WrittenRun, encode_run};
 use msr_report::SegmentLine;
+use msr_rows::Key;
 use msr_words::Run;
 use std::alloc::{AllocError, Global};
 use std::marker::Model;

@@ -12,8 +12,8 @@ ghost use Rattle.msr_words.specs.Segment.{differences, points};
 ghost use Rattle.msr_rows.specs.Area.{Carries, ReverseAgreesIfAny};
 ghost use Rattle.msr_record.specs.Written.{AreFrames, IsWrittenArea, KnowsGroups, frame_count};
 
+use msr_base::Order;
 use msr_filling::{fill_steim1, fill_steim2, fill_steim2_told};
-use msr_header::Order;
 use msr_kinds::{Kind, Length, Storage, Version};
 use msr_plain::fill_plain;
 use msr_rows::Key;

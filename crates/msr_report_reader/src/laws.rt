@@ -5,7 +5,8 @@ ghost use Rattle.msr_report.specs.Proper.{IsProper, IsProperLine};
 ghost use Rattle.msr_report_reader.specs.Content.{IsContent, IsContentLine, IsReportKey, content_line, content_of};
 ghost use Rattle.msr_report_reader.specs.Laws.{NoLineAtFault, OneReport, TextIsReadBack};
 
-use msr_report::{Counts, Report, SegmentLine};
+use msr_base::Counts;
+use msr_report::{Report, SegmentLine};
 use msr_rows::Key;
 
 /// Two reports with the same text say the same.

@@ -12,8 +12,9 @@ ghost use Rattle.msr_report_reader.specs.Content.{IsReportKey, IsOpening};
 use crate::fields::{after, counted};
 use crate::keys::channel_key;
 use crate::times::instant;
+use msr_base::Counts;
 use msr_kinds::{Kinds, Length};
-use msr_report::{Counts, kinds_line};
+use msr_report::kinds_line;
 use msr_rows::Key;
 
 /// The number that stands after the word and ends the line.

@@ -3,9 +3,9 @@ ghost use Rattle.std.specs.Prelude.{◌≡◌, ◌≢◌, ◌≤◌, ◌-◌, �
 ghost use Rattle.msr_rows.specs.Area.{Carries, AreaHasFault, ReverseAgreesIfAny};
 
 use crate::fault::FaultKind;
-use msr_header::Order;
+use msr_base::{Order, SampleVec};
 use msr_kinds::Storage;
-use msr_plain::{PlainFault, SampleVec, decode_plain_into};
+use msr_plain::{PlainFault, decode_plain_into};
 use msr_steim::{Decoded, SteimFault, decode_steim_into};
 
 /// The samples of an area that stores them so, in the memory of `spare`. It stands apart, so that its loops over words

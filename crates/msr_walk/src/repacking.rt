@@ -8,13 +8,15 @@ ghost use Rattle.msr_walk.specs.Day.{ComparesDay, IsReportKept, ShownAnswers, Re
 
 use crate::outcome::{DayFault, Repacked};
 use msr_compare::{CompareFault, compare};
-use msr_devices::{DeviceFault, ReadBuffer};
+use msr_devices::{DeviceFault, ReadBuffer, Sink, Source};
 use msr_header::{read_header, record_length};
 use msr_input::{ReadFault, Settings};
+use msr_kinds::Length;
+use msr_options::Options;
 use msr_report::Report;
-use msr_tool::{
-    Length, Options, Sink, Source, ToolFault, Verdict, check_packed, read_report, repack_and_report,
-};
+use msr_report_reader::read_report;
+use msr_tool::{ToolFault, check_packed, repack_and_report};
+use msr_verdict::Verdict;
 use std::alloc::{AllocError, Global};
 use std::io;
 

@@ -6,9 +6,8 @@ ghost use Rattle.msr_folders.specs.Visits.{StopsPrefix};
 ghost use Rattle.msr_walk.specs.Stamp.{stamp_text};
 
 use crate::files::NewFile;
-use msr_devices::{DeviceFault, Sink, write_all};
+use msr_devices::{DeviceFault, FromWrite, Sink, write_all};
 use msr_folders::{Look, settle_regular};
-use msr_tool::FromWrite;
 use std::alloc::{AllocError, Global};
 use std::fs;
 use std::os::unix::fs::MetadataExt;
