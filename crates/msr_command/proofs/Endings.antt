@@ -300,7 +300,7 @@ task_unsettled (Compare asked) standard out0 out done does =
     compare_unsettled asked.options asked standard out0 out done does
 task_unsettled (Archive asked) standard out0 out done does =
     let P : List ℕ → Type 0 = λ text.
-        IsWalk (IsEntry asked.days) (IsEntryLine asked.days.bytes) (summary asked.days) text does.ends.walk.0 in
+    IsWalk (IsEntry asked.days) (IsEntryLine asked.days.bytes) (summary asked.days) text does.ends.walk.0 in
     record {
       printed = does.printed;
       prints = does.prints;
@@ -312,7 +312,7 @@ task_unsettled (Archive asked) standard out0 out done does =
     }
 task_unsettled (Verify asked) standard out0 out done does =
     let P : List ℕ → Type 0 = λ text.
-        IsWalk IsJudgedEntry IsJudgedEntryLine judged_summary text does.ends.walk.0 in
+    IsWalk IsJudgedEntry IsJudgedEntryLine judged_summary text does.ends.walk.0 in
     record {
       printed = does.printed;
       prints = does.prints;

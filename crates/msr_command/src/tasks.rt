@@ -10,7 +10,9 @@ use crate::task_fault::TaskFault;
 use crate::turns::is_in_turns;
 use msr_devices::{FromRead, FromWrite, Sink, Source};
 use msr_folders::{FileId, folders_overlap, settle};
-use msr_options::{Archiving, Checking, Feeding, Folders, ListForm, Listing, Options, Repacking, Task, Verifying};
+use msr_options::{
+    Archiving, Checking, Feeding, Folders, ListForm, Listing, Options, Repacking, Task, Verifying,
+};
 use msr_tool::{ToolFault, check_and_tell, feed_and_report, list_segments, repack_and_report};
 use msr_verify::verify;
 use msr_walk::{LockFile, walk};

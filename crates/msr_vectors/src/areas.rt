@@ -8,7 +8,10 @@ use crate::lists::{Hexadecimal, gives};
 use msr_base::{Order, SampleVec};
 use msr_kinds::{Version, Width};
 use msr_plain::{PlainFault, PlainSamples, decode_plain, decode_plain_into, plain_samples};
-use msr_steim::{Group, SteimFault, SteimSamples, decode_steim, decode_steim_into, fill_steim, group_width, is_group, read_word, steim_samples, write_word};
+use msr_steim::{
+    Group, SteimFault, SteimSamples, decode_steim, decode_steim_into, fill_steim, group_width,
+    is_group, read_word, steim_samples, write_word,
+};
 
 /// A list to which the first sample is pushed, and the others at once.
 fn grown_of(line: &mut Line<'_>, first: i32, others: &[i32]) -> SampleVec {

@@ -13,7 +13,10 @@ use msr_plain::PlainFault;
 use msr_report_reader::ReportFault;
 use msr_rows::FaultKind;
 use msr_steim::SteimFault;
-use msr_tool::{ToolFault, check_and_tell, check_packed, feed, feed_and_report, list_segments, repack, repack_and_report};
+use msr_tool::{
+    ToolFault, check_and_tell, check_packed, feed, feed_and_report, list_segments, repack,
+    repack_and_report,
+};
 use std::alloc::Global;
 use std::fmt;
 
