@@ -11,7 +11,7 @@ use Rattle.msr_words.specs.Packing.{IsPacking, IsSeparating, Joins, NoneHolds}
 use Rattle.msr_words.proofs.Certificate.{all_split, in_its_run, joins_more}
 use Rattle.msr_words.proofs.LastSamples.{apart_in_window, apart_of_window, apart_stays, apart_was, run_in_window, run_of_window, run_stays, run_was}
 use Rattle.msr_check.proofs.Rising.{separating_all, separating_more}
-use Rattle.msr_check.specs.Judged.{AreShown, IsComplete, FollowsLast, HasLast, HoldsSoFar, IsFollowed, IsSoundLast, Judged, Judges, NoneShows, HasLastIfAny, becomes_last, last_run, next_run, samples_after, without}
+use Rattle.msr_check.specs.Judged.{AreShown, FollowsLast, HasLast, HasLastIfAny, HoldsSoFar, IsComplete, IsFollowed, IsSoundLast, Judged, Judges, NoneShows, becomes_last, last_run, next_run, samples_after, without}
 use Rattle.msr_check.specs.Next.{IsNextSeparator, SeparatingTo}
 use Rattle.msr_check.specs.declared.judge.LastRun.{LastRun}
 

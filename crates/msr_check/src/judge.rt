@@ -4,7 +4,7 @@ ghost use Rattle.std.specs.Prelude.{◌≡◌, ◌↔◌, ◌-◌, ◌+◌, ◌<
 ghost use Rattle.msr_words.specs.Fit.{Records, records_of};
 ghost use Rattle.msr_words.specs.Packing.{IsLeast};
 ghost use Rattle.msr_words.specs.declared.kinds.Run.{Run as WordRun};
-ghost use Rattle.msr_check.specs.Judged.{AreShown, IsComplete, FollowsLast, IsFollowed, IsSoundLast, Judges, becomes_last, next_run, samples_after, without};
+ghost use Rattle.msr_check.specs.Judged.{AreShown, FollowsLast, IsComplete, IsFollowed, IsSoundLast, Judges, becomes_last, next_run, samples_after, without};
 
 use crate::reach::reach_of;
 use crate::{is_run, none_between};

@@ -16,7 +16,7 @@ use Rattle.msr_compare.specs.declared.fault.CompareFault.TheVariants as failing
 use Rattle.msr_compare.specs.Answers.{CompareAnswers, IsOfFault}
 use Rattle.msr_compare.specs.Symbols.{Symbol, Holds, symbols_of}
 use Rattle.msr_compare.specs.Sides.{Standing, IsDrained}
-use Rattle.msr_compare.specs.Meetings.{HaveFinished, HaveMet, AnswersInputs, IsReadableFrom, KeepsFault, ReadableIfRefused, ReadsFirst, StopsFinishing}
+use Rattle.msr_compare.specs.Meetings.{AnswersInputs, HaveFinished, HaveMet, IsReadableFrom, KeepsFault, ReadableIfRefused, ReadsFirst, StopsFinishing}
 use Rattle.msr_compare.proofs.Symbols.{no_sample_first, no_symbols, opens_so, segment_so}
 use Rattle.msr_compare.proofs.Draining.{drained_before}
 use Rattle.msr_compare.proofs.DifferingAheads.{counted, first_so}

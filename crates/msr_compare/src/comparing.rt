@@ -5,7 +5,7 @@ ghost use Rattle.msr_input.specs.declared.settings.Settings.{Settings as How};
 ghost use Rattle.msr_compare.specs.Answers.{CompareAnswers};
 ghost use Rattle.msr_compare.specs.Symbols.{Symbol};
 ghost use Rattle.msr_compare.specs.Sides.{HasSource, HasTaken};
-ghost use Rattle.msr_compare.specs.Meetings.{BothBegin, HaveMet, HaveTaken, AnswersInputs, ReadsFirst, StopsMeeting};
+ghost use Rattle.msr_compare.specs.Meetings.{AnswersInputs, BothBegin, HaveMet, HaveTaken, ReadsFirst, StopsMeeting};
 
 use crate::comparison::{Comparison, Difference, SameSegments};
 use crate::fault::CompareFault;

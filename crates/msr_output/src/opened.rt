@@ -5,7 +5,7 @@ ghost use Rattle.msr_words.specs.declared.kinds.Run.{Run};
 ghost use Rattle.msr_kinds.specs.declared.forms.Form.{Form};
 ghost use Rattle.msr_kinds.specs.Lengths.{bytes_of};
 ghost use Rattle.msr_words.specs.Packing.{IsCanonical};
-ghost use Rattle.msr_packer.specs.Blocks.{HoldsFew, steps_left, pushed};
+ghost use Rattle.msr_packer.specs.Blocks.{HoldsFew, pushed, steps_left};
 ghost use Rattle.msr_packer.specs.HeldSamples.{ShowsPiece, pieces_of, runs_of, separators_of};
 ghost use Rattle.msr_packer.specs.declared.held.Piece.{Piece};
 ghost use Rattle.msr_record.specs.Written.{IsKey};

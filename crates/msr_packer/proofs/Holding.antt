@@ -12,7 +12,7 @@ use Rattle.msr_words.proofs.AnyKind.{back_step_any, short_any, size_any}
 use Rattle.msr_words.specs.Packing.{IsCanonical, IsStep, Joins}
 use Rattle.msr_words.proofs.Runs.{length-run_points, run_points_stay}
 use Rattle.msr_packer.specs.SoFar.{IsSoFar}
-use Rattle.msr_packer.specs.HeldSamples.{BeginsAll, GivesPiece, HoldsRest, InsideIfAny, IsRunToCut, IsNextStep, IsSound, HoldsWindow, LeavesFew, ShowsRun, StandsAt, Stays, before_place, frontier_of, piece_of, pieces_of, runs_of, samples_of_piece, separators_of, first_ungiven}
+use Rattle.msr_packer.specs.HeldSamples.{BeginsAll, GivesPiece, HoldsRest, HoldsWindow, InsideIfAny, IsNextStep, IsRunToCut, IsSound, LeavesFew, ShowsRun, StandsAt, Stays, before_place, first_ungiven, frontier_of, piece_of, pieces_of, runs_of, samples_of_piece, separators_of}
 use Rattle.msr_packer.specs.declared.held.RunToCut.{RunToCut}
 use Rattle.msr_packer.specs.declared.held.HeldSamples.{HeldSamples}
 use Rattle.msr_packer.specs.declared.held.Piece.{Piece}

@@ -10,7 +10,7 @@ use Rattle.msr_words.proofs.AnyKind.{back_step_any}
 use Rattle.msr_words.specs.Packing.{IsStep}
 use Rattle.msr_words.proofs.Runs.{run_points_none, run_points_stay}
 use Rattle.msr_packer.specs.Growing.{FollowsRun, IsGrowing, IsTracked, kind_of_tracker}
-use Rattle.msr_packer.specs.HeldSamples.{InsideIfAny, frontier_of, first_ungiven}
+use Rattle.msr_packer.specs.HeldSamples.{InsideIfAny, first_ungiven, frontier_of}
 use Rattle.msr_packer.specs.declared.growing.Tracker.{Tracker}
 use Rattle.msr_packer.specs.declared.growing.GrowingRun.{GrowingRun}
 use Rattle.msr_packer.specs.declared.held.RunToCut.{RunToCut}

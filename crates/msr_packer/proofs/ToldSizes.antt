@@ -7,7 +7,7 @@ use Rattle.msr_words.specs.Fit.{Records}
 use Rattle.msr_words.specs.Groups.{AreGroupSizesIfKnown}
 use Rattle.msr_words.specs.Segment.{differences, points, run_points}
 use Rattle.msr_words.proofs.Runs.{run_from, run_from_start, run_points_stay}
-use Rattle.msr_packer.specs.HeldSamples.{InsideIfAny, IsSound, KnowsSizes, ShowsPiece, ShowsRun, before_place, before_shown, frontier_of, shown_by, sizes_shown, first_ungiven}
+use Rattle.msr_packer.specs.HeldSamples.{InsideIfAny, IsSound, KnowsSizes, ShowsPiece, ShowsRun, before_place, before_shown, first_ungiven, frontier_of, shown_by, sizes_shown}
 use Rattle.msr_packer.specs.Steps.{HaveSizes}
 use Rattle.msr_packer.specs.declared.held.HeldSamples.{HeldSamples}
 use Rattle.msr_packer.specs.declared.held.Piece.{Piece}

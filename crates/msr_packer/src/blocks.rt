@@ -7,7 +7,7 @@ ghost use Rattle.msr_words.specs.Laws.{most_any};
 ghost use Rattle.msr_words.specs.Packing.{IsCanonical};
 ghost use Rattle.msr_words.specs.Segment.{differences};
 ghost use Rattle.msr_filling.specs.GroupWords.{AreGroupWords};
-ghost use Rattle.msr_packer.specs.Blocks.{BlocksBeginAll, BlocksEnd, BlocksLeaveFew, GivesNext, HoldsFew, LastBlocksBegin, Packs, PacksLast, steps_left, pushed};
+ghost use Rattle.msr_packer.specs.Blocks.{BlocksBeginAll, BlocksEnd, BlocksLeaveFew, GivesNext, HoldsFew, LastBlocksBegin, Packs, PacksLast, pushed, steps_left};
 
 use crate::held::{HeldSamples, Piece};
 use msr_kinds::Form;

@@ -5,7 +5,7 @@ ghost use Rattle.msr_words.specs.declared.kinds.Run.{Run};
 ghost use Rattle.msr_words.specs.Fit.{FitsAny, IsRun, records_of};
 ghost use Rattle.msr_words.specs.Laws.{most_any};
 ghost use Rattle.msr_words.specs.Packing.{IsCanonical};
-ghost use Rattle.msr_packer.specs.HeldSamples.{GivesPiece, HasPlaces, HoldsNeeded, HoldsRest, HoldsSame, IsNextStep, IsSound, KnowsNext, KnowsSizes, ShowsRun, Stays, before_shown, frontier_of, piece_of, pieces_of, runs_of, separators_of, shown_by, first_ungiven};
+ghost use Rattle.msr_packer.specs.HeldSamples.{GivesPiece, HasPlaces, HoldsNeeded, HoldsRest, HoldsSame, IsNextStep, IsSound, KnowsNext, KnowsSizes, ShowsRun, Stays, before_shown, first_ungiven, frontier_of, piece_of, pieces_of, runs_of, separators_of, shown_by};
 ghost use Rattle.msr_packer.specs.Steps.{HaveSizes, IsFound};
 
 use crate::kind_of;

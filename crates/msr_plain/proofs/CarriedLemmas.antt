@@ -14,7 +14,7 @@ use Rattle.byteorder.specs.Numbers.{big_number-reads_back, length-bytes_high_fir
 use Rattle.msr_base.specs.declared.order.Order.{Order}
 use Rattle.msr_base.specs.declared.order.Order.TheVariants.{Big}
 use Rattle.msr_kinds.specs.Storage.{size_of}
-use Rattle.msr_plain.specs.Plain.{CarriesPlain, FitsThreeBytes, FitsWidth, sample_bytes, bytes_of_all, number_in}
+use Rattle.msr_plain.specs.Plain.{CarriesPlain, FitsThreeBytes, FitsWidth, bytes_of_all, number_in, sample_bytes}
 use Rattle.msr_kinds.specs.declared.storage.Width.{Width}
 use Rattle.msr_kinds.specs.declared.storage.Width.TheVariants.{Two, Three, Four}
 

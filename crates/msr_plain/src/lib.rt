@@ -3,7 +3,7 @@
 
 ghost use Rattle.std.specs.Prelude.{◌≡◌, ◌<◌, ◌≤◌, ◌↔◌, ◌++◌, ◌-◌, ◌*◌, All, replicate, IfOk, IsErrOf, OnErr, OnOk, drop, length};
 ghost use Rattle.msr_kinds.specs.Storage.{size_of};
-ghost use Rattle.msr_plain.specs.Plain.{CarriesPlain, FitsWidth, sample_bytes, bytes_of_all, number_in};
+ghost use Rattle.msr_plain.specs.Plain.{CarriesPlain, FitsWidth, bytes_of_all, number_in, sample_bytes};
 
 mod borrowed;
 mod laws;

@@ -11,7 +11,7 @@ use Rattle.msr_time.proofs.SignedFacts.{signed_arith}
 use Rattle.msr_time.specs.declared.btime.BTime.{BTime}
 use Rattle.msr_time.specs.Instant.{IsSplit, instant_of}
 use Rattle.msr_header.specs.Reading.{header_of, is_sequence_byte, is_quality}
-use Rattle.msr_header.specs.Writing.{header_bytes, IsWritableHeader, header_as_read}
+use Rattle.msr_header.specs.Writing.{IsWritableHeader, header_as_read, header_bytes}
 use Rattle.msr_base.specs.declared.order.Order.TheVariants.{Big}
 use Rattle.msr_header.specs.declared.header.Header.{Header}
 use Rattle.msr_kinds.specs.RecordLength.{least_exponent, most_exponent}

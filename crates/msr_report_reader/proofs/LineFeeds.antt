@@ -5,7 +5,7 @@ use Rattle.std.specs.Fmt.{digit_glyph}
 use Rattle.std.specs.Str.{all_ascii_digits}
 use Rattle.std.proofs.lemmas.Bool.Decides.{nat_tests}
 use Rattle.msr_report.specs.Text.{hex_text, byte_text, field_text, padded_decimal}
-use Rattle.msr_report_reader.specs.Fault.{IsOneLine, IsOfLines}
+use Rattle.msr_report_reader.specs.Fault.{IsOfLines, IsOneLine}
 use Rattle.msr_report_reader.proofs.Digits.{both_true, decimal_is_digits}
 use Rattle.msr_report_reader.proofs.Padded.{reads_padded}
 

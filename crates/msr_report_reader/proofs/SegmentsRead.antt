@@ -3,7 +3,7 @@ use Rattle.std.proofs.Common.{◌≡◌, ◌∙◌, ap, sym, refl, arith, ℕ, z
 use Rattle.std.proofs.lemmas.List.{append-nil}
 use Rattle.msr_kinds.specs.Lengths.{bytes_of}
 use Rattle.msr_kinds.specs.declared.kinds.Kinds.{Kinds}
-use Rattle.msr_report.specs.Proper.{records_in, IsProperLine}
+use Rattle.msr_report.specs.Proper.{IsProperLine, records_in}
 use Rattle.msr_report.specs.Text.{separators_line, end_line, first_lines, AreSegmentTexts}
 use Rattle.msr_base.specs.declared.counts.Counts.{Counts}
 use Rattle.msr_report.specs.declared.report.SegmentLine.{SegmentLine}

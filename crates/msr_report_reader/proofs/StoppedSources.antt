@@ -6,7 +6,7 @@ use Rattle.msr_devices.specs.declared.fault.DeviceFault.{DeviceFault}
 use Rattle.msr_devices.specs.declared.fault.DeviceFault.TheVariants as fill
 use Rattle.msr_devices.proofs.Chaining.{calm_calm, calm_failed, calm_same, gives_append, left_of, steady_sound, steady_steady, steady_then_few}
 use Rattle.msr_report.specs.declared.report.Report.{Report}
-use Rattle.msr_report_reader.specs.Draft.{HasRead, IsDraftStep, IsConsumed}
+use Rattle.msr_report_reader.specs.Draft.{HasRead, IsConsumed, IsDraftStep}
 use Rattle.msr_report_reader.specs.Reading.{IsReadFrom, ReadsReport, report_fault_of_fill}
 use Rattle.msr_report_reader.specs.TextFault.{IsTextFault}
 use Rattle.msr_report_reader.specs.declared.draft.Draft.{Draft}

@@ -3,7 +3,7 @@ ghost use Rattle.std.specs.Prelude.{◌≡◌, ◌<◌, ◌+◌, ◌*◌, ◌^�
 ghost use Rattle.std.specs.Fmt.{decimal};
 ghost use Rattle.msr_report.specs.Proper.{records_in};
 ghost use Rattle.msr_report_reader.specs.Content.{lines_before};
-ghost use Rattle.msr_report_reader.specs.Draft.{HasRead, IsLineRefused, IsDraftStep, ReadOpening, numbers_then, stop_byte};
+ghost use Rattle.msr_report_reader.specs.Draft.{HasRead, IsDraftStep, IsLineRefused, ReadOpening, numbers_then, stop_byte};
 ghost use Rattle.msr_report_reader.specs.LastLine.{IsLast};
 ghost use Rattle.msr_report_reader.specs.Reading.{IsReadFrom};
 ghost use Rattle.msr_report_reader.specs.TextFault.{IsTextFault};

@@ -7,7 +7,7 @@ ghost use Rattle.msr_kinds.specs.RecordLength.{IsRecordLength};
 ghost use Rattle.msr_kinds.specs.declared.kinds.Kinds.{Kinds as AChoice};
 ghost use Rattle.msr_report.specs.Text.{kinds_line};
 ghost use Rattle.msr_rows.specs.declared.row.Key.{Key as ChannelKey};
-ghost use Rattle.msr_report_reader.specs.Content.{IsReportKey, IsOpening};
+ghost use Rattle.msr_report_reader.specs.Content.{IsOpening, IsReportKey};
 
 use crate::fields::{after, counted};
 use crate::keys::channel_key;

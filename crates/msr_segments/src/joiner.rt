@@ -44,7 +44,7 @@ pub struct Joiner {
 }
 
 impl Model for Joiner {
-    ghost use Rattle.msr_segments.specs.Joining.{Joining, joining_of, AreAsMany};
+    ghost use Rattle.msr_segments.specs.Joining.{AreAsMany, Joining, joining_of};
 
     ghost Value = { Joining };
 

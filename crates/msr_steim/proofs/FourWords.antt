@@ -14,7 +14,7 @@ use Rattle.msr_base.specs.declared.order.Order.TheVariants.{Big, Little}
 use Rattle.msr_kinds.specs.declared.storage.Version.{Version}
 use Rattle.msr_kinds.specs.declared.storage.Version.TheVariants.{One, Two}
 use Rattle.msr_steim.specs.declared.sums.Progress.{Progress}
-use Rattle.msr_steim.specs.Area.{FirstWordsHold, WordHolds, word_code, constant, joined_groups, samples_of, sums_after, whole_word, word_count}
+use Rattle.msr_steim.specs.Area.{FirstWordsHold, WordHolds, constant, joined_groups, samples_of, sums_after, whole_word, word_code, word_count}
 use Rattle.msr_steim.specs.InOrder.{BeginsAfter, differences_from}
 use Rattle.msr_steim.specs.Sums.{AreSumsWritten}
 use Rattle.msr_steim.specs.Word.{AreFields, layout_of, numbers_in, signed_of}

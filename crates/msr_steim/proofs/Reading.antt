@@ -9,7 +9,7 @@ use Rattle.msr_base.specs.declared.order.Order.{Order}
 use Rattle.msr_steim.specs.declared.sums.Progress.{Progress}
 use Rattle.msr_kinds.specs.declared.storage.Version.{Version}
 use Rattle.msr_kinds.specs.declared.storage.Version.TheVariants.{One, Two}
-use Rattle.msr_steim.specs.Area.{CarriesSteim, IsUndefined, IsUndefinedBefore, WordHolds, arranged_word, word_code, constant, joined_groups, samples_of, sums_after, whole_word, word_count}
+use Rattle.msr_steim.specs.Area.{CarriesSteim, IsUndefined, IsUndefinedBefore, WordHolds, arranged_word, constant, joined_groups, samples_of, sums_after, whole_word, word_code, word_count}
 use Rattle.msr_steim.specs.Sums.{IsWritten}
 use Rattle.msr_steim.specs.Word.{Holds, IsUndefinedWord, layout_of}
 use Rattle.msr_steim.proofs.Decoding.{AreReadBelow, differences_push, length-samples_of, one_more_held, read_enough, read_more}

@@ -5,7 +5,7 @@ use Rattle.msr_base.specs.declared.order.Order.{Order}
 use Rattle.msr_steim.specs.declared.borrowed.Fields.{Fields}
 use Rattle.msr_steim.specs.declared.word.WordLayout.{WordLayout}
 use Rattle.msr_kinds.specs.declared.storage.Version.{Version}
-use Rattle.msr_steim.specs.Area.{CarriesSteim, ReverseAgrees, arranged_word, word_code, constant, samples_of, sums_after, word_count}
+use Rattle.msr_steim.specs.Area.{CarriesSteim, ReverseAgrees, arranged_word, constant, samples_of, sums_after, word_code, word_count}
 use Rattle.msr_steim.specs.Word.{layout_of, numbers_in}
 
 -- the numbers in the fields of a word that is laid out so; an undefined word has none

@@ -3,7 +3,7 @@ ghost use Rattle.std.specs.Prelude.{◌≡◌, ◌⊎◌, ◌↔◌, ℕ, IsErrO
 ghost use Rattle.msr_devices.specs.Device.{CanCountCall, CountsFew, HasFailed};
 ghost use Rattle.msr_tool.specs.Checking.{GivesReport};
 ghost use Rattle.msr_tool.specs.KeepingUp.{HasKeptUp};
-ghost use Rattle.msr_tool.specs.Tasks.{Reports, TellsVerdict, TellsFailures};
+ghost use Rattle.msr_tool.specs.Tasks.{Reports, TellsFailures, TellsVerdict};
 
 use crate::check::check_packed;
 use crate::fault::ToolFault;

@@ -7,7 +7,7 @@ use Rattle.msr_rows.specs.declared.row.Row.{Row}
 use Rattle.msr_segments.specs.declared.span.Span.{Span}
 use Rattle.msr_segments.specs.declared.follow.Step.{Step}
 use Rattle.msr_segments.specs.declared.follow.Step.TheVariants.{Begins, Joins}
-use Rattle.msr_segments.specs.Spans.{Continues, Following, TakesStep, JoinsSegment}
+use Rattle.msr_segments.specs.Spans.{Continues, Following, JoinsSegment, TakesStep}
 use Rattle.msr_segments.specs.Segments.{Part, rows_of, segment_of, part_span, row_span, segment_span, IsDivision}
 use Rattle.msr_segments.proofs.Divisions.{no_empty, cases_last, longer_part, ContinuesPart, division_none, division_breaks, division_joins, division_begins, segment_of_longer, segment_of_alone, span_with_row}
 use Rattle.msr_input.specs.Rows.{StepsTo, row_told}

@@ -17,7 +17,7 @@ use Rattle.msr_tool.specs.declared.fault.ToolFault.TheVariants.{Write}
 use Rattle.msr_verify.specs.declared.judgement.Judgement.{Judgement}
 use Rattle.msr_verify.specs.declared.judgement.Judgement.TheVariants.{Refused, Skipped}
 use Rattle.msr_verify.specs.declared.judgement.Refusal.TheVariants.{FileUnopened, Listing, RecordsListing}
-use Rattle.msr_verify.specs.Entries.{JudgedEntry, IsDay, IsJudgedEntry, IsJudgedEntryLine, IsJudgementOf, IsJudgementOfDay, IsVerifyTally}
+use Rattle.msr_verify.specs.Entries.{IsDay, IsJudgedEntry, IsJudgedEntryLine, IsJudgementOf, IsJudgementOfDay, IsVerifyTally, JudgedEntry}
 use Rattle.msr_verify.specs.Walk.{StopsTellingJudged, TellsJudged, TellsVerified, Verifies, judged_line, judged_summary}
 use Rattle.msr_verify.specs.declared.tally.VerifyTally.{VerifyTally}
 

@@ -8,7 +8,7 @@ use Rattle.msr_folders.specs.Found.{Finds}
 use Rattle.msr_folders.specs.declared.found.WalkFound.{WalkFound}
 use Rattle.msr_tool.specs.declared.fault.ToolFault.{ToolFault}
 use Rattle.msr_tool.specs.declared.fault.ToolFault.TheVariants.{Input, Report, Read, Write, Memory}
-use Rattle.msr_verify.specs.Entries.{JudgedEntry, IsJudgedEntry, IsJudgedEntryLine, IsVerifyTally, judged_count, is_unverified, is_verified, verify_tally_of}
+use Rattle.msr_verify.specs.Entries.{IsJudgedEntry, IsJudgedEntryLine, IsVerifyTally, JudgedEntry, is_unverified, is_verified, judged_count, verify_tally_of}
 use Rattle.msr_verify.specs.declared.tally.VerifyTally.{VerifyTally}
 
 -- the counts at the end of the last line

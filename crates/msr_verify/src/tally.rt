@@ -3,7 +3,7 @@ ghost use Rattle.std.specs.Prelude.{◌≡◌, ◌++◌, ◌∷◌, [], List, If
 ghost use Rattle.std.specs.String.{string_bytes};
 ghost use Rattle.msr_devices.specs.Device.{CanCountCall, IsCalm, Takes};
 ghost use Rattle.msr_folders.specs.Visits.{StopsPrefix};
-ghost use Rattle.msr_verify.specs.Entries.{JudgedEntry, IsVerifyTally};
+ghost use Rattle.msr_verify.specs.Entries.{IsVerifyTally, JudgedEntry};
 ghost use Rattle.msr_verify.specs.Walk.{judged_line, others_told};
 
 use crate::judgement::Judgement;

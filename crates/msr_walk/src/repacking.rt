@@ -4,7 +4,7 @@ ghost use Rattle.msr_devices.specs.Device.{CanCountCall, HasFailed};
 ghost use Rattle.msr_options.specs.Choice.{record_size};
 ghost use Rattle.msr_report.specs.Proper.{IsProper, records_in};
 ghost use Rattle.msr_folders.specs.Totals.{saturated};
-ghost use Rattle.msr_walk.specs.Day.{ComparesDay, IsReportKept, ShownAnswers, RepacksDay, fault_of_checking, fault_of_comparing};
+ghost use Rattle.msr_walk.specs.Day.{ComparesDay, IsReportKept, RepacksDay, ShownAnswers, fault_of_checking, fault_of_comparing};
 
 use crate::outcome::{DayFault, Repacked};
 use msr_compare::{CompareFault, compare};

@@ -1,6 +1,6 @@
 -- Where the runs so far leave the packing.
 use Rattle.std.proofs.Common.{◌-◌, length}
-use Rattle.msr_packer.specs.HeldSamples.{InsideIfAny, HoldsWindow, frontier_of}
+use Rattle.msr_packer.specs.HeldSamples.{HoldsWindow, InsideIfAny, frontier_of}
 use Rattle.msr_words.specs.Fit.{records_of}
 use Rattle.msr_packer.proofs.pack_in.Given as goal
 

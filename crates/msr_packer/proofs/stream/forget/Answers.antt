@@ -1,5 +1,5 @@
 use Rattle.std.proofs.Common.{◌∙◌, ◌-◌, ap, arith, length, length-drop, refl}
-use Rattle.msr_packer.specs.HeldSamples.{frontier_of, first_ungiven}
+use Rattle.msr_packer.specs.HeldSamples.{first_ungiven, frontier_of}
 use Rattle.msr_packer.proofs.Streaming.{growing_few, growing_forgets, may_forget}
 use Rattle.msr_words.specs.Fit.{records_of}
 use Rattle.msr_packer.proofs.stream.forget.Goals as goal

@@ -1,6 +1,6 @@
 use Rattle.std.proofs.Common.{◌≡◌, ℕ, ◌+◌, ◌^◌, ◌≤◌, List, ◌++◌, [], ◌-◌, arith, Ok, refl, sym, ap, ◌∙◌, rules, length, FitsSigned, w64, to_z-of_z}
 use Rattle.msr_header.specs.Reading.{header_of}
-use Rattle.msr_header.specs.Writing.{header_bytes, IsWritableHeader, header_as_read}
+use Rattle.msr_header.specs.Writing.{IsWritableHeader, header_as_read, header_bytes}
 use Rattle.msr_header.specs.declared.header.Header.{Header}
 use Rattle.msr_kinds.specs.Lengths.{bytes_of}
 use Rattle.msr_record.specs.Written.{header_for}

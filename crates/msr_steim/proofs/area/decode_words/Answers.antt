@@ -2,7 +2,7 @@
 use Rattle.std.proofs.Common.{◌≡◌, ◌≢◌, ◌<◌, ◌+◌, ◌*◌, ◌/◌, ◌%◌, ◌^◌, length, take, arith, ap, refl, subst, ◌∙◌}
 use Rattle.std.proofs.lemmas.Bool.{ne_eqb}
 use mathlib.Core.Bool.{not}
-use Rattle.msr_steim.specs.Area.{IsUndefined, IsUndefinedBefore, arranged_word, word_code, constant}
+use Rattle.msr_steim.specs.Area.{IsUndefined, IsUndefinedBefore, arranged_word, constant, word_code}
 use Rattle.msr_steim.specs.Sums.{IsWritten, ReachesEnd}
 use Rattle.msr_steim.proofs.Beginning.{begins_on, code_here, codes_by, codes_on, end_reached, starts_here}
 use Rattle.msr_steim.proofs.FourWords.{AreOnes, four_place, four_reached, ones_within}

@@ -4,7 +4,7 @@ use Rattle.std.proofs.lemmas.Bool.{ne_eqb}
 use Rattle.std.proofs.lemmas.Int.{to_z-of_z}
 use mathlib.Core.Bool.{not}
 use Rattle.msr_steim.specs.declared.sums.Progress.{Progress}
-use Rattle.msr_steim.specs.Area.{IsUndefined, word_code, constant}
+use Rattle.msr_steim.specs.Area.{IsUndefined, constant, word_code}
 use Rattle.msr_steim.proofs.Beginning.{code_here, codes_by, codes_on}
 use Rattle.msr_steim.proofs.Checking.{ArePassed, looked_at, none_passed, passed_enough, passed_on, undefined_alone}
 use Rattle.msr_steim.proofs.FourWords.{AreOnes, four_passed, ones_within}

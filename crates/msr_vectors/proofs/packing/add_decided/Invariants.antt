@@ -1,5 +1,5 @@
 use Rattle.std.proofs.Common.{◌≡◌}
-use Rattle.msr_packer.specs.Blocks.{steps_left, pushed}
+use Rattle.msr_packer.specs.Blocks.{pushed, steps_left}
 use Rattle.msr_vectors.proofs.packing.add_decided.Given as goal
 
 abbrev pub invariant-loop-piece : goal.invariant-loop-piece

@@ -1,7 +1,7 @@
 use Rattle.std.proofs.lemmas.Result.{err_from_is_err_and}
 use Rattle.std.proofs.Common.{refl}
 use Rattle.msr_folders.proofs.VisitLemmas.{part_line, tells_one}
-use Rattle.msr_verify.specs.Entries.{JudgedEntry, IsJudgedEntry, IsJudgedEntryLine, IsVerifyTally}
+use Rattle.msr_verify.specs.Entries.{IsJudgedEntry, IsJudgedEntryLine, IsVerifyTally, JudgedEntry}
 use Rattle.msr_verify.proofs.EntriesFound.{none_told}
 use Rattle.msr_verify.proofs.folders.tell.Goals as goal
 

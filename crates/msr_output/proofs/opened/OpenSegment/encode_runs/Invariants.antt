@@ -1,6 +1,6 @@
 use Rattle.std.proofs.Common.{◌≡◌, ◌≤◌, List}
 use Rattle.msr_words.specs.declared.kinds.Run.{Run}
-use Rattle.msr_packer.specs.Blocks.{steps_left, pushed}
+use Rattle.msr_packer.specs.Blocks.{pushed, steps_left}
 use Rattle.msr_segments.specs.declared.joiner.Segment.{Segment}
 use Rattle.msr_output.specs.Opened.{AppendsSome, CanGoOn, IsOpen}
 use Rattle.msr_output.proofs.opened.OpenSegment.encode_runs.Given as goal

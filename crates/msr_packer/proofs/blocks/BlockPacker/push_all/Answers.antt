@@ -1,7 +1,7 @@
 use Rattle.std.proofs.lemmas.Result.{err_from_is_err_and}
 use Rattle.std.proofs.Common.{refl, arith, ap, ◌∙◌, ◌≤◌, length, length-append, subst}
 use Rattle.msr_words.specs.Fit.{records_of}
-use Rattle.msr_packer.specs.HeldSamples.{frontier_of, first_ungiven}
+use Rattle.msr_packer.specs.HeldSamples.{first_ungiven, frontier_of}
 use Rattle.msr_packer.specs.declared.held.HeldSamples.{HeldSamples}
 use Rattle.msr_packer.proofs.Holding.{sound_more}
 use Rattle.msr_packer.proofs.InBlocks.{packs_held, packs_more, packs_same}

@@ -1,5 +1,5 @@
 use Rattle.std.proofs.Common.{◌≡◌, ◌<◌, ◌-◌, ap, arith, length, length-drop, refl}
-use Rattle.msr_packer.specs.HeldSamples.{HoldsNeeded, IsSound, frontier_of, first_ungiven}
+use Rattle.msr_packer.specs.HeldSamples.{HoldsNeeded, IsSound, first_ungiven, frontier_of}
 use Rattle.msr_packer.specs.declared.held.HeldSamples.{HeldSamples}
 use Rattle.msr_packer.proofs.Holding.{window_less}
 use Rattle.msr_packer.proofs.ToldSizes.{none_sized, sized_less}

@@ -1,6 +1,6 @@
 use Rattle.std.proofs.Common.{◌≡◌, ◌≤◌, ℕ, ℤ, List, [], Option, Some, None, IsNone, arith, length, refl}
 use Rattle.std.specs.Prelude.{slice_range}
-use Rattle.msr_packer.specs.HeldSamples.{frontier_of, piece_of, first_ungiven}
+use Rattle.msr_packer.specs.HeldSamples.{first_ungiven, frontier_of, piece_of}
 use Rattle.msr_packer.specs.declared.held.RunToCut.{RunToCut}
 use Rattle.msr_packer.proofs.Holding.{next_stepped, shows_next, start_before, window_next}
 use Rattle.msr_packer.proofs.ToldSizes.{sized_cut}

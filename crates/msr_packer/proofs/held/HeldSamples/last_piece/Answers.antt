@@ -1,5 +1,5 @@
 use Rattle.std.proofs.Common.{◌≡◌, ◌∙◌, arith, length, refl, subst}
-use Rattle.msr_packer.specs.HeldSamples.{frontier_of, first_ungiven}
+use Rattle.msr_packer.specs.HeldSamples.{first_ungiven, frontier_of}
 use Rattle.msr_packer.specs.Steps.{HaveSizes}
 use Rattle.msr_packer.proofs.ToldSizes.{frontier_within, none_sized}
 use Rattle.msr_packer.proofs.Holding.{ends_with, shows_next}

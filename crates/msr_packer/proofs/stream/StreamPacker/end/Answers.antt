@@ -1,7 +1,7 @@
 use Rattle.std.proofs.Common.{◌+◌, ◌++◌, ◌≤◌, ap, append_assoc, arith, inl, inr, length}
 use Rattle.std.proofs.lemmas.Bool.{cases_lt}
 use Rattle.std.proofs.lemmas.List.{map-append}
-use Rattle.msr_packer.specs.HeldSamples.{frontier_of, pieces_of, runs_of, separators_of, first_ungiven}
+use Rattle.msr_packer.specs.HeldSamples.{first_ungiven, frontier_of, pieces_of, runs_of, separators_of}
 use Rattle.msr_packer.specs.declared.held.Piece.{Piece}
 use Rattle.msr_packer.proofs.Holding.{leaves}
 use Rattle.msr_packer.proofs.InBlocks.{holds_in}
