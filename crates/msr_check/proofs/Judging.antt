@@ -111,7 +111,8 @@ module _ (records : Records) (samples new : List ℤ) (runs : List Run) (separat
             )
 
     -- the run that comes is the last then
-    last_more : (kind : Kind) → FollowsLast records (held ++ new) last (length held) (slice_index separators (length runs))
+    last_more : (kind : Kind)
+        → FollowsLast records (held ++ new) last (length held) (slice_index separators (length runs))
         → HasLast records (samples ++ new) (runs ++ next_run samples new kind ∷ []) separators (held ++ new)
         (becomes_last last (length held) (slice_index separators (length runs)) kind)
     last_more kind follows =

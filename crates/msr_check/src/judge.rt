@@ -76,7 +76,8 @@ pub(crate) fn followed_by(
     requires { end ≤ length held.now }
     ensures { MatchOption result
         (FollowsLast (records_of form) held.now last end separator → ⊥)
-        (λ next. FollowsLast (records_of form) held.now last end separator × (next ≡ becomes_last last end separator kind)) }
+        (λ next. FollowsLast (records_of form) held.now last end separator
+        × (next ≡ becomes_last last end separator kind)) }
 {
     let number = number_after(last, end)?;
     if separator < number || separator - number >= (held.len() - end) as u64 {
@@ -176,7 +177,8 @@ impl Judge {
         requires { end ≤ length self.now.held }
         ensures { MatchOption result
             (self.now.count < length separators.now
-            → FollowsLast (records_of form) self.now.held self.now.last end (slice_index separators.now self.now.count) → ⊥)
+            → FollowsLast (records_of form) self.now.held self.now.last end (slice_index separators.now self.now.count)
+            → ⊥)
             (λ next. (self.now.count < length separators.now)
             × FollowsLast (records_of form) self.now.held self.now.last end (slice_index separators.now self.now.count)
             × (next ≡ becomes_last self.now.last end (slice_index separators.now self.now.count) kind)) }

@@ -17,4 +17,5 @@ task_fault_text (Tool fault) = None
 
 -- a writer has got the line of a fault
 abbrev pub TellsFault : TaskFault → (old new : Option (List ℕ)) → Type 0
-TellsFault fault old new = IfSome (task_fault_text fault) (λ text. Appends old new (codes "msrepack: " ++ (text ++ codes "\n")))
+TellsFault fault old new =
+    IfSome (task_fault_text fault) (λ text. Appends old new (codes "msrepack: " ++ (text ++ codes "\n")))

@@ -318,7 +318,8 @@ impl HeldSamples {
         ensures samples { self.new.samples.items ≡ drop (first_ungiven self.old.current - 1) self.old.samples.items }
         ensures frontier { frontier_of self.new.current + (first_ungiven self.old.current - 1)
             ≡ frontier_of self.old.current }
-        ensures start { first_ungiven self.new.current + (first_ungiven self.old.current - 1) ≡ first_ungiven self.old.current }
+        ensures start { first_ungiven self.new.current + (first_ungiven self.old.current - 1)
+            ≡ first_ungiven self.old.current }
         ensures from { self.new.from ≡ 0 }
         ensures to { self.new.to ≡ 0 }
     {

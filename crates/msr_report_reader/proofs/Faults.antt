@@ -59,7 +59,8 @@ not_last_more : (segments : List SegmentLine) (begins : Bool) (text more : List 
     → text ++ more ≡ end_line (length segments) (records_in segments) ++ x → ⊥
 not_last_more segments begins text more may enough none x fits is =
     let within = inside (end_body (length segments) (records_in segments)) 10 x begins text more
-    (end_is_one (length segments) (records_in segments)) (end_short (length segments) (records_in segments)) (may _ is) enough
+    (end_is_one (length segments) (records_in segments)) (end_short (length segments) (records_in segments)) (may _ is)
+    enough
     (is ∙ end_then (length segments) (records_in segments) x) in
     none within.left record {
       fits = fits;

@@ -111,7 +111,8 @@ abbrev pub IsDraftStep : Draft → Draft → List ℕ → Result Progress Report
 IsDraftStep old new text (Ok (Consumed n)) = IsConsumed old new text n
 IsDraftStep old new text (Ok (Cut line)) = IsCut old new text line
 IsDraftStep old new text (Ok (Whole first)) = IsWhole old new text first
-IsDraftStep old new text (Err fault) = (past more : List ℕ) → HasRead old past → IsTextFault (past ++ (text ++ more)) fault
+IsDraftStep old new text (Err fault) =
+    (past more : List ℕ) → HasRead old past → IsTextFault (past ++ (text ++ more)) fault
 
 -- the line is cut, and more bytes can make it another; or it is at fault however the text goes on
 abbrev pub IsLineRefused : Bool → List ℕ → ℕ → Result Progress ReportFault → Type 0

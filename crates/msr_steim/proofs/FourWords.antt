@@ -44,7 +44,8 @@ all_held version order area before (group ∷ groups) number held number_is here
     (subst (λ n. WordHolds version order area n group) (sym number_is) here.0))
     (length-append before (group ∷ []) ∙ ap (λ n. n + 1) number_is) here.1 (omega (arith, within)))
 
-all_differences : (before groups : List (List ℤ)) → joined_groups (before ++ groups) ≡ joined_groups before ++ joined_groups groups
+all_differences : (before groups : List (List ℤ))
+    → joined_groups (before ++ groups) ≡ joined_groups before ++ joined_groups groups
 all_differences before groups = flat_map-append (λ g. g) before groups
 
 -- more words, and still too few samples

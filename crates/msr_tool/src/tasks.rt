@@ -74,7 +74,8 @@ pub fn check_and_tell<R: Source, Q: Source, T: Sink>(
     requires out { CanCountCall (T.device out.old) }
 
     // What was written and what is answered, for the bytes that the sources have.
-    ensures answer { TellsVerdict (R.device packed.old) (Q.device report.old) (T.device out.old) (T.device out.new) result }
+    ensures answer { TellsVerdict (R.device packed.old) (Q.device report.old)
+        (T.device out.old) (T.device out.new) result }
 
     // A failure of a device is answered as such, and nothing else is.
     ensures read { IsErrOf result ToolFault.Read ↔ (HasFailed (R.device packed.old) (R.device packed.new)

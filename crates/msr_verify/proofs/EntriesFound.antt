@@ -88,7 +88,8 @@ walk_ends out0 out1 out tally0 tally found told prints end = record {
 }
 
 -- the last line, from the counts of the entries
-pub summary_is : (entries : List JudgedEntry) (tally : VerifyTally) → IsVerifyTally entries tally → judged_line tally ≡ judged_summary entries
+pub summary_is : (entries : List JudgedEntry) (tally : VerifyTally) → IsVerifyTally entries tally
+    → judged_line tally ≡ judged_summary entries
 summary_is entries tally h =
     rw (h.verified, h.skipped, h.refused, h.missing, h.not_shown, h.differ, h.orphans) refl
 

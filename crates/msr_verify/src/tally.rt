@@ -33,8 +33,8 @@ impl VerifyTally {
 
     /// Counts one entry more.
     pub(crate) fn add(&mut self, judgement: Judgement)
-        ensures { (before : List JudgedEntry) (entry : JudgedEntry) → IsVerifyTally before self.old → entry.judgement ≡ judgement
-            → IsVerifyTally (before ++ entry ∷ []) self.new }
+        ensures { (before : List JudgedEntry) (entry : JudgedEntry) → IsVerifyTally before self.old
+            → entry.judgement ≡ judgement → IsVerifyTally (before ++ entry ∷ []) self.new }
     {
         match judgement {
             Judgement::Verified => {

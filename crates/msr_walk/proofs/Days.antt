@@ -59,7 +59,8 @@ stopped_after choice input written report r = record {
   };
 }
 
-day_unread : (choice : Choice) (repacked : Repacked) (why : ToolFault) → HasAnswer choice (Ok repacked) → IsReadOrMemory why
+day_unread : (choice : Choice) (repacked : Repacked) (why : ToolFault) → HasAnswer choice (Ok repacked)
+    → IsReadOrMemory why
     → HasAnswer choice (Err why)
 day_unread choice repacked why does (inl is) = rw is (record {
   input = does.input;

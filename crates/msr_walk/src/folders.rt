@@ -51,7 +51,8 @@ fn tell<R: Files, O: Sink>(
 ) -> Result<(), DeviceFault>
     requires { CanCountCall (O.device out.old) }
     ensures told { IsOutcomeOf walker.now.archive.now.days path.now channel.now outcome →
-        OnOk result (TellsOutcomes walker.now.archive.now.days (O.device out.old) (O.device out.new) tally.old tally.new) }
+        OnOk result (TellsOutcomes walker.now.archive.now.days
+        (O.device out.old) (O.device out.new) tally.old tally.new) }
     ensures stops { IsOutcomeOf walker.now.archive.now.days path.now channel.now outcome →
         IfErr result (StopsTellingOutcomes walker.now.archive.now.days (O.device out.old) (O.device out.new)) }
 {

@@ -29,7 +29,8 @@ pub no_groups : (version : Version) (gs : List (List ℤ)) → AreGroups version
 no_groups version [] are none = refl
 no_groups version (g ∷ gs) are none =
     let some = (a_group_has_few version true g (head_group version g gs are)).0 in
-    let size : length (joined_groups (g ∷ gs)) ≡ length g + length (joined_groups gs) = length-append g (joined_groups gs) in
+    let size : length (joined_groups (g ∷ gs)) ≡ length g + length (joined_groups gs) =
+    length-append g (joined_groups gs) in
     absurd (omega arith)
 
 pub inner_first : (version : Version) (g : List ℤ) (gs : List (List ℤ)) → IsInnerGroup version g
