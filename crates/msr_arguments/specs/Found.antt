@@ -5,7 +5,7 @@ use Rattle.clap.specs.Words.{first_value, matched_of, one_text, raw_values}
 use Rattle.clap.specs.declared.error.kind.ErrorKind.{ErrorKind}
 use Rattle.clap.specs.declared.error.kind.ErrorKind.TheVariants.{DisplayHelp, DisplayVersion, OutOfMemory}
 use Rattle.clap.specs.declared.parser.matches.Found.{Found}
-use Rattle.msr_options.specs.Choice.{Choice, size_of}
+use Rattle.msr_options.specs.Choice.{Choice, record_size}
 use Rattle.msr_arguments.specs.declared.words.LineFault.{LineFault}
 use Rattle.msr_arguments.specs.declared.words.LineFault.TheVariants.{SameFile, OneStandardInput, NotBelow, Overlap}
 use Rattle.msr_options.specs.declared.days.DayOptions.{DayOptions}
@@ -65,7 +65,7 @@ IsLengthOf (Some text) bytes = IsNumberOf (Some text) (Some bytes)
 -- the options are those that were found, with the length of that text
 pub record AsksOptions (found : Found) (text : Option (List ℕ)) (options : Choice) : Type 0 where
   pub tolerance : IsToleranceIn found options.tolerance
-  pub length_is : IsLengthOf text (size_of options)
+  pub length_is : IsLengthOf text (record_size options)
   pub strict : IsFlagOf (one_text found (codes "strict")) options.strict
   pub kinds : IsKindsOf (one_text found (codes "no-int24")) options.kinds
 
@@ -165,9 +165,9 @@ IsToldByClap NotALength = ⊥
 IsToldByClap Memory = ⊤
 
 -- what is said of a line that asks for what is not done
-abbrev pub text_of : LineFault → Option (List ℕ)
-text_of SameFile = Some (codes "msrepack: the output is the input\n")
-text_of OneStandardInput = Some (codes "msrepack: only one input can be standard input\n")
-text_of NotBelow = Some (codes "msrepack: not a folder of an archive\n")
-text_of Overlap = Some (codes "msrepack: the folders overlap\n")
-text_of _ = None
+abbrev pub line_fault_text : LineFault → Option (List ℕ)
+line_fault_text SameFile = Some (codes "msrepack: the output is the input\n")
+line_fault_text OneStandardInput = Some (codes "msrepack: only one input can be standard input\n")
+line_fault_text NotBelow = Some (codes "msrepack: not a folder of an archive\n")
+line_fault_text Overlap = Some (codes "msrepack: the folders overlap\n")
+line_fault_text _ = None

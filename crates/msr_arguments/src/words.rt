@@ -2,7 +2,7 @@
 ghost use Rattle.std.specs.Prelude.{◌≡◌, ◌≢◌, ◌<◌, ◌≤◌, ◌↔◌, ℕ, length, codes, false, slice_get, Some, IfOk, IfErr, IfSome, IsSome, IsSomeAnd, IsOk, IsOkAnd, IsErrAnd, IsTrue, Ok, Err, Any, map, option_map};
 ghost use Rattle.msr_kinds.specs.RecordLength.{IsRecordLength};
 ghost use Rattle.clap.specs.Words.{first_value, found_of, kind_of, one_text};
-ghost use Rattle.msr_arguments.specs.Found.{AsksArchive, AsksBelow, AsksCheck, AsksDays, AsksFolders, AsksOptions, AsksTask, AsksVerify, EndsFor, EndsWith, IsBadLine, IsFlagOf, IsFormOf, IsKindsOf, IsLengthOf, IsNumberOf, IsToldByClap, IsWrong, length_in, text_of, without_slash};
+ghost use Rattle.msr_arguments.specs.Found.{AsksArchive, AsksBelow, AsksCheck, AsksDays, AsksFolders, AsksOptions, AsksTask, AsksVerify, EndsFor, EndsWith, IsBadLine, IsFlagOf, IsFormOf, IsKindsOf, IsLengthOf, IsNumberOf, IsToldByClap, IsWrong, length_in, line_fault_text, without_slash};
 ghost use Rattle.msr_arguments.specs.Rules.{IsFoundFor, HasNeeded, HoldsTolerance, folder_rules};
 ghost use Rattle.msr_options.specs.Tasks.{AreApart, AreBothStandard, HasStatus, HasTolerance, IsDefault, IsTolerance, KeepsInput, Overlap, StandApart, verb_of, word_of};
 
@@ -52,7 +52,7 @@ enum LineFault<'a> {
 
 /// The answer to a command that has that fault.
 fn refused(alloc: Global, fault: LineFault<'_>) -> NoTask
-    ensures text { IfSome (text_of fault.entry) (λ text. IsWrong text result) }
+    ensures text { IfSome (line_fault_text fault.entry) (λ text. IsWrong text result) }
     ensures other { fault.entry ≡ LineFault.NotALength → result ≡ NoTask.NotALength }
     ensures status { IsBadLine result }
 {

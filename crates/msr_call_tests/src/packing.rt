@@ -1,10 +1,11 @@
 //! Packers and areas, by calls that ask of their caller what no row of a table can know.
 use crate::facts::expect_all;
 use msr_fixtures::expect;
-use msr_packer::{BlockPacker, Piece, Run, pack};
-use msr_plain::{Width, fill_plain};
+use msr_kinds::{Form, Kinds, Length, Width};
+use msr_packer::{BlockPacker, Piece, pack};
+use msr_plain::fill_plain;
 use msr_words::Kind::{self, Steim2};
-use msr_words::{Form, Kinds, Length, first_kind, one_division};
+use msr_words::{Run, first_kind, one_division};
 use std::alloc::{AllocError, Global};
 use std::test::Fail;
 

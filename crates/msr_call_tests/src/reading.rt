@@ -4,7 +4,8 @@ use msr_base::SampleVec;
 use msr_devices::{Behavior, TestSource};
 use msr_fixtures::{START, int32_record, key_at};
 use msr_input::{NextRecord, ReadFault, RowReader, Settings};
-use msr_record::{Key, Kind, Row};
+use msr_kinds::Kind;
+use msr_rows::{Key, Row};
 use msr_segments::{
     Joiner, cuts_grow_by_rows, cuts_keep_segments, followers_stand_with_joiners,
     overruns_are_out_of_range, rows_have_one_division, steps_are_pushes,

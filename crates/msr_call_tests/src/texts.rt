@@ -5,7 +5,7 @@ use msr_fixtures::expect;
 use msr_header::HeaderFault;
 use msr_input::{Fault, ReadFault};
 use msr_plain::PlainFault;
-use msr_record::FaultKind;
+use msr_rows::FaultKind;
 use msr_steim::SteimFault;
 use std::test::Fail;
 

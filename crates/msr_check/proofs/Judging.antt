@@ -11,8 +11,8 @@ use Rattle.msr_words.specs.Packing.{IsPacking, IsSeparating, Joins, NoneHolds}
 use Rattle.msr_words.proofs.Certificate.{all_split, in_its_run, joins_more}
 use Rattle.msr_words.proofs.LastSamples.{apart_in_window, apart_of_window, apart_stays, apart_was, run_in_window, run_of_window, run_stays, run_was}
 use Rattle.msr_check.proofs.Rising.{separating_all, separating_more}
-use Rattle.msr_check.specs.Judged.{AreShown, Ends, Follows, HasLast, HoldsSoFar, IsFollowed, IsSoundLast, Judged, Judges, NoneShows, StandsAt, becomes_last, last_run, next_run, number_after, without}
-use Rattle.msr_check.specs.Next.{IsNext, SeparatingTo}
+use Rattle.msr_check.specs.Judged.{AreShown, FollowsLast, HasLast, HasLastIfAny, HoldsSoFar, IsComplete, IsFollowed, IsSoundLast, Judged, Judges, NoneShows, becomes_last, last_run, next_run, samples_after, without}
+use Rattle.msr_check.specs.Next.{IsNextSeparator, SeparatingTo}
 use Rattle.msr_check.specs.declared.judge.LastRun.{LastRun}
 
 -- samples that follow change nothing of the separators
@@ -35,8 +35,8 @@ fits_stay records samples more runs all =
 
 module _ (records : Records) (samples new : List ℤ) (runs : List Run) (separators : List ℕ) (held : List ℤ) where
   -- as many samples came
-  pub number_is : (last : Option LastRun) → StandsAt records samples runs separators held last
-      → number_after last (length held) ≡ length samples
+  pub number_is : (last : Option LastRun) → HasLastIfAny records samples runs separators held last
+      → samples_after last (length held) ≡ length samples
   number_is None at = sym (ap length at.0)
   number_is (Some last) at =
       let long = ap length at.held_is ∙ length-drop at.offset samples in
@@ -51,7 +51,7 @@ module _ (records : Records) (samples new : List ℤ) (runs : List Run) (separat
   more_held last at = ap (λ xs. xs ++ new) at.held_is ∙ sym (drop-append-le at.offset samples new at.within)
 
   -- where they stand in the segment; two of them stand before the end, or all
-  place_held : (last : Option LastRun) → StandsAt records samples runs separators held last
+  place_held : (last : Option LastRun) → HasLastIfAny records samples runs separators held last
       → (o : ℕ) × (o ≤ length samples) × (held ≡ drop o samples) × ((o ≡ 0) ⊎ (2 ≤ length held))
   place_held None at = (0, omega arith, at.2 ∙ sym at.0, inl refl)
   place_held (Some last) at =
@@ -63,7 +63,7 @@ module _ (records : Records) (samples new : List ℤ) (runs : List Run) (separat
   sound_last None next followed = tt
   sound_last (Some last) next followed = followed.0
 
-  module _ (last : Option LastRun) (at : StandsAt records samples runs separators held last) where
+  module _ (last : Option LastRun) (at : HasLastIfAny records samples runs separators held last) where
     -- all runs so far are sound, and join to where the next one starts
     sound_so_far : IsSoundLast records (held ++ new) last (length held)
         → All (λ run. run.start < run.end) runs
@@ -71,7 +71,7 @@ module _ (records : Records) (samples new : List ℤ) (runs : List Run) (separat
         × Joins 0 runs (length samples)
     sound_so_far followed = sound_by last at followed
       where
-        sound_by : (last : Option LastRun) → StandsAt records samples runs separators held last
+        sound_by : (last : Option LastRun) → HasLastIfAny records samples runs separators held last
             → IsSoundLast records (held ++ new) last (length held)
             → All (λ run. run.start < run.end) runs
             × All (λ run. IsRun (FitsIn run.kind records) (samples ++ new) run.start run.end) runs
@@ -111,7 +111,8 @@ module _ (records : Records) (samples new : List ℤ) (runs : List Run) (separat
             )
 
     -- the run that comes is the last then
-    last_more : (kind : Kind) → Follows records (held ++ new) last (length held) (slice_index separators (length runs))
+    last_more : (kind : Kind)
+        → FollowsLast records (held ++ new) last (length held) (slice_index separators (length runs))
         → HasLast records (samples ++ new) (runs ++ next_run samples new kind ∷ []) separators (held ++ new)
         (becomes_last last (length held) (slice_index separators (length runs)) kind)
     last_more kind follows =
@@ -145,8 +146,8 @@ module _ (records : Records) (samples new : List ℤ) (runs : List Run) (separat
         }
 
     -- its separator is next
-    is_next : Follows records (held ++ new) last (length held) (slice_index separators (length runs))
-        → IsNext records (samples ++ new) separators (length runs)
+    is_next : FollowsLast records (held ++ new) last (length held) (slice_index separators (length runs))
+        → IsNextSeparator records (samples ++ new) separators (length runs)
     is_next follows =
         let number = number_is last at in
         let both = length-append held new in
@@ -155,8 +156,8 @@ module _ (records : Records) (samples new : List ℤ) (runs : List Run) (separat
         let past = follows.past in
         record { within = omega arith; apart = λ some. apart_by last at some follows }
       where
-        apart_by : (last : Option LastRun) → StandsAt records samples runs separators held last → 0 < length runs
-            → Follows records (held ++ new) last (length held) (slice_index separators (length runs))
+        apart_by : (last : Option LastRun) → HasLastIfAny records samples runs separators held last → 0 < length runs
+            → FollowsLast records (held ++ new) last (length held) (slice_index separators (length runs))
             → (slice_index separators (length runs - 1) < slice_index separators (length runs))
             × NoneHolds records (samples ++ new) (slice_index separators (length runs - 1)) (slice_index separators (length runs))
         apart_by None at some follows = absurd (omega (arith, ap length at.1))
@@ -166,7 +167,7 @@ module _ (records : Records) (samples new : List ℤ) (runs : List Run) (separat
             let long = ap length at.held_is ∙ length-drop at.offset samples in
             let from = follows.from in
             let s = slice_index separators (length runs) in
-            let place = length held + (s - number_after (Some last) (length held)) in
+            let place = length held + (s - samples_after (Some last) (length held)) in
             let next : at.offset + place ≡ s = omega arith in
             let within : at.offset ≤ length (samples ++ new) = omega (arith, length-append samples new) in
             let below = follows.followed.1.0 in
@@ -184,7 +185,7 @@ module _ (records : Records) (samples new : List ℤ) (runs : List Run) (separat
         → IsPacking records ((samples ++ new) ++ more) (runs ++ next_run samples new kind ∷ others)
         → IsSeparating records ((samples ++ new) ++ more) separators
         → length (runs ++ next_run samples new kind ∷ others) ≡ length separators
-        → Follows records (held ++ new) last (length held) (slice_index separators (length runs))
+        → FollowsLast records (held ++ new) last (length held) (slice_index separators (length runs))
     follows_then kind more others packing separating same =
         let number = number_is last at in
         let both = length-append held new in
@@ -195,10 +196,10 @@ module _ (records : Records) (samples new : List ℤ) (runs : List Run) (separat
         let past = lies.1 in
         record { from = omega arith; past = omega arith; followed = followed_by last at from }
       where
-        followed_by : (last : Option LastRun) → StandsAt records samples runs separators held last
+        followed_by : (last : Option LastRun) → HasLastIfAny records samples runs separators held last
             → length samples ≤ slice_index separators (length runs)
             → IsFollowed records (held ++ new) last (length held)
-            (length held + (slice_index separators (length runs) - number_after last (length held)))
+            (length held + (slice_index separators (length runs) - samples_after last (length held)))
         followed_by None at from = tt
         followed_by (Some last) at from =
             let F = FitsIn last.kind records in
@@ -229,7 +230,7 @@ module _ (records : Records) (samples new : List ℤ) (runs : List Run) (separat
             let up = separating.rising (length runs - 1) (length runs) (omega arith) (omega arith) in
             let apart = separating.apart (length runs - 1) (length runs) (omega arith) (omega arith) in
             let s = slice_index separators (length runs) in
-            let place = length held + (s - number_after (Some last) (length held)) in
+            let place = length held + (s - samples_after (Some last) (length held)) in
             let next : s ≡ at.offset + place = omega arith in
             let separator = at.separator in
             let start = at.from in
@@ -281,11 +282,11 @@ forgets records samples runs separators held last count few at =
 module _ (records : Records) (samples new : List ℤ) (runs : List Run) (separators : List ℕ) (kind : Kind) (old : Judged)
     (so_far : HoldsSoFar records samples runs separators old) (all : List ℤ) (end : ℕ) (all_is : all ≡ old.held ++ new)
     (end_is : end ≡ length old.held) where
-  follows_on : Follows records all old.last end (slice_index separators old.count)
-      → Follows records (old.held ++ new) old.last (length old.held) (slice_index separators (length runs))
+  follows_on : FollowsLast records all old.last end (slice_index separators old.count)
+      → FollowsLast records (old.held ++ new) old.last (length old.held) (slice_index separators (length runs))
   follows_on follows = rw (all_is, end_is, so_far.count_is) at follows
 
-  pub holds_more : Follows records all old.last end (slice_index separators old.count)
+  pub holds_more : FollowsLast records all old.last end (slice_index separators old.count)
       → HoldsSoFar records (samples ++ new) (runs ++ next_run samples new kind ∷ []) separators (record {
         held = all;
         last = Some (becomes_last old.last end (slice_index separators old.count) kind);
@@ -309,7 +310,7 @@ module _ (records : Records) (samples new : List ℤ) (runs : List Run) (separat
   -- so it is when samples are forgotten, but for two before that run
   pub judges_more : (next last : LastRun) (forgotten : ℕ) (left : List ℤ) → forgotten ≡ end - 2 → left ≡ drop forgotten all
       → last ≡ without next forgotten → old.holds ≡ true
-      → Follows records all old.last end (slice_index separators old.count)
+      → FollowsLast records all old.last end (slice_index separators old.count)
       × (next ≡ becomes_last old.last end (slice_index separators old.count) kind)
       → Judges records (samples ++ new) (runs ++ next_run samples new kind ∷ []) separators
       (record { held = left; last = Some last; count = old.count + 1; holds = old.holds })
@@ -325,7 +326,7 @@ module _ (records : Records) (samples new : List ℤ) (runs : List Run) (separat
       }
 
   pub none_more : (old.count < length separators
-      → Follows records all old.last end (slice_index separators old.count) → ⊥)
+      → FollowsLast records all old.last end (slice_index separators old.count) → ⊥)
       → NoneShows records (samples ++ new) (runs ++ next_run samples new kind ∷ []) separators
   none_more none = record {
     none = λ rest others packing separating same.
@@ -340,7 +341,7 @@ module _ (records : Records) (samples new : List ℤ) (runs : List Run) (separat
 -- no run more
 module _ (records : Records) (samples : List ℤ) (runs : List Run) (separators : List ℕ) (number : ℕ) (judged : Judged)
     (judges : Judges records samples runs separators judged) where
-  ends_shown : Ends records judged separators number → AreShown records samples runs separators number
+  ends_shown : IsComplete records judged separators number → AreShown records samples runs separators number
   ends_shown ends =
       let so_far = judges.holds ends.holds in
       let counted = so_far.count_is in
@@ -360,7 +361,7 @@ module _ (records : Records) (samples : List ℤ) (runs : List Run) (separators 
         number_is = sym (number_is records samples [] runs separators judged.held judged.last so_far.at) ∙ ends.number_is;
       }
 
-  shown_ends : AreShown records samples runs separators number → Ends records judged separators number
+  shown_ends : AreShown records samples runs separators number → IsComplete records judged separators number
   shown_ends shown = elim (cases_Bool judged.holds) [
     | inl was ↦
         let so_far = judges.holds was in
@@ -374,7 +375,7 @@ module _ (records : Records) (samples : List ℤ) (runs : List Run) (separators 
         (rw append-nil shown.separating) (rw append-nil shown.as_many))
   ]
     where
-      sound_end : (last : Option LastRun) → StandsAt records samples runs separators judged.held last
+      sound_end : (last : Option LastRun) → HasLastIfAny records samples runs separators judged.held last
           → IsSoundLast records judged.held last (length judged.held)
       sound_end None at = tt
       sound_end (Some last) at =
@@ -399,7 +400,7 @@ module _ (records : Records) (samples : List ℤ) (runs : List Run) (separators 
           )
 
 pub judges_end : (records : Records) (samples : List ℤ) (runs : List Run) (separators : List ℕ) (number : ℕ)
-    (judged : Judged) (answer : Bool) → IsTrue answer ↔ Ends records judged separators number
+    (judged : Judged) (answer : Bool) → IsTrue answer ↔ IsComplete records judged separators number
     → Judges records samples runs separators judged
     → IsTrue answer ↔ AreShown records samples runs separators number
 judges_end records samples runs separators number judged answer says judges = (

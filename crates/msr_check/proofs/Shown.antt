@@ -7,7 +7,7 @@ use Rattle.msr_words.specs.Fit.{Records}
 use Rattle.msr_words.specs.Packing.{IsPacking, IsSeparating, Joins}
 use Rattle.msr_check.proofs.Judging.{holds_more, judges_end, none_more, number_is}
 use Rattle.msr_check.proofs.Rising.{none_separating}
-use Rattle.msr_check.specs.Judged.{Follows, HoldsSoFar, IsSoundLast, Judged, becomes_last, next_run}
+use Rattle.msr_check.specs.Judged.{FollowsLast, HoldsSoFar, IsSoundLast, Judged, becomes_last, next_run}
 use Rattle.msr_check.specs.declared.judge.LastRun.{LastRun}
 
 -- what a judge shows if all samples before `at` are held
@@ -52,7 +52,7 @@ module _ (records : Records) (samples : List ℤ) (runs : List Run) (separators 
           judged_to samples (count + 1) end (Some (becomes_last last at (slice_index separators count) run.kind))
 
       -- the next run holds
-      pub shown_more : Follows records (take run.end samples) last at (slice_index separators count)
+      pub shown_more : FollowsLast records (take run.end samples) last at (slice_index separators count)
           → ShownTo (count + 1) run.end (Some (becomes_last last at (slice_index separators count) run.kind))
       shown_more follows = record {
         within = inside;
@@ -67,7 +67,7 @@ module _ (records : Records) (samples : List ℤ) (runs : List Run) (separators 
 
       -- or the runs are no packing with these separators
       pub shown_no_more : length runs ≡ length separators
-          → (Follows records (take run.end samples) last at (slice_index separators count) → ⊥)
+          → (FollowsLast records (take run.end samples) last at (slice_index separators count) → ⊥)
           → IsPacking records samples runs → IsSeparating records samples separators → ⊥
       shown_no_more same none packing separating =
           let fails = none_more records (take at samples) new (take count runs) separators run.kind

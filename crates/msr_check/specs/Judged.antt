@@ -39,16 +39,16 @@ pub record HasLast (records : Records) (samples : List ℤ) (runs : List Run) (s
   pub joined : Joins 0 earlier last.number
 
 -- before the first run there are no samples
-abbrev pub StandsAt : Records → List ℤ → List Run → List ℕ → List ℤ → Option LastRun → Type 0
-StandsAt records samples runs separators held None = (samples ≡ []) × (runs ≡ []) × (held ≡ [])
-StandsAt records samples runs separators held (Some last) = HasLast records samples runs separators held last
+abbrev pub HasLastIfAny : Records → List ℤ → List Run → List ℕ → List ℤ → Option LastRun → Type 0
+HasLastIfAny records samples runs separators held None = (samples ≡ []) × (runs ≡ []) × (held ≡ [])
+HasLastIfAny records samples runs separators held (Some last) = HasLast records samples runs separators held last
 
 -- All that was judged held: the separators of the runs so far, and each run but the last.
 pub record HoldsSoFar (records : Records) (samples : List ℤ) (runs : List Run) (separators : List ℕ)
     (judged : Judged) : Type 0 where
   pub count_is : judged.count ≡ length runs
   pub separating : SeparatingTo records samples separators (length runs)
-  pub at : StandsAt records samples runs separators judged.held judged.last
+  pub at : HasLastIfAny records samples runs separators judged.held judged.last
 
 -- Whatever samples and runs follow, the runs are no packing for which these separators are separating and as many.
 pub record NoneShows (records : Records) (samples : List ℤ) (runs : List Run) (separators : List ℕ) : Type 0 where
@@ -67,9 +67,9 @@ next_run before samples kind =
     record { start = length before; end = length (before ++ samples); kind = kind }
 
 -- how many samples there are, if `held` are held
-abbrev pub number_after : Option LastRun → ℕ → ℕ
-number_after None held = 0
-number_after (Some last) held = last.number + (held - last.start)
+abbrev pub samples_after : Option LastRun → ℕ → ℕ
+samples_after None held = 0
+samples_after (Some last) held = last.number + (held - last.start)
 
 -- the last run, up to the sample `end`, is sound
 abbrev pub IsSoundLast : Records → List ℤ → Option LastRun → ℕ → Type 0
@@ -85,16 +85,16 @@ IsFollowed records held (Some last) end next =
     × ((last.separator < next) × NoneHolds records held last.separator next)
 
 -- The separator is a sample after the first `end` that are held, and follows on the last run.
-pub record Follows (records : Records) (held : List ℤ) (last : Option LastRun) (end separator : ℕ) : Type 0 where
-  pub from : number_after last end ≤ separator
-  pub past : separator - number_after last end < length held - end
-  pub followed : IsFollowed records held last end (end + (separator - number_after last end))
+pub record FollowsLast (records : Records) (held : List ℤ) (last : Option LastRun) (end separator : ℕ) : Type 0 where
+  pub from : samples_after last end ≤ separator
+  pub past : separator - samples_after last end < length held - end
+  pub followed : IsFollowed records held last end (end + (separator - samples_after last end))
 
 -- No run follows: there are as many runs as separators and that many samples, and the last run is sound.
-pub record Ends (records : Records) (judged : Judged) (separators : List ℕ) (number : ℕ) : Type 0 where
+pub record IsComplete (records : Records) (judged : Judged) (separators : List ℕ) (number : ℕ) : Type 0 where
   pub holds : judged.holds ≡ true
   pub as_many : judged.count ≡ length separators
-  pub number_is : number_after judged.last (length judged.held) ≡ number
+  pub number_is : samples_after judged.last (length judged.held) ≡ number
   pub sound : IsSoundLast records judged.held judged.last (length judged.held)
 
 -- These runs are a packing of the samples, the separators are separating and as many, and there are that many samples.
@@ -110,8 +110,8 @@ abbrev pub becomes_last : Option LastRun → ℕ → ℕ → Kind → LastRun
 becomes_last last end separator kind = record {
   kind = kind;
   start = end;
-  separator = end + (separator - number_after last end);
-  number = number_after last end;
+  separator = end + (separator - samples_after last end);
+  number = samples_after last end;
 }
 
 -- the same if the first `count` samples are held no more

@@ -4,7 +4,7 @@ use Rattle.msr_words.specs.Fit.{Records}
 use Rattle.msr_words.specs.Packing.{NoneHolds}
 
 -- the i-th is a sample of the segment, after the one before it, and no run that fits holds both
-pub record IsNext (records : Records) (samples : List ℤ) (separators : List ℕ) (i : ℕ) : Type 0 where
+pub record IsNextSeparator (records : Records) (samples : List ℤ) (separators : List ℕ) (i : ℕ) : Type 0 where
   pub within : slice_index separators i < length samples
   pub apart : 0 < i → (slice_index separators (i - 1) < slice_index separators i)
       × NoneHolds records samples (slice_index separators (i - 1)) (slice_index separators i)

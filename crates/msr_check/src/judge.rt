@@ -4,7 +4,7 @@ ghost use Rattle.std.specs.Prelude.{◌≡◌, ◌↔◌, ◌-◌, ◌+◌, ◌<
 ghost use Rattle.msr_words.specs.Fit.{Records, records_of};
 ghost use Rattle.msr_words.specs.Packing.{IsLeast};
 ghost use Rattle.msr_words.specs.declared.kinds.Run.{Run as WordRun};
-ghost use Rattle.msr_check.specs.Judged.{AreShown, Ends, Follows, IsFollowed, IsSoundLast, Judges, becomes_last, next_run, number_after, without};
+ghost use Rattle.msr_check.specs.Judged.{AreShown, FollowsLast, IsComplete, IsFollowed, IsSoundLast, Judges, becomes_last, next_run, samples_after, without};
 
 use crate::reach::reach_of;
 use crate::{is_run, none_between};
@@ -37,7 +37,7 @@ fn without(last: LastRun, count: usize) -> LastRun
 
 /// How many samples there are, of which that many are held: `None` if no separator is as large.
 fn number_after(last: Option<LastRun>, held: usize) -> Option<u64>
-    ensures { MatchOption result (2 ^ 64 ≤ number_after last held) (λ number. number ≡ number_after last held) }
+    ensures { MatchOption result (2 ^ 64 ≤ samples_after last held) (λ number. number ≡ samples_after last held) }
 {
     let Some(last) = last else {
         return Some(0);
@@ -75,8 +75,9 @@ pub(crate) fn followed_by(
 ) -> Option<LastRun>
     requires { end ≤ length held.now }
     ensures { MatchOption result
-        (Follows (records_of form) held.now last end separator → ⊥)
-        (λ next. Follows (records_of form) held.now last end separator × (next ≡ becomes_last last end separator kind)) }
+        (FollowsLast (records_of form) held.now last end separator → ⊥)
+        (λ next. FollowsLast (records_of form) held.now last end separator
+        × (next ≡ becomes_last last end separator kind)) }
 {
     let number = number_after(last, end)?;
     if separator < number || separator - number >= (held.len() - end) as u64 {
@@ -111,7 +112,7 @@ pub(crate) fn ends_sound(held: &[i32], form: Form, last: Option<LastRun>) -> boo
 
 /// Whether there are so many samples, of which that many are held.
 fn are_as_many(last: Option<LastRun>, held: usize, number: u64) -> bool
-    ensures { IsTrue result ↔ (number_after last held ≡ number) }
+    ensures { IsTrue result ↔ (samples_after last held ≡ number) }
 {
     match number_after(last, held) {
         Some(found) => found == number,
@@ -176,9 +177,10 @@ impl Judge {
         requires { end ≤ length self.now.held }
         ensures { MatchOption result
             (self.now.count < length separators.now
-            → Follows (records_of form) self.now.held self.now.last end (slice_index separators.now self.now.count) → ⊥)
+            → FollowsLast (records_of form) self.now.held self.now.last end (slice_index separators.now self.now.count)
+            → ⊥)
             (λ next. (self.now.count < length separators.now)
-            × Follows (records_of form) self.now.held self.now.last end (slice_index separators.now self.now.count)
+            × FollowsLast (records_of form) self.now.held self.now.last end (slice_index separators.now self.now.count)
             × (next ≡ becomes_last self.now.last end (slice_index separators.now self.now.count) kind)) }
     {
         if self.count >= separators.len() {
@@ -245,7 +247,7 @@ impl Judge {
 
     /// What it says at the end.
     fn ends(&self, form: Form, separators: &[u64], number: u64) -> bool
-        ensures { IsTrue result ↔ Ends (records_of form) self.now separators.now number }
+        ensures { IsTrue result ↔ IsComplete (records_of form) self.now separators.now number }
     {
         self.holds
             && self.count == separators.len()

@@ -15,7 +15,7 @@ ghost use Rattle.msr_words.specs.Segment.{run_points};
 ghost use Rattle.msr_kinds.specs.Lengths.{bytes_of};
 ghost use Rattle.msr_check.specs.HoldsBoth.{HaveNoRoom, HoldsBoth, SteimHolds};
 ghost use Rattle.msr_check.specs.Known.{IsKnown};
-ghost use Rattle.msr_check.specs.Next.{IsNext};
+ghost use Rattle.msr_check.specs.Next.{IsNextSeparator};
 ghost use Rattle.msr_words.specs.Packing.{NoneHolds, IsPacking, IsSeparating, IsLeast};
 
 use crate::judge::{ends_sound, followed_by};
@@ -179,7 +179,7 @@ fn none_between(samples: &[i32], form: Form, first: u64, second: u64, known: Kno
 /// both.
 fn is_next(samples: &[i32], form: Form, separators: &[u64], i: usize) -> bool
     requires { i < length separators.now }
-    ensures { IsTrue result ↔ IsNext (records_of form) samples.now separators.now i }
+    ensures { IsTrue result ↔ IsNextSeparator (records_of form) samples.now separators.now i }
 {
     let separator = separators[i];
     if separator >= samples.len() as u64 {

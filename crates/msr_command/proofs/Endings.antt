@@ -11,10 +11,13 @@ use Rattle.msr_tool.specs.declared.fault.ToolFault.{ToolFault}
 use Rattle.msr_tool.specs.declared.fault.ToolFault.TheVariants as fault
 use Rattle.msr_options.specs.declared.days.DayOptions.{DayOptions}
 use Rattle.msr_folders.specs.declared.found.WalkFound.{WalkFound}
-use Rattle.msr_walk.specs.Walk.{IsWalk, Walks}
+use Rattle.msr_folders.specs.Visits.{IsWalk}
+use Rattle.msr_walk.specs.Entries.{IsEntry, IsEntryLine}
+use Rattle.msr_walk.specs.Walk.{Walks, summary}
 use Rattle.msr_walk.specs.declared.folders.Walked.{Walked}
 use Rattle.msr_walk.proofs.EntriesTold.{none_told, stops_entries, walk_stops}
-use Rattle.msr_verify.specs.Walk.{IsWalk as IsVerifying, Verifies}
+use Rattle.msr_verify.specs.Entries.{IsJudgedEntry, IsJudgedEntryLine}
+use Rattle.msr_verify.specs.Walk.{Verifies, judged_summary}
 use Rattle.msr_verify.proofs.EntriesFound.{none_told as none_found, stops_entries as stops_found, walk_stops as verifying_stops}
 use Rattle.msr_command.specs.declared.done.Done.{Done}
 use Rattle.msr_command.specs.declared.done.Done.TheVariants.{Written, Repacked}
@@ -296,7 +299,8 @@ task_unsettled (Check asked) standard out0 out done does = check_unsettled out0 
 task_unsettled (Compare asked) standard out0 out done does =
     compare_unsettled asked.options asked standard out0 out done does
 task_unsettled (Archive asked) standard out0 out done does =
-    let P : List ℕ → Type 0 = λ text. IsWalk asked.days text does.ends.walk.0 in
+    let P : List ℕ → Type 0 = λ text.
+    IsWalk (IsEntry asked.days) (IsEntryLine asked.days.bytes) (summary asked.days) text does.ends.walk.0 in
     record {
       printed = does.printed;
       prints = does.prints;
@@ -307,7 +311,8 @@ task_unsettled (Archive asked) standard out0 out done does =
       });
     }
 task_unsettled (Verify asked) standard out0 out done does =
-    let P : List ℕ → Type 0 = λ text. IsVerifying text does.ends.walk.0 in
+    let P : List ℕ → Type 0 = λ text.
+    IsWalk IsJudgedEntry IsJudgedEntryLine judged_summary text does.ends.walk.0 in
     record {
       printed = does.printed;
       prints = does.prints;

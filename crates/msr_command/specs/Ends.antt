@@ -15,7 +15,7 @@ use Rattle.msr_folders.specs.declared.found.WalkFound.{WalkFound}
 use Rattle.msr_folders.specs.declared.found.WalkFound.TheVariants.{Well, Unwell, NoDay}
 use Rattle.msr_walk.specs.Walk.{WalkEnds}
 use Rattle.msr_walk.specs.declared.folders.Walked.{Walked as ArchiveWalked}
-use Rattle.msr_verify.specs.Walk.{WalkEnds as VerifyingEnds}
+use Rattle.msr_verify.specs.Walk.{VerifyingEnds}
 use Rattle.msr_tool.specs.declared.fault.ToolFault.TheVariants as engine
 use Rattle.msr_compare.specs.declared.comparison.Comparison.TheVariants.{Differ}
 use Rattle.msr_command.specs.declared.done.Done.{Done}

@@ -6,15 +6,16 @@ use Rattle.msr_command.specs.declared.task_fault.TaskFault.{TaskFault}
 use Rattle.msr_command.specs.declared.task_fault.TaskFault.TheVariants.{CannotOpen, Input, SameFile, SameOutput, Overlap, Closed, Tool}
 
 -- the text of a fault: a name in it is printed as paths are; no clause says that of the engine and that of an input
-abbrev pub text_of : TaskFault → Option (List ℕ)
-text_of (CannotOpen name why) = Some (codes "cannot open " ++ shown_path name.now)
-text_of (Input name why) = None
-text_of SameFile = Some (codes "the output is the input")
-text_of SameOutput = Some (codes "two outputs are one file")
-text_of Overlap = Some (codes "the folders overlap")
-text_of Closed = Some (codes "write fault")
-text_of (Tool fault) = None
+abbrev pub task_fault_text : TaskFault → Option (List ℕ)
+task_fault_text (CannotOpen name why) = Some (codes "cannot open " ++ shown_path name.now)
+task_fault_text (Input name why) = None
+task_fault_text SameFile = Some (codes "the output is the input")
+task_fault_text SameOutput = Some (codes "two outputs are one file")
+task_fault_text Overlap = Some (codes "the folders overlap")
+task_fault_text Closed = Some (codes "write fault")
+task_fault_text (Tool fault) = None
 
 -- a writer has got the line of a fault
 abbrev pub TellsFault : TaskFault → (old new : Option (List ℕ)) → Type 0
-TellsFault fault old new = IfSome (text_of fault) (λ text. Appends old new (codes "msrepack: " ++ (text ++ codes "\n")))
+TellsFault fault old new =
+    IfSome (task_fault_text fault) (λ text. Appends old new (codes "msrepack: " ++ (text ++ codes "\n")))

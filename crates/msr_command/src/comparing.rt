@@ -8,10 +8,10 @@ use crate::done::Done;
 use crate::files::{open_file, open_input};
 use crate::task_fault::TaskFault;
 use msr_compare::{CompareFault, Comparison, compare};
-use msr_devices::write_all;
+use msr_devices::{FromRead, Sink, Source, write_all};
 use msr_input::{ReadFault, Settings};
 use msr_options::Comparing;
-use msr_tool::{FromRead, Sink, Source, ToolFault};
+use msr_tool::ToolFault;
 use std::alloc::Global;
 use std::rt::Files;
 

@@ -5,7 +5,7 @@ ghost use Rattle.msr_command.specs.Ends.{done_of_walk, status_of_done};
 use msr_compare::Comparison;
 use msr_folders::WalkFound;
 use msr_options::Unopened;
-use msr_tool::Verdict;
+use msr_verdict::Verdict;
 
 /// What a task that was done ends with.
 #[derive(Clone, Copy)]

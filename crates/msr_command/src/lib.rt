@@ -10,5 +10,4 @@ mod task_fault;
 mod tasks;
 mod turns;
 
-pub use msr_options::{Errors, complain};
 pub use program::run;

@@ -23,9 +23,9 @@ pub(crate) enum TaskFault<'a> {
 }
 
 impl fmt::Display for TaskFault<'_> {
-    ghost use Rattle.msr_command.specs.Told.{text_of};
+    ghost use Rattle.msr_command.specs.Told.{task_fault_text};
 
-    ghost output = { text_of };
+    ghost output = { task_fault_text };
 
     fn fmt<W: fmt::Write>(&self, f: &mut fmt::Formatter<W>) -> fmt::Result {
         let text = match *self {

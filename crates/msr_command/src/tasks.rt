@@ -8,14 +8,12 @@ use crate::done::Done;
 use crate::files::{create_output, create_report, open_file, open_input, settle_standard_output};
 use crate::task_fault::TaskFault;
 use crate::turns::is_in_turns;
+use msr_devices::{FromRead, FromWrite, Sink, Source};
 use msr_folders::{FileId, folders_overlap, settle};
 use msr_options::{
-    Archiving, Checking, Feeding, Folders, ListForm, Listing, Repacking, Task, Verifying,
+    Archiving, Checking, Feeding, Folders, ListForm, Listing, Options, Repacking, Task, Verifying,
 };
-use msr_tool::{
-    FromRead, FromWrite, Options, Sink, Source, ToolFault, check_and_tell, feed_and_report,
-    list_segments, repack_and_report,
-};
+use msr_tool::{ToolFault, check_and_tell, feed_and_report, list_segments, repack_and_report};
 use msr_verify::verify;
 use msr_walk::{LockFile, walk};
 use std::alloc::Global;

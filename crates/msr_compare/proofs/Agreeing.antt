@@ -6,7 +6,7 @@ use Rattle.msr_input.specs.declared.settings.Settings.{Settings}
 use Rattle.msr_compare.specs.declared.comparison.Difference.{Difference}
 use Rattle.msr_compare.specs.Symbols.{Symbol}
 use Rattle.msr_compare.specs.Sides.{Standing, HasTaken, IsFetched, weight}
-use Rattle.msr_compare.specs.Meetings.{HaveFetched, HaveMet, HaveTaken, IsFound, PassesAlike, PassesOnly, StandStill}
+use Rattle.msr_compare.specs.Meetings.{HaveFetched, HaveMet, HaveTaken, IsFoundAhead, PassesAlike, PassesOnly, StandStill}
 
 -- a side that passed what is ahead
 pass_one : {settings : Settings} {start now : Device} {side new : Standing} {done : List Symbol} (front : List Symbol)
@@ -50,7 +50,7 @@ pass_both h p = record {
 pub met_so : {settings : Settings} {start_one one_now start_other other_now : Device}
     {one other new_one new_other : Standing} (found : Option Difference)
     → HaveFetched settings start_one one_now start_other other_now one other → StandStill one other new_one new_other
-    → IsFound one other found → HaveMet settings start_one one_now start_other other_now new_one new_other found
+    → IsFoundAhead one other found → HaveMet settings start_one one_now start_other other_now new_one new_other found
 met_so found h still is = rw (still.one_still, still.other_still) (record { fetched = h; is_found = is })
 
 -- less is left of a side that passed something

@@ -16,7 +16,7 @@ use Rattle.msr_compare.specs.declared.fault.CompareFault.TheVariants as failing
 use Rattle.msr_compare.specs.Answers.{CompareAnswers, IsOfFault}
 use Rattle.msr_compare.specs.Symbols.{Symbol, Holds, symbols_of}
 use Rattle.msr_compare.specs.Sides.{Standing, IsDrained}
-use Rattle.msr_compare.specs.Meetings.{HaveFinished, HaveMet, IsAnswered, IsReadableFrom, KeepsFault, ReadableIfRefused, ReadsFirst, StopsFinishing}
+use Rattle.msr_compare.specs.Meetings.{AnswersInputs, HaveFinished, HaveMet, IsReadableFrom, KeepsFault, ReadableIfRefused, ReadsFirst, StopsFinishing}
 use Rattle.msr_compare.proofs.Symbols.{no_sample_first, no_symbols, opens_so, segment_so}
 use Rattle.msr_compare.proofs.Draining.{drained_before}
 use Rattle.msr_compare.proofs.DifferingAheads.{counted, first_so}
@@ -79,7 +79,7 @@ module _ (settings : Settings) (start_one one_now start_other other_now : Device
   -- both have ended, with the same segments
   pub answered_same : {one other : Standing}
       → HaveMet settings start_one one_now start_other other_now one other None
-      → IsAnswered settings start_one one_now start_other other_now (Ok (Same (record {
+      → AnswersInputs settings start_one one_now start_other other_now (Ok (Same (record {
         segments = one.tally.segments;
         samples = one.tally.samples;
         moved_one = one.tally.moved;
@@ -134,7 +134,7 @@ module _ (settings : Settings) (start_one one_now start_other other_now : Device
       (m : HaveMet settings start_one a start_other c one other (Some difference))
       → HaveFinished settings start_one one_now start_other other_now one other m.fetched.taken.done
       m.fetched.taken.done difference comparison
-      → IsAnswered settings start_one one_now start_other other_now (Ok comparison)
+      → AnswersInputs settings start_one one_now start_other other_now (Ok comparison)
   answered_differ {difference = difference} m fin =
       let f = m.fetched in
       let x = fin.one_drained in
@@ -169,7 +169,7 @@ module _ (settings : Settings) (start_one one_now start_other other_now : Device
 
   pub answered_one : (why : ReadFault) → StopsReading settings start_one one_now [] why
       → IsSteady start_other other_now
-      → IsAnswered settings start_one one_now start_other other_now (Err (failing.One why))
+      → AnswersInputs settings start_one one_now start_other other_now (Err (failing.One why))
   answered_one why h steady =
       let a = answers_one why h in
       let other = left_of start_other in
@@ -206,7 +206,7 @@ module _ (settings : Settings) (start_one one_now start_other other_now : Device
 
   answered_other : (why : ReadFault) → StopsReading settings start_other other_now [] why
       → IsSteady start_one one_now → ReadableIfRefused settings start_one why
-      → IsAnswered settings start_one one_now start_other other_now (Err (failing.Other why))
+      → AnswersInputs settings start_one one_now start_other other_now (Err (failing.Other why))
   answered_other why h steady readable =
       let a = answers_other why h readable in
       let failure = stopped settings start_other other_now why h in
@@ -225,7 +225,7 @@ module _ (settings : Settings) (start_one one_now start_other other_now : Device
   -- why reading the second one stopped, if the first one was read on
   pub answered_refused : (why : ReadFault) (told : CompareFault) → StopsReading settings start_other other_now [] why
       → ReadsFirst settings start_one one_now why told
-      → IsAnswered settings start_one one_now start_other other_now (Err told)
+      → AnswersInputs settings start_one one_now start_other other_now (Err told)
   answered_refused why (failing.One first) h r =
       answered_one first r.0 (refused_steady settings start_other other_now why h r.1)
   answered_refused why (failing.Other second) h r = rw r.same (answered_other why h r.steady r.readable)
@@ -237,7 +237,7 @@ module _ (settings : Settings) (start_one one_now start_other other_now : Device
       → MatchResult answer (HaveFinished settings start_one one_now start_other other_now one other
       m.fetched.taken.done m.fetched.taken.done difference)
       (StopsFinishing settings start_one one_now start_other other_now)
-      → IsAnswered settings start_one one_now start_other other_now answer
+      → AnswersInputs settings start_one one_now start_other other_now answer
   answered_finished (Ok comparison) m fin = answered_differ m fin
   answered_finished (Err (failing.One why)) m fin = answered_one why fin.0 fin.1
   answered_finished (Err (failing.Other why)) m fin = answered_other why fin.0 fin.1 (readable_if why fin.2)

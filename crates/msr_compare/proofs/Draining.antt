@@ -6,7 +6,7 @@ use Rattle.std.proofs.lemmas.Bool.{both_ways}
 use Rattle.msr_rows.specs.declared.row.Record.{Record}
 use Rattle.msr_devices.specs.Device.{Device, CanCountCall, CountsFew, IsSteady}
 use Rattle.msr_devices.proofs.Chaining.{steady_then_few}
-use Rattle.msr_segments.specs.Spans.{Following, IsStep}
+use Rattle.msr_segments.specs.Spans.{Following, TakesStep}
 use Rattle.msr_segments.specs.Joining.{Joining, HasJoined, following_of}
 use Rattle.msr_segments.specs.declared.follow.Step.{Step}
 use Rattle.msr_segments.specs.declared.joiner.Segment.{Segment}
@@ -18,7 +18,7 @@ use Rattle.msr_input.specs.declared.settings.Settings.{Settings}
 use Rattle.msr_input.specs.declared.fault.ReadFault.{ReadFault}
 use Rattle.msr_input.specs.declared.row_reader.NextOutline.{NextOutline}
 use Rattle.msr_compare.specs.Symbols.{Symbol, symbols_of, row_symbols}
-use Rattle.msr_compare.specs.Sides.{Standing, HasBegun, HasTaken, IsAtEnd, IsDrained}
+use Rattle.msr_compare.specs.Sides.{Standing, HasSource, HasTaken, IsAtEnd, IsDrained}
 use Rattle.msr_compare.proofs.Sides.{grown, grown_symbols}
 
 -- Some records came, whose segments have these symbols, and maybe more after them.
@@ -58,7 +58,7 @@ tolerance_is d = sym (ap (λ (f : Following). f.tolerance) d.stands) ∙ ap (λ 
 pub drains_row : {settings : Settings} {start a b : Device} {old new : RowReading} {symbols : List Symbol}
     {next : NextOutline} (d : Draining settings start a old symbols)
     → ReadsOutline start b new d.records d.answers next → row_settings new ≡ row_settings old
-    → IsStep old.following (outline_span next.row) next.step new.following → Draining settings start b new symbols
+    → TakesStep old.following (outline_span next.row) next.step new.following → Draining settings start b new symbols
 drains_row {old = old} {new} {symbols} {next} d outline same step =
     let row = outline.row in
     let span = rw outline.outline_is at step in
@@ -132,7 +132,7 @@ drained_before {side = side} h ended =
     drained side.ended (draining h) h.records h.read refl refl (h.end ended) (λ e. refl)
 
 pub has_begun : {settings : Settings} {start now : Device} {side : Standing} {done : List Symbol}
-    → HasTaken settings start now side done → CanCountCall start → HasBegun now side
+    → HasTaken settings start now side done → CanCountCall start → HasSource now side
 has_begun {settings} {start} {done = done} taken can =
     record { settings = settings; start = start; done = done; taken = taken; can = can }
 
@@ -144,7 +144,7 @@ pub record IsDraining (now : Device) (reading : RowReading) : Type 0 where
   pub drains : Draining settings start now reading symbols
   pub can : CanCountCall start
 
-pub is_draining : {now : Device} {side : Standing} → HasBegun now side → IsDraining now side.reading
+pub is_draining : {now : Device} {side : Standing} → HasSource now side → IsDraining now side.reading
 is_draining {side = side} h = record {
   settings = h.settings;
   start = h.start;
@@ -155,7 +155,7 @@ is_draining {side = side} h = record {
 
 pub still_draining : {a b : Device} {old new : RowReading} {next : NextOutline} (d : IsDraining a old)
     → ReadsOutline d.start b new d.drains.records d.drains.answers next → row_settings new ≡ row_settings old
-    → IsStep old.following (outline_span next.row) next.step new.following → IsDraining b new
+    → TakesStep old.following (outline_span next.row) next.step new.following → IsDraining b new
 still_draining d outline same step = record {
   settings = d.settings;
   start = d.start;

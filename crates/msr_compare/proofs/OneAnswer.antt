@@ -1,6 +1,7 @@
 -- Two lists of segments have one first difference, and two inputs one answer.
 use Rattle.std.proofs.Common.{◌≡◌, ◌≢◌, ℕ, List, [], ◌∷◌, ◌++◌, length, refl, sym, ap, ap₂, ◌∙◌, arith, append_assoc, length-append, ℤ, Result, Ok, Err}
 use Rattle.msr_segments.specs.declared.joiner.Segment.{Segment}
+use Rattle.msr_input.specs.Input.{HasFirstFault}
 use Rattle.msr_input.specs.declared.settings.Settings.{Settings}
 use Rattle.msr_input.specs.declared.fault.Fault.{Fault}
 use Rattle.msr_input.specs.declared.fault.ReadFault.TheVariants as fault
@@ -15,7 +16,7 @@ use Rattle.msr_compare.specs.declared.comparison.DifferenceKind.{DifferenceKind}
 use Rattle.msr_compare.specs.declared.comparison.DifferenceKind.TheVariants as kind
 use Rattle.msr_compare.specs.declared.fault.CompareFault.{CompareFault}
 use Rattle.msr_compare.specs.declared.fault.CompareFault.TheVariants.{One, Other}
-use Rattle.msr_compare.specs.Answers.{AreSame, CompareAnswers, DifferFirst, HasFirstFault, HasMoved, HaveOneAnswer, IsOfInputs}
+use Rattle.msr_compare.specs.Answers.{AreSame, CompareAnswers, DifferFirst, HasMoved, HaveOneAnswer, IsOfInputs}
 use Rattle.msr_compare.proofs.SameInputs.{both_have, exact, heads_same, no_fault, none_differ, not_first, one_list}
 
 -- where two lists of samples first differ

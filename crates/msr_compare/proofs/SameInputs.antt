@@ -2,6 +2,7 @@
 use Rattle.std.proofs.Common.{◌≡◌, ℕ, List, [], ◌∷◌, ◌++◌, length, refl, sym, ap, subst, ◌∙◌, arith, length-append, ℤ, Ok, Err}
 use Rattle.std.proofs.lemmas.List.{append_cancel_left}
 use Rattle.msr_segments.specs.declared.joiner.Segment.{Segment}
+use Rattle.msr_input.specs.Input.{HasFirstFault}
 use Rattle.msr_input.specs.declared.settings.Settings.{Settings}
 use Rattle.msr_input.specs.declared.fault.Fault.{Fault}
 use Rattle.msr_input.specs.declared.fault.ReadFault.TheVariants as fault
@@ -13,7 +14,7 @@ use Rattle.msr_compare.specs.declared.comparison.Difference.{Difference}
 use Rattle.msr_compare.specs.declared.comparison.DifferenceKind.{DifferenceKind}
 use Rattle.msr_compare.specs.declared.comparison.DifferenceKind.TheVariants as kind
 use Rattle.msr_compare.specs.declared.fault.CompareFault.TheVariants.{One, Other}
-use Rattle.msr_compare.specs.Answers.{HasFirstFault, HasSegments, SameIsExact, SameIsReflexive, SameIsSymmetric, SameIsTransitive}
+use Rattle.msr_compare.specs.Answers.{HasSegments, SameIsExact, SameIsReflexive, SameIsSymmetric, SameIsTransitive}
 
 -- an input has one list of segments
 pub one_list : (settings : Settings) (input : List ℕ) (segments others : List Segment)

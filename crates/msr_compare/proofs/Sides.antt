@@ -7,7 +7,7 @@ use Rattle.msr_time.specs.SampleRate.{IsNear}
 use Rattle.msr_rows.specs.declared.row.Record.{Record}
 use Rattle.msr_rows.specs.declared.row.Row.{Row}
 use Rattle.msr_rows.specs.declared.row.Key.{Key}
-use Rattle.msr_segments.specs.Spans.{Following, IsInBounds, IsStep}
+use Rattle.msr_segments.specs.Spans.{Following, IsInBounds, TakesStep}
 use Rattle.msr_segments.specs.Segments.{AreSegments, ContinuesSegment, row_span, row_segment, segment_span, with_row}
 use Rattle.msr_segments.specs.Joining.{Joining, HasJoined, BeginsRow, IsPushTold, JoinsRow, following_of}
 use Rattle.msr_segments.specs.declared.follow.Step.{Step}
@@ -114,10 +114,10 @@ pub record Grown (old : Joining) (rows : List Row) (given : List Segment) (row :
   pub stands : next ≡ following_of joining
 
 pub grown : {old : Joining} {rows : List Row} {given : List Segment} (row : Row) (answer : Step) (was next : Following)
-    → HasJoined old rows given → was ≡ following_of old → IsStep was (row_span row) answer next
+    → HasJoined old rows given → was ≡ following_of old → TakesStep was (row_span row) answer next
     → Grown old rows given row answer next
 grown {old} {rows} {given} row answer was next h at step =
-    let p = steps_push old row answer next (subst (λ (f : Following). IsStep f (row_span row) answer next) at step) in
+    let p = steps_push old row answer next (subst (λ (f : Following). TakesStep f (row_span row) answer next) at step) in
     let joined = pushes_grow old p.0 rows given row p.1 h p.3 in
     record { joining = p.0; ended = p.1; push = p.2; joined = joined; stands = p.4 }
 

@@ -2,7 +2,7 @@
 use Rattle.std.specs.Prelude.{◌≡◌, ℕ, List, length, Result, Ok, Err}
 use Rattle.msr_rows.specs.declared.row.Record.{Record}
 use Rattle.msr_segments.specs.declared.joiner.Segment.{Segment}
-use Rattle.msr_input.specs.Input.{IsReadable, IsFirstFault, rows_of_records}
+use Rattle.msr_input.specs.Input.{HasFirstFault, IsReadable, rows_of_records}
 use Rattle.msr_input.specs.declared.settings.Settings.{Settings}
 use Rattle.msr_input.specs.declared.fault.Fault.{Fault}
 use Rattle.msr_input.specs.declared.fault.ReadFault.{ReadFault}
@@ -49,11 +49,6 @@ pub record DifferFirst (settings : Settings) (one other : List ℕ) (difference 
   pub one_has : HasSegments settings one ones
   pub other_has : HasSegments settings other others
   pub first : IsFirstDifference ones others difference
-
--- the input has this first fault
-pub record HasFirstFault (settings : Settings) (input : List ℕ) (fault : Fault) : Type 0 where
-  pub records : List Record
-  pub first : IsFirstFault settings input records fault
 
 -- one input is readable, and the other has this first fault
 pub record OtherHasFault (settings : Settings) (one other : List ℕ) (fault : Fault) : Type 0 where

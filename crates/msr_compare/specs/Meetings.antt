@@ -38,10 +38,10 @@ pub record HoldsNext (ahead : List Symbol) : Type 0 where
   pub samples : List ℤ
   pub ahead_is : ahead ≡ Holds sample ∷ map Holds samples
 
-abbrev pub IsNext : Next → List Symbol → Type 0
-IsNext (next.Begins key start) ahead = BeginsNext key start ahead
-IsNext next.Samples ahead = HoldsNext ahead
-IsNext next.Nothing ahead = ahead ≡ []
+abbrev pub IsNextSymbol : Next → List Symbol → Type 0
+IsNextSymbol (next.Begins key start) ahead = BeginsNext key start ahead
+IsNextSymbol next.Samples ahead = HoldsNext ahead
+IsNextSymbol next.Nothing ahead = ahead ≡ []
 
 -- how many samples of the open segment were compared
 abbrev pub place_of : Standing → ℕ
@@ -150,14 +150,14 @@ pub record HaveFetched (settings : Settings) (start_one one_now start_other othe
   pub other_some : other.ahead ≡ [] → other.ended ≡ true
 
 -- how the sides differ then, or that both have ended
-abbrev pub IsFound : Standing → Standing → Option Difference → Type 0
-IsFound one other None = (one.ahead ≡ []) × (other.ahead ≡ [])
-IsFound one other (Some difference) = DiffersAhead one other difference
+abbrev pub IsFoundAhead : Standing → Standing → Option Difference → Type 0
+IsFoundAhead one other None = (one.ahead ≡ []) × (other.ahead ≡ [])
+IsFoundAhead one other (Some difference) = DiffersAhead one other difference
 
 pub record HaveMet (settings : Settings) (start_one one_now start_other other_now : Device) (one other : Standing)
     (found : Option Difference) : Type 0 where
   pub fetched : HaveFetched settings start_one one_now start_other other_now one other
-  pub is_found : IsFound one other found
+  pub is_found : IsFoundAhead one other found
 
 -- one side has come so far
 pub record HasSomeTaken (settings : Settings) (start now : Device) (side : Standing) : Type 0 where
@@ -214,7 +214,7 @@ pub record BothBegin (start_one start_other : Device) (one other : Standing) : T
   pub taken : HaveTaken settings start_one start_one start_other start_other one other
 
 -- What is answered of the inputs that the sources have, and what it tells of the sources.
-pub record IsAnswered (settings : Settings) (start_one one_now start_other other_now : Device)
+pub record AnswersInputs (settings : Settings) (start_one one_now start_other other_now : Device)
     (answer : Result Comparison CompareFault) : Type 0 where
   pub first : List ℕ
   pub second : List ℕ

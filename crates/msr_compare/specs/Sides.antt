@@ -70,7 +70,7 @@ pub record IsFetched (settings : Settings) (start now : Device) (side : Standing
   pub some : side.ahead ≡ [] → side.ended ≡ true
 
 -- Some records came from a source that could count calls.
-pub record HasBegun (now : Device) (side : Standing) : Type 0 where
+pub record HasSource (now : Device) (side : Standing) : Type 0 where
   pub settings : Settings
   pub start : Device
   pub done : List Symbol

@@ -37,7 +37,7 @@ impl Model for Ahead {
 impl Ahead {
     ghost use Rattle.std.specs.Prelude.{◌≡◌, ◌↔◌, [], drop, map, IsTrue};
     ghost use Rattle.msr_compare.specs.Symbols.{Holds, held_in, row_symbols};
-    ghost use Rattle.msr_compare.specs.Meetings.{IsNext};
+    ghost use Rattle.msr_compare.specs.Meetings.{IsNextSymbol};
 
     /// Nothing is at hand.
     pub(crate) fn new() -> Ahead
@@ -78,7 +78,7 @@ impl Ahead {
 
     /// What comes next.
     pub(crate) fn next(&self) -> Next
-        ensures { IsNext result self.now }
+        ensures { IsNextSymbol result self.now }
     {
         let Some(row) = &self.row else {
             return Next::Nothing;

@@ -4,8 +4,8 @@ ghost use Rattle.msr_devices.specs.Device.{Device, CanCountCall, CountsFew, HasF
 ghost use Rattle.msr_input.specs.declared.settings.Settings.{Settings as How};
 ghost use Rattle.msr_compare.specs.Answers.{CompareAnswers};
 ghost use Rattle.msr_compare.specs.Symbols.{Symbol};
-ghost use Rattle.msr_compare.specs.Sides.{HasBegun, HasTaken};
-ghost use Rattle.msr_compare.specs.Meetings.{BothBegin, HaveMet, HaveTaken, IsAnswered, ReadsFirst, StopsMeeting};
+ghost use Rattle.msr_compare.specs.Sides.{HasSource, HasTaken};
+ghost use Rattle.msr_compare.specs.Meetings.{AnswersInputs, BothBegin, HaveMet, HaveTaken, ReadsFirst, StopsMeeting};
 
 use crate::comparison::{Comparison, Difference, SameSegments};
 use crate::fault::CompareFault;
@@ -51,7 +51,7 @@ fn agree<One: Source, Other: Source>(
 
 /// Reading the other input stopped. If it is refused, the first one is read to its end: it may be refused too.
 fn refuse<One: Source>(side: &mut Side, one: &mut One, why: ReadFault) -> CompareFault
-    requires { HasBegun (One.device one.old) side.old }
+    requires { HasSource (One.device one.old) side.old }
     ensures refused { (settings : How) (start : Device) (done : List Symbol)
         → HasTaken settings start (One.device one.old) side.old done
         → ReadsFirst settings start (One.device one.new) why result }
@@ -82,7 +82,7 @@ fn answer<One: Source, Other: Source>(
     ensures { (settings : How)
         → HaveTaken settings (One.device one.old) (One.device one.old) (Other.device other.old) (Other.device other.old)
         one_side.old other_side.old
-        → IsAnswered settings (One.device one.old) (One.device one.new) (Other.device other.old)
+        → AnswersInputs settings (One.device one.old) (One.device one.new) (Other.device other.old)
         (Other.device other.new) result }
 {
     match agree(one_side, one, other_side, other) {

@@ -29,7 +29,7 @@ impl Side {
     ghost use Rattle.msr_input.specs.Reading.{StopsReading};
     ghost use Rattle.msr_input.specs.declared.settings.Settings.{Settings as How};
     ghost use Rattle.msr_compare.specs.Symbols.{Symbol, Holds, held_in};
-    ghost use Rattle.msr_compare.specs.Sides.{HasBegun, HasTaken, IsFetched, IsDrained, TakesNext, weight};
+    ghost use Rattle.msr_compare.specs.Sides.{HasSource, HasTaken, IsFetched, IsDrained, TakesNext, weight};
     ghost use Rattle.msr_compare.specs.Meetings.{PassesOnly, place_of};
 
     /// A side before the first record, with a tolerance in its range. It takes no memory yet.
@@ -85,7 +85,7 @@ impl Side {
 
     /// Reads the input to its end, without samples.
     pub(crate) fn drain<R: Source>(&mut self, source: &mut R) -> Result<(), ReadFault>
-        requires { HasBegun (R.device source.old) self.old }
+        requires { HasSource (R.device source.old) self.old }
         ensures drained { (settings : How) (start : Device) (done : List Symbol)
             → HasTaken settings start (R.device source.old) self.old done
             → MatchResult result

@@ -17,7 +17,7 @@ use Rattle.msr_steim.proofs.Filling.{codes_more, length-words}
 use Rattle.msr_words.specs.Division.{CanDivide}
 use Rattle.msr_words.specs.Canonical.{IsCanonicalDivision}
 use Rattle.msr_words.specs.Groups.{IsCapacity, IsLongestGroup, IsOneBelow}
-use Rattle.msr_filling.specs.NextWord.{IsNext}
+use Rattle.msr_filling.specs.NextWord.{IsNextGroup}
 use Rattle.msr_words.proofs.WrittenDivision.{one_chosen}
 use Rattle.msr_words.proofs.Greedy.{IsFull, IsGreedy, full_first, greedy_last, greedy_next, greedy_no, greedy_none, greedy_same, greedy_start}
 use Rattle.msr_words.proofs.Parts.{division_rest}
@@ -113,7 +113,7 @@ full_of ys size longest some = record {
 }
 
 pub next_is : (gs : List (List ℤ)) (xs : List ℤ) (size : ℕ) → IsCanonicalDivision Two gs xs
-    → IsLongestGroup xs size → IsNext Two gs xs size
+    → IsLongestGroup xs size → IsNextGroup Two gs xs size
 next_is gs [] size chosen longest =
     let within = longest.within in
     let zero_size : size ≡ 0 = omega arith in
@@ -164,7 +164,7 @@ next_is gs (x ∷ xs) size chosen longest = elim (cases_lt 0 size) [
 
 -- if differences are left, a group is
 pub some_next : (version : Version) (gs : List (List ℤ)) (ds : List ℤ) (size : ℕ)
-    → IsCanonicalDivision version gs ds → IsNext version gs ds size → size ≡ 0 → length ds ≡ 0
+    → IsCanonicalDivision version gs ds → IsNextGroup version gs ds size → size ≡ 0 → length ds ≡ 0
 some_next version gs ds size chosen next none =
     let no : gs ≡ [] = nil_from_length gs (next.none none) in
     let join : flat_map (λ g. g) [] ≡ ds = subst (λ hs. flat_map (λ g. g) hs ≡ ds) no chosen.join in
@@ -436,7 +436,7 @@ module _ (version : Version) (gs : List (List ℤ)) (ds : List ℤ) (first last 
     -- a group
     pub group_more : (w code size used' : ℕ) → 3 ≤ 16 * frame + slot + 1
         → (IsCanonicalDivision version (drop (15 * frame + slot - 2) gs) (drop at ds)
-        → IsNext version (drop (15 * frame + slot - 2) gs)
+        → IsNextGroup version (drop (15 * frame + slot - 2) gs)
         (drop at ds) size) → size ≤ length (drop at
         ds) → code ≡ group_code version size → w ≡ group_word version (take size (drop at ds))
         → (0 < size → used' ≡ used + 1) → (size ≡ 0 → used' ≡ used)
@@ -445,7 +445,7 @@ module _ (version : Version) (gs : List (List ℤ)) (ds : List ℤ) (first last 
         → IsFilled version gs ds first last frame (slot + 1) (at + size) used' (codes * 4 + code) old new
     group_more w code size used' high follows within code_is w_is more same put =
         let k = 15 * frame + slot - 2 in
-        let next : IsNext version (drop (15 * frame + slot - 2) gs) (drop at ds) size = follows is.left in
+        let next : IsNextGroup version (drop (15 * frame + slot - 2) gs) (drop at ds) size = follows is.left in
         let zero_off : 15 * frame + slot - 2 + 0 ≡ 15 * frame + slot - 2 = omega arith in
         let group : group_in gs (16 * frame + slot + 1) ≡ take size (drop at ds) =
         data_word gs frame slot small (omega arith) ∙ ap (λ n. get_or gs n []) (sym zero_off)

@@ -6,7 +6,7 @@ use Rattle.msr_words.specs.Canonical.{IsCanonicalDivision}
 use Rattle.msr_filling.specs.declared.filling.SteimWord.{SteimWord}
 
 -- the first of these groups has this size, and the others divide what is left; if there is none, the size is 0
-pub record IsNext (version : Version) (gs : List (List ℤ)) (ds : List ℤ) (size : ℕ) : Type 0 where
+pub record IsNextGroup (version : Version) (gs : List (List ℤ)) (ds : List ℤ) (size : ℕ) : Type 0 where
   pub group : slice_index_or gs 0 [] ≡ take size ds
   pub rest : IsCanonicalDivision version (drop 1 gs) (drop size ds)
   pub none : size ≡ 0 → length gs ≡ 0
@@ -21,7 +21,7 @@ pub record IsCoded (version : Version) (size : ℕ) (next : SteimWord) : Type 0 
 -- the word of the first group of these differences, if they can be divided at all
 pub record IsNextWord (version : Version) (ds : List ℤ) (next : SteimWord) : Type 0 where
   pub within : next.size ≤ length ds
-  pub follows : (gs : List (List ℤ)) → IsCanonicalDivision version gs ds → IsNext version gs ds next.size
+  pub follows : (gs : List (List ℤ)) → IsCanonicalDivision version gs ds → IsNextGroup version gs ds next.size
   pub code_is : next.code ≡ group_code version next.size
   pub small : next.code < 4
   pub word_is : next.word ≡ group_word version (take next.size ds)

@@ -3,3 +3,4 @@ pub mod FirstNameLemmas
 pub mod FolderLemmas
 pub mod RowLemmas
 pub mod VisitLemmas
+pub mod WalkLemmas

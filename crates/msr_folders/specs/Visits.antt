@@ -1,9 +1,14 @@
 -- What a walk through folders tells: entries, a line for each, and their counts.
-use Rattle.std.specs.Prelude.{◌≡◌, ℕ, List, [], ◌∷◌, ◌++◌}
+use Rattle.std.specs.Prelude.{◌≡◌, ℕ, List, [], ◌∷◌, ◌++◌, codes}
 use Rattle.std.specs.List.{AllByRecursion}
 use Rattle.msr_devices.specs.Device.{Device, HasFailed, IsCalm, IsSteady, Takes}
 use Rattle.msr_devices.specs.declared.fault.DeviceFault.{DeviceFault}
 use Rattle.msr_devices.specs.declared.fault.DeviceFault.TheVariants.{Failed, Memory}
+use Rattle.msr_report.specs.Writing.{TakesPrefix}
+
+-- a line that says why: a word, the path as it is shown, and the reason
+abbrev pub IsLineWithReason : (word shown line : List ℕ) → Type 0
+IsLineWithReason word shown line = (why : List ℕ) × (line ≡ word ++ (shown ++ (codes ": " ++ (why ++ codes "\n"))))
 
 -- a line for each entry, in order
 abbrev pub AreLines : {E : Type 0} → (is_line : E → List ℕ → Type 0) → List E → List ℕ → Type 0
@@ -35,6 +40,30 @@ pub record TellsInPart {E : Type 0} (is_entry : E → Type 0) (is_line : E → L
 abbrev pub StopsAt : Type 0 → Device → Device → DeviceFault → Type 0
 StopsAt printed out0 out Failed = printed × HasFailed out0 out
 StopsAt printed out0 out Memory = printed × IsSteady out0 out
+
+-- a prefix of a text was printed when a walk stopped
+abbrev pub StopsPrefix : Device → Device → List ℕ → DeviceFault → Type 0
+StopsPrefix out0 out text fault = StopsAt (TakesPrefix out0 out text) out0 out fault
+
+-- a prefix of the lines of some more entries was printed when a walk stopped
+abbrev pub StopsTelling : {E : Type 0} → (is_entry : E → Type 0) → (is_line : E → List ℕ → Type 0)
+    → Device → Device → DeviceFault → Type 0
+StopsTelling is_entry is_line out0 out fault = StopsAt (TellsInPart is_entry is_line out0 out) out0 out fault
+
+-- The text of a whole walk: a line for each of some entries, and then what these very entries sum up to.
+pub record IsWalk {E : Type 0} (is_entry : E → Type 0) (is_line : E → List ℕ → Type 0) (summary : List E → List ℕ)
+    (text : List ℕ) (entries : List E) : Type 0 where
+  pub lines : List ℕ
+  pub are_entries : AllByRecursion is_entry entries
+  pub are_lines : AreLines is_line entries lines
+  pub whole : text ≡ lines ++ summary entries
+
+-- A prefix of the text of a whole walk.
+pub record IsWalkInPart {E : Type 0} (is_entry : E → Type 0) (is_line : E → List ℕ → Type 0)
+    (summary : List E → List ℕ) (printed : List ℕ) : Type 0 where
+  pub entries : List E
+  pub rest : List ℕ
+  pub walk : IsWalk is_entry is_line summary (printed ++ rest) entries
 
 -- Steps that follow one another are steps, among which no call of the sink failed; a step that stops after others stops
 -- these too, and if memory is refused none needs to be taken.

@@ -18,7 +18,7 @@ use Rattle.msr_segments.specs.declared.joiner.Segment.{Segment}
 use Rattle.msr_segments.proofs.Divisions.{no_empty, cases_last}
 use Rattle.msr_segments.proofs.StepLaws.{overruns_out}
 use Rattle.msr_input.specs.Input.{Agrees, BeginsWith, NoneOverruns, HaveBegun, rows_of_records}
-use Rattle.msr_input.specs.Records.{Position, HaveCome, HasGiven, IsRefusedAfter, StopsRecords}
+use Rattle.msr_input.specs.Records.{Position, HaveCome, HasGiven, RefusesRecord, StopsGiving}
 use Rattle.msr_input.specs.Reading.{IsWritable, GaveReadable, StopsAfter, StopsAtFault, StopsReading}
 use Rattle.msr_input.specs.declared.settings.Settings.{Settings}
 use Rattle.msr_input.specs.declared.fault.Fault.{Fault}
@@ -49,7 +49,7 @@ stops_after settings s records given has none begun = record {
 
 -- the next record is refused by itself
 refused_stops : (settings : Settings) (s : Device) (records : List Record) (given : List Segment) (f : Fault)
-    → IsRefusedAfter settings.strict s records f → NoneOverruns settings.tolerance records
+    → RefusesRecord settings.strict s records f → NoneOverruns settings.tolerance records
     → HaveBegun settings.tolerance records given → StopsAtFault settings s given f
 refused_stops settings s records given f refused none begun = record {
   input = refused.given.input;
@@ -67,7 +67,7 @@ refused_stops settings s records given f refused none begun = record {
 
 -- no further record was given
 pub stops_reading : (settings : Settings) (s a : Device) (records : List Record) (given : List Segment)
-    (why : ReadFault) → StopsRecords settings.strict s a records why → NoneOverruns settings.tolerance records
+    (why : ReadFault) → StopsGiving settings.strict s a records why → NoneOverruns settings.tolerance records
     → HaveBegun settings.tolerance records given → StopsReading settings s a given why
 stops_reading settings s a records given (fault.Input f) stop none begun =
     (refused_stops settings s records given f stop.0 none begun, stop.1)

@@ -12,7 +12,7 @@ use Rattle.msr_devices.proofs.Chaining.{calm_same, calm_calm, calm_failed, stead
 use Rattle.msr_base.specs.declared.counts.Counts.{Counts}
 use Rattle.msr_input.specs.Input.{Agrees, AllAgree, BeginsWith, IsRefusedAlone, counts_of}
 use Rattle.msr_input.specs.Reading.{HoldsRecord}
-use Rattle.msr_input.specs.Records.{CountsOneMore, Position, HaveCome, HaveComeShort, HasGiven, IsRefusedAfter, StopsRecords}
+use Rattle.msr_input.specs.Records.{CountsOneMore, Position, HaveCome, HaveComeShort, HasGiven, RefusesRecord, StopsGiving}
 use Rattle.msr_input.specs.Steps.{CameBefore, StopsDecoding}
 use Rattle.msr_input.specs.declared.fault.Fault.{Fault}
 use Rattle.msr_input.specs.declared.fault.ReadFault.{ReadFault}
@@ -114,7 +114,7 @@ refused_with_rest s a position records kind come refused more (inr unended) = re
 -- the next record is refused by itself
 decode_stops : (takes : List ℕ → Type 0) (s a : Device) (strict : Bool) (window : Window) (counts : Counts)
     (offset : ℕ) (records : List Record) (f : Fault) → HaveCome s a (at_window strict window counts offset) records
-    → StopsDecoding takes strict window offset (fault.Input f) → IsRefusedAfter strict s records f
+    → StopsDecoding takes strict window offset (fault.Input f) → RefusesRecord strict s records f
 decode_stops takes s a strict window counts offset records f come stop =
     let refused = refused_with_rest s a (at_window strict window counts offset) records f.kind come stop.2 stop.3
     (cases_Bool window.ended) in
@@ -139,7 +139,7 @@ pub come_next : {X : Type 0} (takes : List ℕ → Type 0) (s a b : Device) (str
     → MatchResult result (λ _. IsFilled 0 a b w w') (CameBefore a b w w')
     → IfErr result (StopsDecoding takes strict w' offset)
     → MatchResult result (λ _. HaveCome s b (at_window strict w' counts offset) records)
-    (StopsRecords strict s b records)
+    (StopsGiving strict s b records)
 come_next takes s a b strict w w' counts offset records (Ok next) come came stops =
     come_filled s a b strict w w' counts offset 0 records come came
 come_next takes s a b strict w w' counts offset records (Err (fault.Input f)) come came stops =

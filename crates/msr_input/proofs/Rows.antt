@@ -11,16 +11,16 @@ use Rattle.msr_segments.specs.declared.span.Span.{Span}
 use Rattle.msr_segments.specs.declared.follow.Step.{Step}
 use Rattle.msr_segments.specs.declared.follow.Step.TheVariants.{Begins, Joins}
 use Rattle.msr_segments.specs.declared.joiner.Segment.{Segment}
-use Rattle.msr_segments.specs.Spans.{Following, Overruns, IsStep}
+use Rattle.msr_segments.specs.Spans.{Following, Overruns, TakesStep}
 use Rattle.msr_segments.specs.Segments.{Part, segment_of, part_span, row_segment, row_span, IsDivision}
 use Rattle.msr_segments.specs.Joining.{Joining, HasJoined, HasFollowed, following_of}
 use Rattle.msr_segments.proofs.Histories.{followed_none, followed_step}
 use Rattle.msr_input.specs.Input.{Agrees, NoneOverruns, HaveBegun, rows_of_records}
-use Rattle.msr_input.specs.Records.{Position, HaveCome, StopsRecords}
+use Rattle.msr_input.specs.Records.{Position, HaveCome, StopsGiving}
 use Rattle.msr_input.specs.Reading.{GaveReadable, IsWritable, StopsReading, room_with}
 use Rattle.msr_input.specs.Outlines.{outline_of, row_outline, outline_span}
 use Rattle.msr_input.specs.Rows.{RowReading, HasReadRows, ReadsNoRow, ReadsOne, ReadsOutline, ReadsRecord, ReadsRow, ReadsToEnd, StepsTo, StopsRows, AllRowsAreReadable, answer_told, next_outline, next_row, row_settings, row_told}
-use Rattle.msr_input.specs.Steps.{CanJoin, Follows, IsGiven, IsJudged, IsNext, StopsFollowing}
+use Rattle.msr_input.specs.Steps.{CanJoin, FollowsIfAny, IsGiven, IsJudged, IsRecordAhead, StopsFollowing}
 use Rattle.msr_input.specs.declared.outline.Outline.{Outline}
 use Rattle.msr_input.specs.declared.outline.RowOutline.{RowOutline}
 use Rattle.msr_input.specs.declared.settings.Settings.{Settings}
@@ -95,7 +95,7 @@ rows_come s a b reading new records answers has come =
 
 -- no further record was given
 pub rows_stop : (settings : Settings) (s a : Device) (records : List Record) (why : ReadFault)
-    → StopsRecords settings.strict s a records why → NoneOverruns settings.tolerance records
+    → StopsGiving settings.strict s a records why → NoneOverruns settings.tolerance records
     → StopsRows settings s a records why
 rows_stop settings s a records why stop none =
     λ given begun. stops_reading settings s a records given why stop none begun
@@ -138,7 +138,7 @@ in_range_followed following records answers found none followed in_time within =
     (λ row e over. within row e (subst (λ (f : Following). Overruns f (row_span row)) (sym at.stands) over)) in
     subst (λ (t : ℕ). NoneOverruns t (records ++ found ∷ [])) (sym same) more
 
-step_tolerance : (old new : Following) (row : Span) (answer : Step) → IsStep old row answer new
+step_tolerance : (old new : Following) (row : Span) (answer : Step) → TakesStep old row answer new
     → new.tolerance ≡ old.tolerance
 step_tolerance old new row Begins k = ap (λ (f : Following). f.tolerance) k.after
 step_tolerance old new row Joins k = ap (λ (f : Following). f.tolerance) k.after
@@ -161,7 +161,7 @@ passed_none s a old new before records answers found has is none come = record {
 passed_row : (s a : Device) (old new : Position) (before after : Following) (records : List Record)
     (answers : List Step) (found : Record) (row : Row) (answer : Step)
     → HasReadRows s a (record { position = old; following = before }) records answers
-    → IsRecordOf old.waiting found → found.row ≡ Some row → IsStep before (row_span row) answer after
+    → IsRecordOf old.waiting found → found.row ≡ Some row → TakesStep before (row_span row) answer after
     → (Overruns before (row_span row) → ⊥) → HaveCome s a new (records ++ found ∷ [])
     → HasReadRows s a (record { position = new; following = after }) (records ++ found ∷ []) (answers ++ answer ∷ [])
 passed_row s a old new before after records answers found row answer has is some step within come =
@@ -180,7 +180,7 @@ passed_row s a old new before after records answers found row answer has is some
 passed_so : (s a : Device) (old new : Position) (before after : Following) (records : List Record)
     (answers : List Step) (found : Record) (row : Option Row) (step : Option Step)
     → HasReadRows s a (record { position = old; following = before }) records answers
-    → IsRecordOf old.waiting found → found.row ≡ row → Follows before (option_map row_outline row) step after
+    → IsRecordOf old.waiting found → found.row ≡ row → FollowsIfAny before (option_map row_outline row) step after
     → HaveCome s a new (records ++ found ∷ []) → HasReadRows s a
     (record { position = new; following = after }) (records ++ found ∷ []) (answers ++ option_to_list step)
 passed_so s a old new before after records answers found None step has is none follows come =
@@ -194,7 +194,7 @@ passed_so s a old new before after records answers found (Some row) step has is 
 pub rows_passed : (s a : Device) (old new : Position) (before after : Following) (records : List Record)
     (answers : List Step) (found : Record) (step : Option Step)
     → HasReadRows s a (record { position = old; following = before }) records answers
-    → IsRecordOf old.waiting found → Follows before (option_map row_outline found.row) step after
+    → IsRecordOf old.waiting found → FollowsIfAny before (option_map row_outline found.row) step after
     → HaveCome s a new (records ++ found ∷ []) → HasReadRows s a
     (record { position = new; following = after }) (records ++ found ∷ []) (answers ++ option_to_list step)
 rows_passed s a old new before after records answers found step has is follows come =
@@ -202,24 +202,24 @@ rows_passed s a old new before after records answers found step has is follows c
 
 -- what is told of the record's row
 told_row : (old new : Following) (row : Option Row) (step : Option Step)
-    → Follows old (option_map row_outline row) step new → row_told (next_row step row) ≡ row
+    → FollowsIfAny old (option_map row_outline row) step new → row_told (next_row step row) ≡ row
 told_row old new None step follows = rw follows.0 refl
 told_row old new (Some row) step follows = rw follows.told refl
 
 told_answer : (old new : Following) (row : Option Row) (step : Option Step)
-    → Follows old (option_map row_outline row) step new → option_to_list step ≡ answer_told (next_row step row)
+    → FollowsIfAny old (option_map row_outline row) step new → option_to_list step ≡ answer_told (next_row step row)
 told_answer old new None step follows = rw follows.0 refl
 told_answer old new (Some row) step follows = rw follows.told refl
 
 -- exactly that record was read
 pub reads_one : (s a : Device) (position : Position) (before : Following) (reading : RowReading)
     (records : List Record) (answers : List Step) (outline : Outline) (found : Record) (step : Option Step)
-    → IsNext position outline found → Follows before outline.row step reading.following
+    → IsRecordAhead position outline found → FollowsIfAny before outline.row step reading.following
     → HasReadRows s a reading (records ++ found ∷ []) (answers ++ option_to_list step)
     → ReadsOne s a reading records answers (record { length = outline.length; row = next_row step found.row })
 reads_one s a position before reading records answers outline found step given follows has =
     let row = ap (λ (o : Outline). o.row) given.outline_is in
-    let at = subst (λ (r : Option RowOutline). Follows before r step reading.following) row follows in
+    let at = subst (λ (r : Option RowOutline). FollowsIfAny before r step reading.following) row follows in
     record {
       found = found;
       length_is = ap (λ (o : Outline). o.length) given.outline_is;
@@ -270,7 +270,7 @@ row_given bytes found step is can = row_given_so bytes found found.row step is r
 -- the record that was read has this outline
 pub next_of : (position : Position) (outline : Outline)
     → IsJudged (λ found. outline ≡ outline_of found) position.strict position.waiting
-    → (found : Record) × IsNext position outline found
+    → (found : Record) × IsRecordAhead position outline found
 next_of position outline judged = (
   judged.found,
   record {
@@ -284,7 +284,7 @@ next_of position outline judged = (
 -- a record that was read with its samples is the one that the bytes begin with
 pub next_read : (position : Position) (found : Record) (outline : Outline)
     → IsJudged (λ other. found ≡ other) position.strict position.waiting → outline ≡ outline_of found
-    → IsNext position outline found
+    → IsRecordAhead position outline found
 next_read position found outline judged same = record {
   outline_is = same;
   is_record = subst (λ (it : Record). IsRecordOf position.waiting it) (sym judged.stands_for) judged.is_record;
@@ -317,7 +317,7 @@ outline_told_so s a bytes reading records answers found (Some row) (Some answer)
 
 pub outline_told : (s a : Device) (position : Position) (reading : RowReading) (records : List Record)
     (answers : List Step) (outline : Outline) (found : Record) (step : Option Step) (next : NextOutline)
-    → IsNext position outline found → next_outline step outline.row ≡ Some next
+    → IsRecordAhead position outline found → next_outline step outline.row ≡ Some next
     → ReadsOn s a reading records answers (next_row step found.row) → ReadsOutline s a reading records answers next
 outline_told s a position reading records answers outline found step next given told reads =
     let same = ap (λ (o : Outline). next_outline step o.row) given.outline_is in
@@ -333,7 +333,7 @@ outline_none_so s a reading records answers None (Some answer) told reads = read
 outline_none_so s a reading records answers (Some row) (Some answer) told reads = absurd cc
 
 pub outline_none : (s a : Device) (position : Position) (reading : RowReading) (records : List Record)
-    (answers : List Step) (outline : Outline) (found : Record) (step : Option Step) → IsNext position outline found
+    (answers : List Step) (outline : Outline) (found : Record) (step : Option Step) → IsRecordAhead position outline found
     → next_outline step outline.row ≡ None → ReadsOn s a reading records answers (next_row step found.row)
     → ReadsNoRow s a reading records answers
 outline_none s a position reading records answers outline found step given told reads =
@@ -341,7 +341,7 @@ outline_none s a position reading records answers outline found step given told 
     outline_none_so s a reading records answers found.row step (sym same ∙ told) reads
 
 -- and the follower stays where it is
-pub outline_stays : (old new : Following) (row : Option RowOutline) (step : Option Step) → Follows old row step new
+pub outline_stays : (old new : Following) (row : Option RowOutline) (step : Option Step) → FollowsIfAny old row step new
     → next_outline step row ≡ None → new ≡ old
 outline_stays old new None step follows told = follows.1
 outline_stays old new (Some row) step follows told =
@@ -406,6 +406,6 @@ end_behind s a b reading new records answers none end = record {
 
 -- what a record does with a follower, by what is told of its row
 pub steps_to : (old new : Following) (row : Option Row) (step : Option Step)
-    → Follows old (option_map row_outline row) step new → StepsTo old (next_row step row) new
+    → FollowsIfAny old (option_map row_outline row) step new → StepsTo old (next_row step row) new
 steps_to old new None step follows = rw follows.0 follows.1
 steps_to old new (Some row) step follows = rw follows.told follows.is_step

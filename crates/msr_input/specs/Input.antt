@@ -109,6 +109,11 @@ pub record IsFirstFault (settings : Settings) (input : List ℕ) (records : List
   pub refused : IsRefusedAfter settings records rest fault.kind
   pub offset_is : fault.offset ≡ bytes_of_records records
 
+-- the input has this first fault
+pub record HasFirstFault (settings : Settings) (input : List ℕ) (fault : Fault) : Type 0 where
+  pub records : List Record
+  pub first : IsFirstFault settings input records fault
+
 -- some first records of the input are read; these are first segments of their rows, and what follows them
 pub record HaveBegun (tolerance : ℕ) (records : List Record) (segments : List Segment) : Type 0 where
   pub others : List Segment

@@ -57,14 +57,14 @@ pub record HasGiven (strict : Bool) (start : Device) (records : List Record) : T
   pub agree : AllAgree strict records
 
 -- After these records one is refused by itself.
-pub record IsRefusedAfter (strict : Bool) (start : Device) (records : List Record) (fault : Fault) : Type 0 where
+pub record RefusesRecord (strict : Bool) (start : Device) (records : List Record) (fault : Fault) : Type 0 where
   pub given : HasGiven strict start records
   pub some_left : 0 < length given.rest
   pub refused : IsRefusedAlone strict given.rest fault.kind
   pub offset_is : fault.offset ≡ bytes_of_records records
 
 -- why no further record was given
-abbrev pub StopsRecords : (strict : Bool) → Device → Device → List Record → ReadFault → Type 0
-StopsRecords strict start now records (Input fault) = IsRefusedAfter strict start records fault × IsSteady start now
-StopsRecords strict start now records Read = HasGiven strict start records × HasFailed start now
-StopsRecords strict start now records Memory = HasGiven strict start records × IsSteady start now
+abbrev pub StopsGiving : (strict : Bool) → Device → Device → List Record → ReadFault → Type 0
+StopsGiving strict start now records (Input fault) = RefusesRecord strict start records fault × IsSteady start now
+StopsGiving strict start now records Read = HasGiven strict start records × HasFailed start now
+StopsGiving strict start now records Memory = HasGiven strict start records × IsSteady start now

@@ -4,7 +4,7 @@ use Rattle.std.specs.Option.{option_to_list}
 use Rattle.msr_rows.specs.declared.row.Record.{Record}
 use Rattle.msr_rows.specs.declared.row.Row.{Row}
 use Rattle.msr_devices.specs.Device.{Device}
-use Rattle.msr_segments.specs.Spans.{Following, IsStep}
+use Rattle.msr_segments.specs.Spans.{Following, TakesStep}
 use Rattle.msr_segments.specs.Segments.{row_segment, row_span}
 use Rattle.msr_segments.specs.Joining.{Joining, HasJoined, HasFollowed}
 use Rattle.msr_segments.specs.declared.follow.Step.{Step}
@@ -102,7 +102,7 @@ next_outline _ _ = None
 -- what a record does with a follower: nothing, if it has no row
 abbrev pub StepsTo : Following → Option NextRow → Following → Type 0
 StepsTo old None new = new ≡ old
-StepsTo old (Some next) new = IsStep old (row_span next.row) next.step new
+StepsTo old (Some next) new = TakesStep old (row_span next.row) next.step new
 
 -- Further records came, and no row with them, and no record is left: the input has ended.
 pub record ReadsToEnd (start now : Device) (reading : RowReading) (records : List Record)

@@ -10,7 +10,7 @@ use Rattle.msr_devices.specs.Device.{Device, GivesOnto, HasFailed}
 use Rattle.msr_devices.specs.ReadBuffer.{Window, IsFilled}
 use Rattle.msr_devices.specs.declared.fault.DeviceFault.{DeviceFault}
 use Rattle.msr_devices.specs.declared.fault.DeviceFault.TheVariants as filling
-use Rattle.msr_segments.specs.Spans.{Following, Overruns, IsStep}
+use Rattle.msr_segments.specs.Spans.{Following, Overruns, TakesStep}
 use Rattle.msr_segments.specs.declared.follow.Step.{Step}
 use Rattle.msr_input.specs.Input.{Agrees, IsRefusedAlone}
 use Rattle.msr_input.specs.Outlines.{outline_of, outline_span}
@@ -81,7 +81,7 @@ pub record IsGiven (stands : Record → Type 0) (strict : Bool) (bytes : List �
   pub room_is : room ≤ room_with judged.found.length before
 
 -- this is the outline of the record that the bytes at this place begin with, which is not refused by itself
-pub record IsNext (position : Position) (outline : Outline) (found : Record) : Type 0 where
+pub record IsRecordAhead (position : Position) (outline : Outline) (found : Record) : Type 0 where
   pub outline_is : outline ≡ outline_of found
   pub is_record : IsRecordOf position.waiting found
   pub can_join : IfSome found.row CanJoin
@@ -91,13 +91,13 @@ pub record IsNext (position : Position) (outline : Outline) (found : Record) : T
 pub record FollowsRow (old : Following) (row : RowOutline) (step : Option Step) (new : Following) : Type 0 where
   pub answer : Step
   pub told : step ≡ Some answer
-  pub is_step : IsStep old (outline_span row) answer new
+  pub is_step : TakesStep old (outline_span row) answer new
   pub in_range : Overruns old (outline_span row) → ⊥
 
 -- what a record's row does with a follower: nothing, if there is none
-abbrev pub Follows : Following → Option RowOutline → Option Step → Following → Type 0
-Follows old None step new = (step ≡ None) × (new ≡ old)
-Follows old (Some row) step new = FollowsRow old row step new
+abbrev pub FollowsIfAny : Following → Option RowOutline → Option Step → Following → Type 0
+FollowsIfAny old None step new = (step ≡ None) × (new ≡ old)
+FollowsIfAny old (Some row) step new = FollowsRow old row step new
 
 -- why a row was not followed, which takes no memory: it ends its segment out of range
 abbrev pub StopsFollowing : Following → Option RowOutline → ℕ → ReadFault → Type 0

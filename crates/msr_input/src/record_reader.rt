@@ -44,9 +44,9 @@ impl RecordReader {
     ghost use Rattle.std.specs.Prelude.{◌≡◌, ◌≢◌, ◌↔◌, ◌≤◌, ◌<◌, ◌⊎◌, List, [], ◌∷◌, ◌++◌, length, true, IsTrue, OnOk, IfOk, IfErr, IsErrOf, MatchResult, MatchOption};
     ghost use Rattle.msr_devices.specs.Device.{Device, CanCountCall, CountsFew, IsSteady};
     ghost use Rattle.msr_rows.specs.declared.row.Record.{Record as Found};
-    ghost use Rattle.msr_input.specs.Records.{HaveCome, HaveComeShort, StopsRecords, left_with};
+    ghost use Rattle.msr_input.specs.Records.{HaveCome, HaveComeShort, StopsGiving, left_with};
     ghost use Rattle.msr_input.specs.Reading.{HoldsRecord};
-    ghost use Rattle.msr_input.specs.Steps.{IsGiven, IsNext};
+    ghost use Rattle.msr_input.specs.Steps.{IsGiven, IsRecordAhead};
 
     /// A reader before the first record; a strict one refuses a record whose reverse constant does not agree. It
     /// takes no memory yet.
@@ -81,7 +81,7 @@ impl RecordReader {
         ensures came { (start : Device) (records : List Found) → HaveCome start (R.device source.old) self.old records
             → MatchResult result
             (λ _. HaveCome start (R.device source.new) self.new records)
-            (StopsRecords self.old.strict start (R.device source.new) records) }
+            (StopsGiving self.old.strict start (R.device source.new) records) }
         ensures next { IfOk result (λ next. MatchOption next
             ((self.new.waiting ≡ []) × (self.new.ended ≡ true))
             (λ made. IsGiven (F.stands made) self.new.strict self.new.waiting self.new.room self.old.room)) }
@@ -121,9 +121,9 @@ impl RecordReader {
     /// Passes the record that [`next`](Self::next) gave, by its outline, and counts it.
     #[inline(always)]
     pub(crate) fn pass(&mut self, outline: &Outline)
-        requires { (found : Found) × IsNext self.old outline.now found }
+        requires { (found : Found) × IsRecordAhead self.old outline.now found }
         ensures passed { (start now : Device) (records : List Found) (found : Found)
-            → HaveCome start now self.old records → IsNext self.old outline.now found
+            → HaveCome start now self.old records → IsRecordAhead self.old outline.now found
             → HaveCome start now self.new (records ++ found ∷ []) }
         ensures strict { self.new.strict ≡ self.old.strict }
         ensures room { self.new.room ≡ self.old.room }

@@ -61,14 +61,14 @@ impl RowReader {
     ghost use Rattle.msr_devices.specs.Device.{Device, CanCountCall, CountsFew, IsSteady};
     ghost use Rattle.msr_rows.specs.Records.{TakesMemory};
     ghost use Rattle.msr_rows.specs.declared.row.Record.{Record as Found};
-    ghost use Rattle.msr_segments.specs.Spans.{IsInBounds, IsStep};
+    ghost use Rattle.msr_segments.specs.Spans.{IsInBounds, TakesStep};
     ghost use Rattle.msr_segments.specs.Segments.{row_segment};
     ghost use Rattle.msr_segments.specs.declared.follow.Step.{Step as Answer};
     ghost use Rattle.msr_input.specs.Outlines.{outline_span};
     ghost use Rattle.msr_input.specs.Records.{HaveComeShort, left_with};
     ghost use Rattle.msr_input.specs.Reading.{HoldsRecord, IsWritable, room_with};
     ghost use Rattle.msr_input.specs.Rows.{HasReadRows, ReadsNoRow, ReadsNone, ReadsOne, ReadsOutline, ReadsRecord, ReadsToEnd, StepsTo, StopsRows, row_settings};
-    ghost use Rattle.msr_input.specs.Steps.{CanFollow, CanJoin, Follows, IsNext};
+    ghost use Rattle.msr_input.specs.Steps.{CanFollow, CanJoin, FollowsIfAny, IsRecordAhead};
 
     /// A reader before the first record, with a tolerance in its range. It takes no memory yet.
     pub fn new(alloc: Global, settings: Settings) -> RowReader
@@ -106,7 +106,7 @@ impl RowReader {
 
         // What the row does, and what rows are given.
         ensures step { IfOk result (λ next. IfSome next (λ given.
-            IsStep self.old.following (outline_span given.row) given.step self.new.following)) }
+            TakesStep self.old.following (outline_span given.row) given.step self.new.following)) }
         ensures row { IfOk result (λ next. IfSome next (λ given. CanFollow given.row)) }
         ensures in_bounds { IfOk result (λ next. IfSome next (λ _. IsInBounds self.new.following.current)) }
         ensures settings { row_settings self.new ≡ row_settings self.old }
@@ -209,16 +209,16 @@ impl RowReader {
     /// Takes the record that was read, by its outline, and says what its row does, if it has one.
     #[inline(always)]
     fn take(&mut self, outline: &Outline) -> Result<Option<Step>, ReadFault>
-        requires { (found : Found) × IsNext self.old.position outline.now found }
+        requires { (found : Found) × IsRecordAhead self.old.position outline.now found }
         ensures read { (start now : Device) (records : List Found) (answers : List Answer) (found : Found)
             → HasReadRows start now self.old records answers
-            → IsNext self.old.position outline.now found
+            → IsRecordAhead self.old.position outline.now found
             → MatchResult result
             (λ step. HasReadRows start now self.new (records ++ found ∷ []) (answers ++ option_to_list step))
             (StopsRows (row_settings self.old) start now records) }
         ensures strict { self.new.position.strict ≡ self.old.position.strict }
         ensures room { self.new.position.room ≡ self.old.position.room }
-        ensures step { IfOk result (λ step. Follows self.old.following outline.now.row step self.new.following) }
+        ensures step { IfOk result (λ step. FollowsIfAny self.old.following outline.now.row step self.new.following) }
         ensures in_bounds { IfOk result (λ step. IfSome step (λ _. IsInBounds self.new.following.current)) }
         ensures no_memory { IsErrOf result ReadFault.Memory → ⊥ }
         ensures unread { IsErrOf result ReadFault.Read → ⊥ }

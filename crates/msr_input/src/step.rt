@@ -10,7 +10,7 @@ ghost use Rattle.msr_input.specs.Outlines.{outline_of};
 ghost use Rattle.msr_input.specs.Reading.{HoldsRecord};
 ghost use Rattle.msr_input.specs.Records.{CountsOneMore};
 ghost use Rattle.msr_input.specs.Rows.{next_outline, next_row};
-ghost use Rattle.msr_input.specs.Steps.{CanFollow, CameBefore, Follows, IsGiven, IsJudged, StopsDecoding, StopsFollowing, may_change};
+ghost use Rattle.msr_input.specs.Steps.{CanFollow, CameBefore, FollowsIfAny, IsGiven, IsJudged, StopsDecoding, StopsFollowing, may_change};
 
 use crate::fault::{Fault, ReadFault, fault_at};
 use crate::from_record::FromRecord;
@@ -124,7 +124,7 @@ pub(crate) fn follow(
     offset: u64,
 ) -> Result<Option<Step>, ReadFault>
     requires { IfSome row.now CanFollow }
-    ensures followed { IfOk result (λ step. Follows follow.old row.now step follow.new) }
+    ensures followed { IfOk result (λ step. FollowsIfAny follow.old row.now step follow.new) }
     ensures in_bounds { IfOk result (λ step. IfSome step (λ _. IsInBounds follow.new.current)) }
     ensures refused { IfErr result (StopsFollowing follow.old row.now offset) }
     ensures unchanged { OnErr result (follow.new ≡ follow.old) }

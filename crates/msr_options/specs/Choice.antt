@@ -14,8 +14,8 @@ pub record Choice : Type 0 where
   pub strict : Bool
 
 -- how many bytes a record that is written has
-abbrev pub size_of : Choice → ℕ
-size_of choice = bytes_of choice.record_length
+abbrev pub record_size : Choice → ℕ
+record_size choice = bytes_of choice.record_length
 
 -- the form of the records that are written
 abbrev pub form_chosen : Choice → Form

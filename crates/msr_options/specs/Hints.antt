@@ -20,25 +20,25 @@ unopened_text side None = Some (codes "the first day refused as cannot open: " +
 unopened_text side (Some error) = None
 
 -- the text of a hint; that of the system's reason is the system's own
-abbrev pub text_of : Hint → Option (List ℕ)
-text_of Gzip = Some (codes "this is gzip")
-text_of MiniSeed3 = Some (codes "this is miniSEED 3, which msrepack does not read")
-text_of Folder = Some (codes "a folder: msrepack archive reads archives")
-text_of UnreadReport = Some (codes "the report cannot be read")
-text_of UnreadRecords = Some (codes "the report can be read, so it is the records")
-text_of Turns =
+abbrev pub hint_text : Hint → Option (List ℕ)
+hint_text Gzip = Some (codes "this is gzip")
+hint_text MiniSeed3 = Some (codes "this is miniSEED 3, which msrepack does not read")
+hint_text Folder = Some (codes "a folder: msrepack archive reads archives")
+hint_text UnreadReport = Some (codes "the report cannot be read")
+hint_text UnreadRecords = Some (codes "the report can be read, so it is the records")
+hint_text Turns =
     Some (codes "no record was saved: most segments are one record long, as with channels in turns, or gaps")
-text_of NoArchive = Some (codes "no folder of an archive below ROOT")
-text_of Waiting =
+hint_text NoArchive = Some (codes "no folder of an archive below ROOT")
+hint_text Waiting =
     Some (codes "msrepack waits for records on standard input; msrepack --help tells what else it does")
-text_of Lengths =
+hint_text Lengths =
     Some (codes "msrepack writes records of 256, 512, 1024, 2048, 4096, 8192, 16384, 32768 or 65536 bytes")
-text_of (System error) = None
-text_of (FirstDay unopened) = unopened_text unopened.side unopened.why
+hint_text (System error) = None
+hint_text (FirstDay unopened) = unopened_text unopened.side unopened.why
 
 -- the line of a hint
 abbrev pub line_of : Hint → Option (List ℕ)
-line_of hint = option_map (λ text. codes "hint: " ++ (text ++ codes "\n")) (text_of hint)
+line_of hint = option_map (λ text. codes "hint: " ++ (text ++ codes "\n")) (hint_text hint)
 
 -- how files of gzip begin, and records of miniSEED 3
 abbrev pub gzip_begin : List ℕ

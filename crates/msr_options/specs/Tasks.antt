@@ -2,7 +2,7 @@
 use Rattle.std.specs.Prelude.{◌≡◌, ◌≢◌, ◌⊎◌, ◌≤◌, ℕ, ⊤, Bool, false, List, ◌++◌, AllPairs, None, IfSome, codes}
 use Rattle.msr_kinds.specs.declared.kinds.Kinds.{Kinds}
 use Rattle.msr_kinds.specs.declared.kinds.Kinds.TheVariants.{All}
-use Rattle.msr_options.specs.Choice.{Choice, size_of}
+use Rattle.msr_options.specs.Choice.{Choice, record_size}
 use Rattle.msr_options.specs.declared.task.Folders.{Folders}
 use Rattle.msr_options.specs.declared.task.Task.{Task}
 use Rattle.msr_options.specs.declared.task.Task.TheVariants.{Repack, List as Listing, Check, Compare, Archive, Verify, Feed}
@@ -81,7 +81,7 @@ KeepsInput (Feed asked) = ⊤
 
 -- the options that have these numbers and these kinds
 pub record AreOptions (bytes tolerance : ℕ) (strict : Bool) (kinds : Kinds) (options : Choice) : Type 0 where
-  pub size : size_of options ≡ bytes
+  pub size : record_size options ≡ bytes
   pub tolerance_is : options.tolerance ≡ tolerance
   pub strict_is : options.strict ≡ strict
   pub kinds_are : options.kinds ≡ kinds

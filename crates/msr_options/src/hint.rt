@@ -77,9 +77,9 @@ pub enum Hint {
 }
 
 impl fmt::Display for Hint {
-    ghost use Rattle.msr_options.specs.Hints.{text_of};
+    ghost use Rattle.msr_options.specs.Hints.{hint_text};
 
-    ghost output = { text_of };
+    ghost output = { hint_text };
 
     fn fmt<W: fmt::Write>(&self, f: &mut fmt::Formatter<W>) -> fmt::Result {
         let text = match self {

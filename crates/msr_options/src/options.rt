@@ -35,7 +35,7 @@ impl Model for Options {
 }
 
 impl Options {
-    ghost use Rattle.msr_options.specs.Choice.{as_strict, form_chosen, of_kinds, size_of};
+    ghost use Rattle.msr_options.specs.Choice.{as_strict, form_chosen, of_kinds, record_size};
 
     /// Options for all five kinds that are not strict; `None` if the tolerance in microseconds is not from 1 to
     /// 1,000,000.
@@ -83,7 +83,7 @@ impl Options {
     /// The length of the written records.
     pub fn length(self) -> Length
         ensures same { result ≡ self.record_length }
-        ensures least { 256 ≤ size_of self }
+        ensures least { 256 ≤ record_size self }
     {
         self.length
     }

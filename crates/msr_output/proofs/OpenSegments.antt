@@ -14,7 +14,7 @@ use Rattle.msr_words.specs.Packing.{IsCanonical}
 use Rattle.msr_kinds.specs.declared.forms.Form.{Form}
 use Rattle.msr_kinds.specs.Lengths.{bytes_of}
 use Rattle.msr_packer.specs.Blocks.{Holding, Packs, pushed}
-use Rattle.msr_packer.specs.HeldSamples.{Shows}
+use Rattle.msr_packer.specs.HeldSamples.{ShowsPiece}
 use Rattle.msr_packer.specs.declared.held.Piece.{Piece}
 use Rattle.msr_packer.proofs.PackingsExist.{HasRest}
 use Rattle.msr_packer.proofs.Holding.{begins_all, begins_rest}
@@ -25,7 +25,7 @@ use Rattle.msr_rows.specs.declared.row.Key.{Key}
 use Rattle.msr_rows.specs.declared.row.Row.{Row}
 use Rattle.msr_segments.specs.Spans.{SpanIsInTime, span_of}
 use Rattle.msr_segments.specs.declared.joiner.Segment.{Segment}
-use Rattle.msr_output.specs.Opened.{AppendsMore, AppendsSome, CanEncode, CanGoOn, Gives, HasBegun, IsOpen, Opened, empty_segment, longer_by}
+use Rattle.msr_output.specs.Opened.{AppendsMore, AppendsSome, CanEncode, CanGoOn, GivesRuns, HasBegun, IsOpen, Opened, empty_segment, longer_by}
 use Rattle.msr_output.specs.Output.{AreWritten, Cut, IsPrefixOfOutput, IsPacked, IsWritableSegment, Packed, cuts_at, cuts_of, next_number, number_after, segment_of_packed}
 use Rattle.msr_output.specs.Writing.{AppendsRecordOfRun, HasWritten, StopsWriting, Writing}
 use Rattle.msr_devices.specs.declared.fault.DeviceFault.TheVariants.{Failed, Memory}
@@ -38,7 +38,7 @@ use Rattle.msr_output.proofs.Runs.{points_of_run}
 
 -- they begin the packing of the samples
 pub gives_rest : (whole : Bool) (form : Form) (samples : List ℤ) (runs : List Run) (separators : List ℕ)
-    (packer : Holding) → Gives whole form samples runs separators packer
+    (packer : Holding) → GivesRuns whole form samples runs separators packer
     → HasRest (records_of form) samples runs separators
 gives_rest false form samples runs separators packer p =
     begins_rest (records_of form) form.length.least samples runs separators packer.held packer.offset packer.current
@@ -72,9 +72,9 @@ given_fits form samples runs run separators rest =
 
 -- and can be encoded when it is shown
 pub can_encode : (whole : Bool) (opened : Opened) (piece : Piece) (separators : List ℕ) (packer : Holding)
-    → (can : CanGoOn whole opened) → Gives whole opened.form can.segment.samples
+    → (can : CanGoOn whole opened) → GivesRuns whole opened.form can.segment.samples
     (can.runs ++ piece.run ∷ []) separators packer
-    → Shows can.segment.samples packer.shown packer.before packer.groups piece
+    → ShowsPiece can.segment.samples packer.shown packer.before packer.groups piece
     → CanEncode (bytes_of opened.form.length) opened.key opened.start packer piece.run
 can_encode whole opened piece separators packer can gives shows =
     let samples = can.segment.samples in

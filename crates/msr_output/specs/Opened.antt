@@ -53,15 +53,15 @@ abbrev pub longer_by : Segment → List ℤ → Segment
 longer_by segment more = record { key = segment.key; start = segment.start; samples = segment.samples ++ more }
 
 -- these runs and separators were given, of samples that others may follow, or of all
-abbrev pub Gives : Bool → Form → List ℤ → List Run → List ℕ → Holding → Type 0
-Gives false form samples runs separators packer = Packs (records_of form) samples runs separators packer
-Gives true form samples runs separators packer = PacksLast (records_of form) samples runs separators packer
+abbrev pub GivesRuns : Bool → Form → List ℤ → List Run → List ℕ → Holding → Type 0
+GivesRuns false form samples runs separators packer = Packs (records_of form) samples runs separators packer
+GivesRuns true form samples runs separators packer = PacksLast (records_of form) samples runs separators packer
 
 -- The samples of this segment were pushed, all of them if it is whole, and its first runs were given.
 pub record IsOpen (whole : Bool) (segment : Segment) (runs : List Run) (opened : Opened) : Type 0 where
   pub key : opened.key ≡ segment.key
   pub start : opened.start ≡ segment.start
-  pub gives : Gives whole opened.form segment.samples runs opened.separators opened.packer
+  pub gives : GivesRuns whole opened.form segment.samples runs opened.separators opened.packer
 
 -- some samples of a segment that can be written were pushed
 pub record CanGoOn (whole : Bool) (opened : Opened) : Type 0 where

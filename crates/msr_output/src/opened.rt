@@ -5,21 +5,22 @@ ghost use Rattle.msr_words.specs.declared.kinds.Run.{Run};
 ghost use Rattle.msr_kinds.specs.declared.forms.Form.{Form};
 ghost use Rattle.msr_kinds.specs.Lengths.{bytes_of};
 ghost use Rattle.msr_words.specs.Packing.{IsCanonical};
-ghost use Rattle.msr_packer.specs.Blocks.{HoldsFew, left_of, pushed};
-ghost use Rattle.msr_packer.specs.HeldSamples.{Shows, pieces_of, runs_of, separators_of};
+ghost use Rattle.msr_packer.specs.Blocks.{HoldsFew, pushed, steps_left};
+ghost use Rattle.msr_packer.specs.HeldSamples.{ShowsPiece, pieces_of, runs_of, separators_of};
 ghost use Rattle.msr_packer.specs.declared.held.Piece.{Piece};
 ghost use Rattle.msr_record.specs.Written.{IsKey};
 ghost use Rattle.msr_time.specs.Instant.{IsInstant};
 ghost use Rattle.msr_segments.specs.Spans.{SpanIsInTime, span_of};
 ghost use Rattle.msr_segments.specs.declared.joiner.Segment.{Segment};
-ghost use Rattle.msr_output.specs.Opened.{AppendsMore, CanEncode, CanGoOn, EncodesNext, Gives, IsOpen, longer_by};
+ghost use Rattle.msr_output.specs.Opened.{AppendsMore, CanEncode, CanGoOn, EncodesNext, GivesRuns, IsOpen, longer_by};
 ghost use Rattle.msr_output.specs.Output.{next_number};
 ghost use Rattle.msr_output.specs.Writing.{AppendsRecordOfRun};
 
 use msr_kinds::Form;
 use msr_packer::{BlockPacker, Piece};
-use msr_record::{Key, WrittenRun, encode_run};
+use msr_record::{WrittenRun, encode_run};
 use msr_report::SegmentLine;
+use msr_rows::Key;
 use msr_words::Run;
 use std::alloc::{AllocError, Global};
 use std::marker::Model;
@@ -69,16 +70,16 @@ pub(crate) fn empty_span_is_in_time(key: &Key, start: i64)
 /// The next piece, of samples that others may follow, or of all.
 fn next_piece(packer: &mut BlockPacker, whole: bool) -> Option<Piece>
     ensures given { (form : Form) (samples : List ℤ) (runs : List Run) (separators : List ℕ)
-        → Gives whole form samples runs separators packer.old
-        → Gives whole form samples (runs ++ runs_of (pieces_of result))
+        → GivesRuns whole form samples runs separators packer.old
+        → GivesRuns whole form samples (runs ++ runs_of (pieces_of result))
         (separators ++ separators_of (pieces_of result)) packer.new }
     ensures shows { (form : Form) (samples : List ℤ) (runs : List Run) (separators : List ℕ)
-        → Gives whole form samples runs separators packer.old
-        → IfSome result (Shows samples packer.new.shown packer.new.before packer.new.groups) }
+        → GivesRuns whole form samples runs separators packer.old
+        → IfSome result (ShowsPiece samples packer.new.shown packer.new.before packer.new.groups) }
     ensures all { (form : Form) (samples : List ℤ) (runs : List Run) (separators : List ℕ)
-        → Gives whole form samples runs separators packer.old
+        → GivesRuns whole form samples runs separators packer.old
         → whole ≡ true → IsNone result → IsCanonical (records_of form) samples runs separators }
-    ensures fewer { IfSome result (λ _. left_of packer.new < left_of packer.old) }
+    ensures fewer { IfSome result (λ _. steps_left packer.new < steps_left packer.old) }
     ensures count { pushed packer.new ≡ pushed packer.old }
     ensures few { whole ≡ false → IsNone result → HoldsFew packer.new }
 {
@@ -117,7 +118,7 @@ impl OpenSegment {
         requires least { 1 ≤ number }
         requires most { number ≤ 999_999 }
         ensures { (segment : Segment) (separator : ℕ) → self.now.key ≡ segment.key → self.now.start ≡ segment.start
-            → Shows segment.samples self.now.packer.shown self.now.packer.before self.now.packer.groups
+            → ShowsPiece segment.samples self.now.packer.shown self.now.packer.before self.now.packer.groups
             (record { run = run; separator = separator })
             → OnOk result (AppendsRecordOfRun (bytes_of self.now.form.length) number segment run
             out.old.items out.new.items) }
@@ -150,7 +151,7 @@ impl OpenSegment {
         ensures can { OnOk result (CanGoOn whole self.new) }
         ensures appends { (segment : Segment) (runs : List Run) → IsOpen whole segment runs self.old
             → IfOk result (λ more. EncodesNext whole segment runs self.new number out.old.items out.new.items more) }
-        ensures fewer { IfOk result (λ more. IsTrue more → left_of self.new.packer < left_of self.old.packer) }
+        ensures fewer { IfOk result (λ more. IsTrue more → steps_left self.new.packer < steps_left self.old.packer) }
         ensures form { self.new.form ≡ self.old.form }
         ensures count { pushed self.new.packer ≡ pushed self.old.packer }
         ensures key { self.new.key ≡ self.old.key }

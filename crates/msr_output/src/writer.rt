@@ -3,8 +3,9 @@ use crate::opened::{OpenSegment, empty_span_is_in_time, key_has_header_widths};
 use msr_devices::{DeviceFault, Sink, WriteBuffer};
 use msr_kinds::Form;
 use msr_packer::BlockPacker;
-use msr_record::{Key, samples_have_32_bits};
+use msr_record::samples_have_32_bits;
 use msr_report::SegmentLine;
+use msr_rows::Key;
 use std::alloc::Global;
 use std::marker::Model;
 

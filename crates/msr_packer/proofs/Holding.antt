@@ -12,7 +12,7 @@ use Rattle.msr_words.proofs.AnyKind.{back_step_any, short_any, size_any}
 use Rattle.msr_words.specs.Packing.{IsCanonical, IsStep, Joins}
 use Rattle.msr_words.proofs.Runs.{length-run_points, run_points_stay}
 use Rattle.msr_packer.specs.SoFar.{IsSoFar}
-use Rattle.msr_packer.specs.HeldSamples.{BeginsAll, GivesPiece, HoldsRest, InsideIfAny, IsRunToCut, IsNext, IsSound, IsWindow, LeavesFew, ShowsRun, StandsAt, Stays, before_place, frontier_of, piece_of, pieces_of, runs_of, samples_of, separators_of, start_of}
+use Rattle.msr_packer.specs.HeldSamples.{BeginsAll, GivesPiece, HoldsRest, HoldsWindow, InsideIfAny, IsNextStep, IsRunToCut, IsSound, LeavesFew, ShowsRun, StandsAt, Stays, before_place, first_ungiven, frontier_of, piece_of, pieces_of, runs_of, samples_of_piece, separators_of}
 use Rattle.msr_packer.specs.declared.held.RunToCut.{RunToCut}
 use Rattle.msr_packer.specs.declared.held.HeldSamples.{HeldSamples}
 use Rattle.msr_packer.specs.declared.held.Piece.{Piece}
@@ -43,8 +43,8 @@ current_in_order records enough samples runs separators offset c is =
 pub window_more : (records : Records) → 256 ≤ records.bytes → (samples more : List ℤ) (runs : List Run)
     (separators : List ℕ)
     (held : List ℤ) (offset : ℕ) (current : Option RunToCut)
-    → IsWindow records samples runs separators held offset current → Stays current (length held)
-    → IsWindow records (samples ++ more) runs separators (held ++ more) offset current
+    → HoldsWindow records samples runs separators held offset current → Stays current (length held)
+    → HoldsWindow records (samples ++ more) runs separators (held ++ more) offset current
 window_more records enough samples more runs separators held offset current w stays = record {
   window = ap (λ xs. xs ++ more) w.window ∙ sym (drop-append-le offset samples more w.within);
   within = omega (arith, w.within, length-append samples more);
@@ -70,9 +70,9 @@ window_more records enough samples more runs separators held offset current w st
 
 -- the samples before the one before the run are not needed
 pub window_less : (records : Records) (samples : List ℤ) (runs : List Run) (separators : List ℕ) (held : List ℤ)
-    (offset k : ℕ) (c d : RunToCut) → IsWindow records samples runs separators held offset (Some c) → k < c.start
+    (offset k : ℕ) (c d : RunToCut) → HoldsWindow records samples runs separators held offset (Some c) → k < c.start
     → d.frontier + k ≡ c.frontier → d.start + k ≡ c.start → d.end + k ≡ c.end → d.whole ≡ c.whole → d.short ≡ c.short
-    → IsWindow records samples runs separators (drop k held) (offset + k) (Some d)
+    → HoldsWindow records samples runs separators (drop k held) (offset + k) (Some d)
 window_less records samples runs separators held offset k c d w small frontier start end whole short =
     let at = w.at in
     let s = at.so_far in
@@ -118,7 +118,7 @@ cut_kind records samples offset c a false e low high whole short =
 pub gives : (records : Records) → 256 ≤ records.bytes → (samples : List ℤ) (runs : List Run) (separators : List ℕ)
     (held : List ℤ)
     (offset : ℕ) (current : Option RunToCut) (h a : ℕ) (kind : Kind)
-    → IsWindow records samples runs separators held offset current → frontier_of current < length held
+    → HoldsWindow records samples runs separators held offset current → frontier_of current < length held
     → IsStep (FitsAny records) held (frontier_of current) h a → IsRun (FitsIn kind records) held a h
     → Gives records samples runs separators offset current h a kind
 gives records enough samples runs separators held offset None h a kind w more is reached =
@@ -176,8 +176,8 @@ gives records enough samples runs separators held offset (Some c) h a kind w mor
 -- the window with the next step
 pub window_next : (records : Records) → 256 ≤ records.bytes → (samples : List ℤ) (runs : List Run) (separators : List ℕ)
     (held : List ℤ) (offset : ℕ) (current : Option RunToCut) (next : RunToCut)
-    → IsWindow records samples runs separators held offset current → IsNext records held current next
-    → IsWindow records samples (runs ++ runs_of (pieces_of (piece_of offset current next.start)))
+    → HoldsWindow records samples runs separators held offset current → IsNextStep records held current next
+    → HoldsWindow records samples (runs ++ runs_of (pieces_of (piece_of offset current next.start)))
     (separators ++ separators_of (pieces_of (piece_of offset current next.start))) held offset (Some next)
 window_next records enough samples runs separators held offset current d w next =
     let is = rw next.frontier at next.step in
@@ -210,7 +210,7 @@ window_next records enough samples runs separators held offset current d w next 
 -- whatever samples follow, the runs so far begin their packing
 pub begins_all : (records : Records) → 256 ≤ records.bytes → (samples : List ℤ) (runs : List Run) (separators : List ℕ)
     (held : List ℤ) (offset : ℕ) (current : Option RunToCut)
-    → IsWindow records samples runs separators held offset current → Stays current (length held)
+    → HoldsWindow records samples runs separators held offset current → Stays current (length held)
     → BeginsAll records samples runs separators
 begins_all records enough samples runs separators held offset None w stays more =
     let none = w.at in
@@ -226,11 +226,11 @@ begins_all records enough samples runs separators held offset (Some c) w stays m
 -- where the samples begin that were not given
 pub record Leaves (samples : List ℤ) (runs : List Run) (held : List ℤ) (offset : ℕ)
     (current : Option RunToCut) : Type 0 where
-  pub joined : Joins 0 runs (offset + start_of current)
-  pub from_there : drop (start_of current) held ≡ drop (offset + start_of current) samples
+  pub joined : Joins 0 runs (offset + first_ungiven current)
+  pub from_there : drop (first_ungiven current) held ≡ drop (offset + first_ungiven current) samples
 
 pub leaves : (records : Records) (samples : List ℤ) (runs : List Run) (separators : List ℕ) (held : List ℤ) (offset : ℕ)
-    (current : Option RunToCut) → IsWindow records samples runs separators held offset current
+    (current : Option RunToCut) → HoldsWindow records samples runs separators held offset current
     → Leaves samples runs held offset current
 leaves records samples runs separators held offset None w =
     let none = w.at in
@@ -248,7 +248,7 @@ leaves records samples runs separators held offset (Some c) w = record {
 -- and that of all samples, if none follows
 pub begins_rest : (records : Records) → 256 ≤ records.bytes → (samples : List ℤ) (runs : List Run) (separators : List ℕ)
     (held : List ℤ) (offset : ℕ) (current : Option RunToCut)
-    → IsWindow records samples runs separators held offset current → HasRest records samples runs separators
+    → HoldsWindow records samples runs separators held offset current → HasRest records samples runs separators
 begins_rest records enough samples runs separators held offset None w =
     let none = w.at in
     let p = has_packing records samples enough in
@@ -259,7 +259,7 @@ begins_rest records enough samples runs separators held offset (Some c) w =
 
 -- if a longest run at most is held after the frontier
 pub leaves_few : (records : Records) (samples : List ℤ) (runs : List Run) (separators : List ℕ) (held : List ℤ)
-    (offset : ℕ) (current : Option RunToCut) → IsWindow records samples runs separators held offset current
+    (offset : ℕ) (current : Option RunToCut) → HoldsWindow records samples runs separators held offset current
     → length held ≤ frontier_of current + most_any records → LeavesFew records samples runs
 leaves_few records samples runs separators held offset None w few =
     let none = w.at in
@@ -274,7 +274,7 @@ leaves_few records samples runs separators held offset (Some c) w few =
 
 -- nothing was held
 pub ends_empty : (records : Records) (samples : List ℤ) (runs : List Run) (separators : List ℕ) (held : List ℤ)
-    (offset : ℕ) (current : Option RunToCut) → IsWindow records samples runs separators held offset current
+    (offset : ℕ) (current : Option RunToCut) → HoldsWindow records samples runs separators held offset current
     → length held ≡ 0 → IsCanonical records samples (runs ++ []) (separators ++ [])
 ends_empty records samples runs separators held offset None w empty =
     let none = w.at in
@@ -290,7 +290,7 @@ ends_empty records samples runs separators held offset (Some c) w empty =
 -- the piece of the last step is the last of the packing, if no sample stands after it
 pub ends_with : (records : Records) (samples : List ℤ) (runs : List Run) (separators : List ℕ) (held : List ℤ)
     (offset : ℕ)
-    (current : Option RunToCut) → IsWindow records samples runs separators held offset current
+    (current : Option RunToCut) → HoldsWindow records samples runs separators held offset current
     → length held ≤ frontier_of current
     → IsCanonical records samples (runs ++ runs_of (pieces_of (piece_of offset current (length held))))
     (separators ++ separators_of (pieces_of (piece_of offset current (length held))))
@@ -340,9 +340,9 @@ before_in_window samples o (suc a) (inr h) =
 
 -- the samples of the next piece, with the one before them
 pub shows_next : (records : Records) (samples : List ℤ) (runs : List Run) (separators : List ℕ) (held : List ℤ)
-    (offset : ℕ) (current : Option RunToCut) (a : ℕ) → IsWindow records samples runs separators held offset current
-    → IfSome (piece_of offset current a) (ShowsRun samples (slice_range held (start_of current) a)
-    (before_place held (start_of current)))
+    (offset : ℕ) (current : Option RunToCut) (a : ℕ) → HoldsWindow records samples runs separators held offset current
+    → IfSome (piece_of offset current a) (ShowsRun samples (slice_range held (first_ungiven current) a)
+    (before_place held (first_ungiven current)))
 shows_next records samples runs separators held offset None a w = tt
 shows_next records samples runs separators held offset (Some c) a w = record {
   run = ap (λ xs. slice_range xs c.start a) w.window ∙ sym (slice_in_window samples offset c.start a);
@@ -351,7 +351,7 @@ shows_next records samples runs separators held offset (Some c) a w = record {
 
 -- the samples of a piece, or none
 pub shown_if_any : (samples shown : List ℤ) (before : Option ℤ) (piece : Option Piece)
-    → IfSome piece (ShowsRun samples shown before) → (IsNone piece → shown ≡ []) → shown ≡ samples_of samples piece
+    → IfSome piece (ShowsRun samples shown before) → (IsNone piece → shown ≡ []) → shown ≡ samples_of_piece samples piece
 shown_if_any samples shown before None shows none = none refl
 shown_if_any samples shown before (Some piece) shows none = shows.run
 
@@ -401,14 +401,14 @@ stepped records enough held g h a kind inside step reached =
 
 pub next_stepped : (records : Records) → 256 ≤ records.bytes → (held : List ℤ) (current : Option RunToCut)
     (next : RunToCut)
-    → IsNext records held current next → Stepped records (frontier_of current) next.end next.start
+    → IsNextStep records held current next → Stepped records (frontier_of current) next.end next.start
 next_stepped records enough held current next is =
     rw is.frontier at (stepped records enough held next.frontier next.end next.start next.whole is.inside is.step
     (is.step.reached.0, is.step.reached.1, is.whole.0))
 
 pub start_before : (records : Records) (number : ℕ) (current : Option RunToCut) (a : ℕ)
     → InsideIfAny records number current
-    → frontier_of current ≤ a + 1 → start_of current ≤ a
+    → frontier_of current ≤ a + 1 → first_ungiven current ≤ a
 start_before records number None a inside near = omega arith
 start_before records number (Some c) a inside near = let before = inside.before in let on = inside.on in omega arith
 

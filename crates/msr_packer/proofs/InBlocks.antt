@@ -4,7 +4,7 @@ use Rattle.msr_words.specs.Fit.{Records, records_of}
 use Rattle.msr_words.specs.declared.kinds.Run.{Run}
 use Rattle.msr_words.specs.Packing.{IsCanonical}
 use Rattle.msr_packer.specs.Blocks.{Holding, LeftAt, Packs, PacksLast, holding_of}
-use Rattle.msr_packer.specs.HeldSamples.{GivesPiece, HoldsNeeded, HoldsRest, HoldsSame, IsWindow, Stays, pieces_of, runs_of, separators_of}
+use Rattle.msr_packer.specs.HeldSamples.{GivesPiece, HoldsNeeded, HoldsRest, HoldsSame, HoldsWindow, Stays, pieces_of, runs_of, separators_of}
 use Rattle.msr_packer.specs.declared.held.HeldSamples.{HeldSamples}
 use Rattle.msr_packer.specs.declared.held.Piece.{Piece}
 use Rattle.msr_packer.proofs.PackingsExist.{HasRest}
@@ -13,15 +13,15 @@ use Rattle.msr_packer.proofs.Holding.{begins_rest, holds_still, stays_more, wind
 module _ (records : Records) (samples : List ℤ) (runs : List Run) (separators : List ℕ) where
   -- in records of the packer's form, and back
   pub holds_in : (held : HeldSamples) → records_of held.form ≡ records
-      → IsWindow records samples runs separators held.samples.items held.offset held.current
+      → HoldsWindow records samples runs separators held.samples.items held.offset held.current
       → HoldsRest samples runs separators held
   holds_in held same_form w = subst
-      (λ b. IsWindow b samples runs separators held.samples.items held.offset held.current) (sym same_form) w
+      (λ b. HoldsWindow b samples runs separators held.samples.items held.offset held.current) (sym same_form) w
 
   pub held_in : (held : HeldSamples) → records_of held.form ≡ records → HoldsRest samples runs separators held
-      → IsWindow records samples runs separators held.samples.items held.offset held.current
+      → HoldsWindow records samples runs separators held.samples.items held.offset held.current
   held_in held same_form w = subst
-      (λ b. IsWindow b samples runs separators held.samples.items held.offset held.current) same_form w
+      (λ b. HoldsWindow b samples runs separators held.samples.items held.offset held.current) same_form w
 
 module _ (records : Records) (samples : List ℤ) (runs : List Run) (separators : List ℕ) (old new : HeldSamples) where
   -- ---- a piece was given

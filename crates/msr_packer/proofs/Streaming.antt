@@ -9,8 +9,8 @@ use Rattle.msr_words.specs.Lemmas.KindLaws.{empty_kind}
 use Rattle.msr_words.proofs.AnyKind.{back_step_any}
 use Rattle.msr_words.specs.Packing.{IsStep}
 use Rattle.msr_words.proofs.Runs.{run_points_none, run_points_stay}
-use Rattle.msr_packer.specs.Growing.{Follows, IsGrowing, IsTracked, kind_of_tracker}
-use Rattle.msr_packer.specs.HeldSamples.{InsideIfAny, frontier_of, start_of}
+use Rattle.msr_packer.specs.Growing.{FollowsRun, IsGrowing, IsTracked, kind_of_tracker}
+use Rattle.msr_packer.specs.HeldSamples.{InsideIfAny, first_ungiven, frontier_of}
 use Rattle.msr_packer.specs.declared.growing.Tracker.{Tracker}
 use Rattle.msr_packer.specs.declared.growing.GrowingRun.{GrowingRun}
 use Rattle.msr_packer.specs.declared.held.RunToCut.{RunToCut}
@@ -77,7 +77,7 @@ growing_less records held g g' k growing growing' is small frontier start tracke
 
 -- before the first sample
 pub begun : (records : Records) → 256 ≤ records.bytes → (samples : List ℤ) (start : ℕ) (tracker : Tracker)
-    → IsChosen records.kinds (kind_of_tracker tracker) → Follows records.bytes [] tracker
+    → IsChosen records.kinds (kind_of_tracker tracker) → FollowsRun records.bytes [] tracker
     → IsTracked records samples start start tracker
 begun records enough samples start tracker chosen follows = record {
   follows = rw run_points_none follows;
@@ -130,7 +130,7 @@ growing_forgets records held g g' k growing growing' is (inl none) frontier star
 
 pub may_forget : (records : Records) (number : ℕ) (current : Option RunToCut) (from : ℕ)
     → InsideIfAny records number current
-    → frontier_of current ≤ from + 1 → (start_of current - 1 ≡ 0) ⊎ (start_of current - 1 < from)
+    → frontier_of current ≤ from + 1 → (first_ungiven current - 1 ≡ 0) ⊎ (first_ungiven current - 1 < from)
 may_forget records number None from inside near = inl (omega arith)
 may_forget records number (Some c) from inside near = elim (cases_lt 1 c.start) [
   | inl some ↦ let before = inside.before in let on = inside.on in inr (omega arith)

@@ -7,7 +7,7 @@ use Rattle.msr_words.specs.Fit.{Records}
 use Rattle.msr_words.specs.Groups.{AreGroupSizesIfKnown}
 use Rattle.msr_words.specs.Segment.{differences, points, run_points}
 use Rattle.msr_words.proofs.Runs.{run_from, run_from_start, run_points_stay}
-use Rattle.msr_packer.specs.HeldSamples.{InsideIfAny, IsSound, KnowsSizes, Shows, ShowsRun, before_place, before_shown, frontier_of, shown_by, sizes_shown, start_of}
+use Rattle.msr_packer.specs.HeldSamples.{InsideIfAny, IsSound, KnowsSizes, ShowsPiece, ShowsRun, before_place, before_shown, first_ungiven, frontier_of, shown_by, sizes_shown}
 use Rattle.msr_packer.specs.Steps.{HaveSizes}
 use Rattle.msr_packer.specs.declared.held.HeldSamples.{HeldSamples}
 use Rattle.msr_packer.specs.declared.held.Piece.{Piece}
@@ -77,7 +77,7 @@ frontier_within records None number inside = omega arith
 frontier_within records (Some c) number inside = inside.within
 
 pub start_within : (records : Records) (current : Option RunToCut) (number : ℕ)
-    → InsideIfAny records number current → start_of current ≤ frontier_of current
+    → InsideIfAny records number current → first_ungiven current ≤ frontier_of current
 start_within records None number inside = omega arith
 start_within records (Some c) number inside = let before = inside.before in let on = inside.on in omega arith
 
@@ -94,7 +94,7 @@ points_of_run samples (suc i) b within =
 -- what is shown of the piece, with the sizes
 pub shows_sizes : (held : HeldSamples) (samples : List ℤ) (piece : Option Piece) → IsSound held → KnowsSizes held
     → IfSome piece (ShowsRun samples (shown_by held) (before_shown held))
-    → IfSome piece (Shows samples (shown_by held) (before_shown held) (sizes_shown held))
+    → IfSome piece (ShowsPiece samples (shown_by held) (before_shown held) (sizes_shown held))
 shows_sizes held samples None sound knows shows = tt
 shows_sizes held samples (Some piece) sound knows shows = record {
   run = shows.run;

@@ -4,7 +4,7 @@ use Rattle.msr_words.specs.Fit.{Records, records_of}
 use Rattle.msr_words.specs.declared.kinds.Run.{Run}
 use Rattle.msr_words.specs.Laws.{most_any}
 use Rattle.msr_words.specs.Packing.{IsCanonical}
-use Rattle.msr_packer.specs.HeldSamples.{BeginsAll, IsWindow, LeavesFew, Shows, Stays, before_shown, frontier_of, pieces_of, runs_of, separators_of, shown_by, sizes_shown}
+use Rattle.msr_packer.specs.HeldSamples.{BeginsAll, HoldsWindow, LeavesFew, ShowsPiece, Stays, before_shown, frontier_of, pieces_of, runs_of, separators_of, shown_by, sizes_shown}
 use Rattle.msr_packer.specs.declared.held.RunToCut.{RunToCut}
 use Rattle.msr_packer.specs.declared.held.HeldSamples.{HeldSamples}
 use Rattle.msr_packer.specs.declared.held.Piece.{Piece}
@@ -44,14 +44,14 @@ pushed packer = packer.offset + length packer.held
 pub record Packs (records : Records) (samples : List ℤ) (runs : List Run) (separators : List ℕ)
     (packer : Holding) : Type 0 where
   pub of_form : packer.records ≡ records
-  pub holds : IsWindow records samples runs separators packer.held packer.offset packer.current
+  pub holds : HoldsWindow records samples runs separators packer.held packer.offset packer.current
   pub stays : Stays packer.current (length packer.held)
   pub goes_on : packer.ended ≡ false
 
 -- what is left, if no sample follows
 abbrev pub LeftAt : Bool → Records → List ℤ → List Run → List ℕ → Holding → Type 0
 LeftAt false records samples runs separators packer =
-    IsWindow records samples runs separators packer.held packer.offset packer.current
+    HoldsWindow records samples runs separators packer.held packer.offset packer.current
 LeftAt true records samples runs separators packer = IsCanonical records samples runs separators
 
 -- After these samples, which no sample follows, these runs and separators were given.
@@ -66,11 +66,11 @@ pub record GivesNext (packs : List ℤ → List Run → List ℕ → Holding →
   pub given : (samples : List ℤ) (runs : List Run) (separators : List ℕ) → packs samples runs separators old
       → packs samples (runs ++ runs_of (pieces_of piece)) (separators ++ separators_of (pieces_of piece)) new
   pub shows : (samples : List ℤ) (runs : List Run) (separators : List ℕ) → packs samples runs separators old
-      → IfSome piece (Shows samples new.shown new.before new.groups)
+      → IfSome piece (ShowsPiece samples new.shown new.before new.groups)
 
 -- how many steps can be left at most
-abbrev pub left_of : Holding → ℕ
-left_of packer = (if packer.ended then 0 else 1) + (length packer.held - frontier_of packer.current)
+abbrev pub steps_left : Holding → ℕ
+steps_left packer = (if packer.ended then 0 else 1) + (length packer.held - frontier_of packer.current)
 
 -- at most one longest run is held after the frontier
 abbrev pub HoldsFew : Holding → Type 0

@@ -21,16 +21,16 @@ kind_of_tracker (Int24 t) = kinds.Int24
 kind_of_tracker (Int32 t) = kinds.Int32
 
 -- the run was pushed to the tracker
-abbrev pub Follows : ℕ → List (ℤ × ℤ) → Tracker → Type 0
-Follows bytes run (Steim2 t) = FollowsSteim2 bytes run t
-Follows bytes run (Steim1 t) = FollowsSteim1 (words_of bytes) (map (λ p. p.1) run) t
-Follows bytes run (Int16 t) = FollowsIntegers kinds.Int16 bytes run t
-Follows bytes run (Int24 t) = FollowsIntegers kinds.Int24 bytes run t
-Follows bytes run (Int32 t) = FollowsIntegers kinds.Int32 bytes run t
+abbrev pub FollowsRun : ℕ → List (ℤ × ℤ) → Tracker → Type 0
+FollowsRun bytes run (Steim2 t) = FollowsSteim2 bytes run t
+FollowsRun bytes run (Steim1 t) = FollowsSteim1 (words_of bytes) (map (λ p. p.1) run) t
+FollowsRun bytes run (Int16 t) = FollowsIntegers kinds.Int16 bytes run t
+FollowsRun bytes run (Int24 t) = FollowsIntegers kinds.Int24 bytes run t
+FollowsRun bytes run (Int32 t) = FollowsIntegers kinds.Int32 bytes run t
 
 -- the samples `start` to n-1 were pushed to the tracker, and fit
 pub record IsTracked (records : Records) (samples : List ℤ) (start n : ℕ) (tracker : Tracker) : Type 0 where
-  pub follows : Follows records.bytes (run_points samples start n) tracker
+  pub follows : FollowsRun records.bytes (run_points samples start n) tracker
   pub fits : FitsIn (kind_of_tracker tracker) records (run_points samples start n)
 
 -- a run that starts at the frontier g, or at the sample before it, goes on to the sample n-1 at least

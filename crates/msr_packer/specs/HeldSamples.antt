@@ -34,9 +34,9 @@ frontier_of None = 0
 frontier_of (Some current) = current.end
 
 -- where the samples begin that were not given yet
-abbrev pub start_of : Option RunToCut → ℕ
-start_of None = 0
-start_of (Some current) = current.start
+abbrev pub first_ungiven : Option RunToCut → ℕ
+first_ungiven None = 0
+first_ungiven (Some current) = current.start
 
 -- the step ends before the last of `number` samples, so that it stays whatever follows
 abbrev pub Stays : Option RunToCut → ℕ → Type 0
@@ -44,7 +44,7 @@ Stays None number = ⊤
 Stays (Some current) number = current.end < number
 
 -- The last samples are held, with the step after these runs and separators.
-pub record IsWindow (records : Records) (samples : List ℤ) (runs : List Run) (separators : List ℕ) (held : List ℤ)
+pub record HoldsWindow (records : Records) (samples : List ℤ) (runs : List Run) (separators : List ℕ) (held : List ℤ)
     (offset : ℕ) (current : Option RunToCut) : Type 0 where
   pub window : held ≡ drop offset samples
   pub within : offset ≤ length samples
@@ -52,7 +52,7 @@ pub record IsWindow (records : Records) (samples : List ℤ) (runs : List Run) (
 
 -- the last samples of a segment are held so
 abbrev pub HoldsRest : List ℤ → List Run → List ℕ → HeldSamples → Type 0
-HoldsRest samples runs separators held = IsWindow
+HoldsRest samples runs separators held = HoldsWindow
     (records_of held.form) samples runs separators held.samples.items held.offset held.current
 
 -- the step starts at its frontier or before, ends after it, within `number` samples, and is no
@@ -83,7 +83,7 @@ pub record HasPlaces (offset next : ℕ) (current : Option RunToCut) : Type 0 wh
   pub counted : offset + number < 2 ^ 64
 
 -- The step from the next frontier, with the kinds of its run.
-pub record IsNext (records : Records) (held : List ℤ) (current : Option RunToCut) (next : RunToCut) : Type 0 where
+pub record IsNextStep (records : Records) (held : List ℤ) (current : Option RunToCut) (next : RunToCut) : Type 0 where
   pub frontier : next.frontier ≡ frontier_of current
   pub inside : next.frontier < length held
   pub step : IsStep (FitsAny records) held next.frontier next.end next.start
@@ -113,9 +113,9 @@ abbrev pub separators_of : List Piece → List ℕ
 separators_of pieces = map (λ p. p.separator) pieces
 
 -- the samples of a piece, if there is one
-abbrev pub samples_of : List ℤ → Option Piece → List ℤ
-samples_of samples None = []
-samples_of samples (Some piece) = slice_range samples piece.run.start piece.run.end
+abbrev pub samples_of_piece : List ℤ → Option Piece → List ℤ
+samples_of_piece samples None = []
+samples_of_piece samples (Some piece) = slice_range samples piece.run.start piece.run.end
 
 -- the sample before this one, if there is one
 abbrev pub before_place : List ℤ → ℕ → Option ℤ
@@ -128,7 +128,7 @@ pub record ShowsRun (samples shown : List ℤ) (before : Option ℤ) (piece : Pi
   pub before_run : before ≡ before_place samples piece.run.start
 
 -- They are, and the sizes are those of its groups of Steim-2, if these are known.
-pub record Shows (samples shown : List ℤ) (before : Option ℤ) (groups : List ℕ) (piece : Piece) : Type 0 where
+pub record ShowsPiece (samples shown : List ℤ) (before : Option ℤ) (groups : List ℕ) (piece : Piece) : Type 0 where
   pub run : shown ≡ slice_range samples piece.run.start piece.run.end
   pub before_run : before ≡ before_place samples piece.run.start
   pub sizes : AreGroupSizesIfKnown (differences before shown) groups
@@ -142,7 +142,7 @@ before_shown held = before_place held.samples.items held.from
 
 -- the sizes and words that are told of the groups of the next piece
 pub record KnowsNext (held : HeldSamples) : Type 0 where
-  pub next : HaveSizes held.samples.items (start_of held.current) (frontier_of held.current) held.sizes.next.count
+  pub next : HaveSizes held.samples.items (first_ungiven held.current) (frontier_of held.current) held.sizes.next.count
       held.sizes.next.places.items held.sizes.next.words.items
 
 -- and of the piece that is shown

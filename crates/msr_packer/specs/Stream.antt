@@ -39,8 +39,8 @@ StreamLeavesFew = (records : Records) (samples : List ℤ) (runs : List Run) (se
     → Streams records samples runs separators packer → LeavesFew records samples runs
 
 -- The last pieces, of which there may be none, and the samples from the first of them on.
-pub record IsEnd (records : Records) (samples : List ℤ) (runs : List Run) (separators : List ℕ) (pieces : List Piece)
-    (rest : List ℤ) : Type 0 where
+pub record AreLastPieces (records : Records) (samples : List ℤ) (runs : List Run) (separators : List ℕ)
+    (pieces : List Piece) (rest : List ℤ) : Type 0 where
   pub canonical : IsCanonical records samples (runs ++ runs_of pieces) (separators ++ separators_of pieces)
   pub given : ℕ
   pub joined : Joins 0 runs given

@@ -7,7 +7,7 @@ ghost use Rattle.msr_words.specs.Laws.{most_any};
 ghost use Rattle.msr_words.specs.Packing.{IsCanonical};
 ghost use Rattle.msr_words.specs.Segment.{differences};
 ghost use Rattle.msr_filling.specs.GroupWords.{AreGroupWords};
-ghost use Rattle.msr_packer.specs.Blocks.{BlocksBeginAll, BlocksEnd, BlocksLeaveFew, GivesNext, HoldsFew, LastBlocksBegin, Packs, PacksLast, left_of, pushed};
+ghost use Rattle.msr_packer.specs.Blocks.{BlocksBeginAll, BlocksEnd, BlocksLeaveFew, GivesNext, HoldsFew, LastBlocksBegin, Packs, PacksLast, pushed, steps_left};
 
 use crate::held::{HeldSamples, Piece};
 use msr_kinds::Form;
@@ -73,7 +73,7 @@ impl BlockPacker {
     pub fn next_piece(&mut self) -> Option<Piece>
         ensures gives { (records : Records) → GivesNext (Packs records) self.old self.new result }
         ensures few { IsNone result → HoldsFew self.new }
-        ensures fewer { IfSome result (λ _. left_of self.new < left_of self.old) }
+        ensures fewer { IfSome result (λ _. steps_left self.new < steps_left self.old) }
         ensures count { pushed self.new ≡ pushed self.old }
     {
         let most = longest_run(self.held.form);
@@ -86,7 +86,7 @@ impl BlockPacker {
         ensures all { (records : Records) (samples : List ℤ) (runs : List Run) (separators : List ℕ)
             → PacksLast records samples runs separators self.old
             → IsNone result → IsCanonical records samples runs separators }
-        ensures fewer { IfSome result (λ _. left_of self.new < left_of self.old) }
+        ensures fewer { IfSome result (λ _. steps_left self.new < steps_left self.old) }
         ensures count { pushed self.new ≡ pushed self.old }
     {
         if self.ended {

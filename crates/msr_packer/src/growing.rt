@@ -5,7 +5,7 @@ ghost use Rattle.std.specs.Prelude.{◌≡◌, ℕ, ◌+◌, ◌≤◌, [], leng
 ghost use Rattle.msr_kinds.specs.Lengths.{bytes_of};
 ghost use Rattle.msr_words.specs.Fit.{Fits, FitsIn, IsRun, Records, records_of};
 ghost use Rattle.msr_words.specs.Segment.{run_points};
-ghost use Rattle.msr_packer.specs.Growing.{Follows, IsDecided, IsGrowing, IsTracked, kind_of_tracker};
+ghost use Rattle.msr_packer.specs.Growing.{FollowsRun, IsDecided, IsGrowing, IsTracked, kind_of_tracker};
 
 use crate::step::{StepWithEnds, next_step, tried_first};
 use msr_kinds::{Form, Kind, Length};
@@ -43,7 +43,7 @@ fn all_taken<C: Codec + Drop>(mut tracker: C, samples: &[i32], from: usize) -> O
 impl Tracker {
     /// A tracker that nothing was pushed to.
     fn new(kind: Kind, record_length: Length) -> Tracker
-        ensures follows { Follows (bytes_of record_length) [] result }
+        ensures follows { FollowsRun (bytes_of record_length) [] result }
         ensures kind { kind_of_tracker result ≡ kind }
     {
         match kind {

@@ -5,7 +5,7 @@ ghost use Rattle.msr_words.specs.declared.kinds.Run.{Run};
 ghost use Rattle.msr_words.specs.Fit.{FitsAny, IsRun, records_of};
 ghost use Rattle.msr_words.specs.Laws.{most_any};
 ghost use Rattle.msr_words.specs.Packing.{IsCanonical};
-ghost use Rattle.msr_packer.specs.HeldSamples.{GivesPiece, HasPlaces, HoldsNeeded, HoldsRest, HoldsSame, IsNext, IsSound, KnowsNext, KnowsSizes, ShowsRun, Stays, before_shown, frontier_of, piece_of, pieces_of, runs_of, separators_of, shown_by, start_of};
+ghost use Rattle.msr_packer.specs.HeldSamples.{GivesPiece, HasPlaces, HoldsNeeded, HoldsRest, HoldsSame, IsNextStep, IsSound, KnowsNext, KnowsSizes, ShowsRun, Stays, before_shown, first_ungiven, frontier_of, piece_of, pieces_of, runs_of, separators_of, shown_by};
 ghost use Rattle.msr_packer.specs.Steps.{HaveSizes, IsFound};
 
 use crate::kind_of;
@@ -61,7 +61,7 @@ pub(crate) fn frontier_of(current: Option<RunToCut>) -> usize
 
 /// Where the samples begin that were not given yet.
 pub(crate) fn start_of(current: Option<RunToCut>) -> usize
-    ensures { result ≡ start_of current }
+    ensures { result ≡ first_ungiven current }
 {
     match current {
         Some(current) => current.start,
@@ -120,7 +120,7 @@ impl RunToCut {
     ) -> RunToCut
         requires inside { frontier_of current < length samples.now }
         requires step { IsFound (records_of form) samples.now (frontier_of current) found }
-        ensures next { IsNext (records_of form) samples.now current result }
+        ensures next { IsNextStep (records_of form) samples.now current result }
         ensures end { result.end ≡ found.step.end }
         ensures sizes { (sizes words : List ℕ)
             → HaveSizes samples.now (frontier_of current) found.ends.steim2 found.ends.groups sizes words
@@ -147,7 +147,7 @@ impl RunToCut {
         words: &mut [u32],
     ) -> RunToCut
         requires { frontier_of current < length samples.now }
-        ensures next { IsNext (records_of form) samples.now current result }
+        ensures next { IsNextStep (records_of form) samples.now current result }
         ensures sizes { HaveSizes samples.now result.start result.end result.groups sizes.new words.new }
     {
         let found = next_step(
@@ -213,7 +213,7 @@ impl HeldSamples {
     /// Goes on to the next step, and gives the piece before it, which is shown.
     pub(crate) fn go_on(&mut self, step: RunToCut) -> Option<Piece>
         requires sound { IsSound self.old }
-        requires next { IsNext (records_of self.old.form) self.old.samples.items self.old.current step }
+        requires next { IsNextStep (records_of self.old.form) self.old.samples.items self.old.current step }
         ensures given { GivesPiece self.old self.new result }
         ensures none { IsNone result → shown_by self.new ≡ [] }
         ensures current { self.new.current ≡ Some step }
@@ -306,7 +306,7 @@ impl HeldSamples {
 
     /// How many samples no step needs any more: those before the one before the run.
     pub(crate) fn unneeded(&self) -> usize
-        ensures { result ≡ start_of self.now.current - 1 }
+        ensures { result ≡ first_ungiven self.now.current - 1 }
     {
         start_of(self.current).saturating_sub(1)
     }
@@ -315,10 +315,11 @@ impl HeldSamples {
     pub(crate) fn forget(&mut self)
         requires { IsSound self.old }
         ensures needed { HoldsNeeded self.old self.new }
-        ensures samples { self.new.samples.items ≡ drop (start_of self.old.current - 1) self.old.samples.items }
-        ensures frontier { frontier_of self.new.current + (start_of self.old.current - 1)
+        ensures samples { self.new.samples.items ≡ drop (first_ungiven self.old.current - 1) self.old.samples.items }
+        ensures frontier { frontier_of self.new.current + (first_ungiven self.old.current - 1)
             ≡ frontier_of self.old.current }
-        ensures start { start_of self.new.current + (start_of self.old.current - 1) ≡ start_of self.old.current }
+        ensures start { first_ungiven self.new.current + (first_ungiven self.old.current - 1)
+            ≡ first_ungiven self.old.current }
         ensures from { self.new.from ≡ 0 }
         ensures to { self.new.to ≡ 0 }
     {

@@ -6,8 +6,8 @@ ghost use Rattle.msr_kinds.specs.Forms.{all_kinds};
 ghost use Rattle.msr_words.specs.declared.kinds.Run.{Run};
 ghost use Rattle.msr_words.specs.Laws.{most_any};
 ghost use Rattle.msr_packer.specs.Blocks.{pushed};
-ghost use Rattle.msr_packer.specs.HeldSamples.{HoldsNeeded, frontier_of, pieces_of, runs_of, samples_of, separators_of};
-ghost use Rattle.msr_packer.specs.Stream.{IsEnd, IsStreaming, PiecesBeginAll, StreamLeavesFew, Streams};
+ghost use Rattle.msr_packer.specs.HeldSamples.{HoldsNeeded, frontier_of, pieces_of, runs_of, samples_of_piece, separators_of};
+ghost use Rattle.msr_packer.specs.Stream.{AreLastPieces, IsStreaming, PiecesBeginAll, StreamLeavesFew, Streams};
 
 use crate::growing::GrowingRun;
 use crate::held::{HeldSamples, Piece, RunToCut, frontier_of, likely_of, remove_front, start_of};
@@ -107,7 +107,7 @@ impl StreamPacker {
         ensures shown { (records : Records) (samples : List ℤ) (runs : List Run) (separators : List ℕ)
             → Streams records samples runs separators self.old
             → MatchResult result
-            (λ piece. self.new.shown ≡ samples_of (samples ++ sample ∷ []) piece)
+            (λ piece. self.new.shown ≡ samples_of_piece (samples ++ sample ∷ []) piece)
             (λ _. self.new.shown ≡ []) }
         ensures count { MatchResult result (λ _. pushed self.new ≡ pushed self.old + 1)
             (λ _. pushed self.new ≡ pushed self.old) }
@@ -139,7 +139,7 @@ impl StreamPacker {
     pub fn end(self) -> Last
         ensures { (records : Records) (samples : List ℤ) (runs : List Run) (separators : List ℕ)
             → Streams records samples runs separators self
-            → IsEnd records samples runs separators result.pieces.items result.samples.items }
+            → AreLastPieces records samples runs separators result.pieces.items result.samples.items }
     {
         let mut held = self.held;
         let start = start_of(held.current);

@@ -14,7 +14,7 @@ use Rattle.byteorder.specs.Numbers.{big_number-reads_back, length-bytes_high_fir
 use Rattle.msr_base.specs.declared.order.Order.{Order}
 use Rattle.msr_base.specs.declared.order.Order.TheVariants.{Big}
 use Rattle.msr_kinds.specs.Storage.{size_of}
-use Rattle.msr_plain.specs.Plain.{CarriesPlain, FitsThreeBytes, FitsWidth, bytes_of, bytes_of_all, number_in}
+use Rattle.msr_plain.specs.Plain.{CarriesPlain, FitsThreeBytes, FitsWidth, bytes_of_all, number_in, sample_bytes}
 use Rattle.msr_kinds.specs.declared.storage.Width.{Width}
 use Rattle.msr_kinds.specs.declared.storage.Width.TheVariants.{Two, Three, Four}
 
@@ -37,7 +37,7 @@ three_back (negsuc n) f =
     (ap negsuc (omega arith))
 
 number_back : (width : Width) (x : ℤ) (rest : List ℕ) → FitsWidth width x
-    → number_in width Big (bytes_of width x ++ rest) ≡ x
+    → number_in width Big (sample_bytes width x ++ rest) ≡ x
 number_back Two x rest f = ap (cast_signed w16) (big_number-reads_back 2 (cast_unsigned w16 x) rest (below_16 x f))
     ∙ to_z-of_z f
 number_back Three x rest f = ap (twos_complement 3) (big_number-reads_back 3 (low_bytes w64 3 x) rest (below_24 x))
@@ -45,31 +45,31 @@ number_back Three x rest f = ap (twos_complement 3) (big_number-reads_back 3 (lo
 number_back Four x rest f = ap (cast_signed w32)
     (big_number-reads_back 4 (cast_unsigned w32 x) rest (below_32 x f)) ∙ to_z-of_z f
 
-length-bytes_of : (width : Width) (x : ℤ) → length (bytes_of width x) ≡ size_of width
+length-bytes_of : (width : Width) (x : ℤ) → length (sample_bytes width x) ≡ size_of width
 length-bytes_of Two x = length-bytes_high_first 2 (cast_unsigned w16 x)
 length-bytes_of Three x = length-bytes_high_first 3 (low_bytes w64 3 x)
 length-bytes_of Four x = length-bytes_high_first 4 (cast_unsigned w32 x)
 
 next_place : (width : Width) (x : ℤ) (rest : List ℕ) (place : ℕ)
-    → drop (size_of width * suc place) (bytes_of width x ++ rest) ≡ drop (size_of width * place) rest
+    → drop (size_of width * suc place) (sample_bytes width x ++ rest) ≡ drop (size_of width * place) rest
 next_place width x rest place =
-    let e : size_of width * suc place ≡ length (bytes_of width x) + size_of width * place =
+    let e : size_of width * suc place ≡ length (sample_bytes width x) + size_of width * place =
     omega (arith, length-bytes_of width x) in
-    ap (λ (n : ℕ). drop n (bytes_of width x ++ rest)) e
-    ∙ drop-append-add (bytes_of width x) rest (size_of width * place)
+    ap (λ (n : ℕ). drop n (sample_bytes width x ++ rest)) e
+    ∙ drop-append-add (sample_bytes width x) rest (size_of width * place)
 
 each_back : (width : Width) (xs : List ℤ) (rest : List ℕ) (place : ℕ) → All (FitsWidth width) xs
     → place < length xs → get_or xs place (pos 0)
     ≡ number_in width Big (drop (size_of width * place) (bytes_of_all width xs ++ rest))
 each_back width [] rest place fit h = absurd (omega (arith, h))
 each_back width (x ∷ xs) rest zero fit h =
-    let apart = append_assoc (bytes_of width x) (bytes_of_all width xs) rest in
+    let apart = append_assoc (sample_bytes width x) (bytes_of_all width xs) rest in
     let none : size_of width * 0 ≡ 0 = omega arith in
-    sym (ap (λ (n : ℕ). number_in width Big (drop n ((bytes_of width x ++ bytes_of_all width xs) ++ rest))) none
+    sym (ap (λ (n : ℕ). number_in width Big (drop n ((sample_bytes width x ++ bytes_of_all width xs) ++ rest))) none
     ∙ ap (λ (bytes : List ℕ). number_in width Big bytes) apart
     ∙ number_back width x (bytes_of_all width xs ++ rest) (All-head (FitsWidth width) x xs fit))
 each_back width (x ∷ xs) rest (suc place) fit h =
-    let apart = append_assoc (bytes_of width x) (bytes_of_all width xs) rest in
+    let apart = append_assoc (sample_bytes width x) (bytes_of_all width xs) rest in
     each_back width xs rest place (All-tail (FitsWidth width) x xs fit) (omega (arith, h))
     ∙ sym (ap (λ (bytes : List ℕ). number_in width Big (drop (size_of width * suc place) bytes)) apart
     ∙ ap (λ (bytes : List ℕ). number_in width Big bytes) (next_place width x (bytes_of_all width xs ++ rest) place))
@@ -78,7 +78,7 @@ pub length-bytes_of_all : (width : Width) (xs : List ℤ) → length (bytes_of_a
 length-bytes_of_all width [] = omega arith
 length-bytes_of_all width (x ∷ xs) = omega (
   arith,
-  length-append (bytes_of width x) (bytes_of_all width xs),
+  length-append (sample_bytes width x) (bytes_of_all width xs),
   length-bytes_of width x,
   length-bytes_of_all width xs,
 )
@@ -88,11 +88,11 @@ pub one_more : (width : Width) (samples : List ℤ) (old area : List ℕ) (place
     → a ≡ size_of width * place → place < length samples → size_of width * length samples ≤ length old
     → x ≡ get_or samples place (pos 0)
     → area ≡ bytes_of_all width (take place samples) ++ drop (size_of width * place) old
-    → put_mid a (length area - a) area (bytes_of width x ++ drop (size_of width) (mid_of a (length area - a) area))
+    → put_mid a (length area - a) area (sample_bytes width x ++ drop (size_of width) (mid_of a (length area - a) area))
     ≡ bytes_of_all width (take (place + 1) samples) ++ drop (size_of width * (place + 1)) old
 one_more width samples old area place a x at within room same is =
     let front = bytes_of_all width (take place samples) in
-    let new = bytes_of width x in
+    let new = sample_bytes width x in
     let long : length front ≡ a = length-bytes_of_all width (take place samples)
     ∙ ap (λ n. size_of width * n) (length-take-le place samples (omega arith)) ∙ sym at in
     let left : take a area ≡ front = ap (take a) is ∙ take_at front (drop (size_of width * place) old) a long in
@@ -106,7 +106,7 @@ one_more width samples old area place a x at within room same is =
     drop-drop (size_of width) (size_of width * place) old ∙ ap (λ n. drop n old) (omega arith) in
     let all : bytes_of_all width (take (place + 1) samples) ≡ front ++ new =
     ap (bytes_of_all width) (take_more samples place (pos 0) within ∙ ap (λ y. take place samples ++ y ∷ [])
-    (sym same)) ∙ flat_map-append (bytes_of width) (take place samples) (x ∷ []) ∙ ap (λ l. front
+    (sym same)) ∙ flat_map-append (sample_bytes width) (take place samples) (x ∷ []) ∙ ap (λ l. front
     ++ l) (append-nil new) in
     rw (left, mid, none, next, all) (ap (λ l. front ++ l) (append-nil (new ++ drop (size_of width * (place + 1)) old))
     ∙ sym (append_assoc front new (drop (size_of width * (place + 1)) old)))

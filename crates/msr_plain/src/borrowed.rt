@@ -23,11 +23,11 @@ pub struct PlainSamples<'a> {
 impl<'a> Model for PlainSamples<'a> {
     ghost use Rattle.std.specs.Prelude.{◌≤◌, ◌*◌, List, ℤ, length};
     ghost use Rattle.msr_kinds.specs.Storage.{size_of};
-    ghost use Rattle.msr_plain.specs.Plain.{numbers_in};
+    ghost use Rattle.msr_plain.specs.Plain.{numbers_in_area};
 
     ghost Value = { List ℤ };
 
-    ghost view = { λ samples. numbers_in samples.width samples.order samples.bytes.now samples.left };
+    ghost view = { λ samples. numbers_in_area samples.width samples.order samples.bytes.now samples.left };
 
     ghost invariant = { λ samples. size_of samples.width * samples.left ≤ length samples.bytes.now };
 }

@@ -3,7 +3,7 @@
 
 ghost use Rattle.std.specs.Prelude.{◌≡◌, ◌<◌, ◌≤◌, ◌↔◌, ◌++◌, ◌-◌, ◌*◌, All, replicate, IfOk, IsErrOf, OnErr, OnOk, drop, length};
 ghost use Rattle.msr_kinds.specs.Storage.{size_of};
-ghost use Rattle.msr_plain.specs.Plain.{CarriesPlain, FitsWidth, bytes_of, bytes_of_all, number_in};
+ghost use Rattle.msr_plain.specs.Plain.{CarriesPlain, FitsWidth, bytes_of_all, number_in, sample_bytes};
 
 mod borrowed;
 mod laws;
@@ -118,7 +118,7 @@ pub fn decode_plain(
 fn write_number(width: Width, sample: i32, bytes: &mut [u8])
     requires fits { FitsWidth width sample }
     requires room { size_of width ≤ length bytes.old }
-    ensures { bytes.new ≡ bytes_of width sample ++ drop (size_of width) bytes.old }
+    ensures { bytes.new ≡ sample_bytes width sample ++ drop (size_of width) bytes.old }
 {
     match width {
         Width::Two => BigEndian::write_i16(bytes, sample as i16),

@@ -8,9 +8,9 @@ ghost use Rattle.msr_command.specs.Ends.{EndsTask, EndsWithoutTask};
 ghost use Rattle.msr_options.specs.Hints.{line_of};
 
 use msr_arguments::{NOT_UTF8, read_words};
-use msr_command::{Errors, complain, run};
-use msr_options::{Hint, write_hint};
-use msr_tool::{FromRead, FromWrite, Sink, Source};
+use msr_command::run;
+use msr_devices::{FromRead, FromWrite, Sink, Source};
+use msr_options::{Errors, Hint, complain, write_hint};
 use std::alloc::{AllocError, Global};
 use std::io::{ErrorKind, IsTerminal, Write};
 use std::process::ExitCode;

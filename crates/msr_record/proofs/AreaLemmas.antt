@@ -7,7 +7,7 @@ use Rattle.std.proofs.Math.Pow.{pow_mono}
 use Rattle.std.proofs.Common.{inl, inr}
 use Rattle.std.proofs.lemmas.Bool.{cases_lt}
 use Rattle.msr_base.specs.declared.order.Order.TheVariants.{Big}
-use Rattle.msr_steim.specs.Area.{differences as joined, CarriesSteim, ReverseAgrees as FramesAgree}
+use Rattle.msr_steim.specs.Area.{joined_groups as joined, CarriesSteim, ReverseAgrees as FramesAgree}
 use Rattle.msr_steim.specs.Frames.{differences_after, frame_bytes}
 use Rattle.msr_steim.proofs.Filled.{filled_carries, filled_reverse}
 use Rattle.msr_plain.specs.Plain.{FitsWidth}

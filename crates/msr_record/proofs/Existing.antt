@@ -30,7 +30,7 @@ use Rattle.msr_kinds.specs.declared.kinds.Kind.{Kind}
 use Rattle.msr_kinds.specs.declared.storage.Storage.{Storage}
 use Rattle.msr_kinds.specs.declared.storage.Storage.TheVariants.{Integers, Frames}
 use Rattle.msr_words.proofs.DivisionsExist.{has_division}
-use Rattle.msr_rows.specs.Area.{Carries, ReverseAgrees}
+use Rattle.msr_rows.specs.Area.{Carries, ReverseAgreesIfAny}
 use Rattle.msr_rows.specs.Correction.{is_pending}
 use Rattle.msr_record.specs.Written.{AppendsRecord, AreFrames, AreNumbers, IsKey, IsWrittenArea, frame_count, header_for}
 use Rattle.msr_rows.specs.declared.row.Key.{Key}
@@ -112,7 +112,7 @@ record HasArea (storage : Storage) (before : Option ℤ) (samples : List ℤ) (s
   is_area : IsWrittenArea storage before samples size frames area
   long : length area ≡ size
   carries : Carries storage Big area samples
-  agrees : ReverseAgrees storage Big area samples
+  agrees : ReverseAgreesIfAny storage Big area samples
 
 area_of : (storage : Storage) (before : Option ℤ) (samples : List ℤ) (size : ℕ) → IsRecordLength size
     → 1 ≤ length samples → All (FitsSigned w32) samples → HasRoom storage size (points before samples)

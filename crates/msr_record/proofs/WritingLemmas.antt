@@ -11,7 +11,7 @@ use Rattle.msr_time.proofs.SignedFacts.{signed_arith}
 use Rattle.msr_time.specs.declared.btime.BTime.{BTime}
 use Rattle.msr_time.specs.Instant.{IsSplit, instant_of}
 use Rattle.msr_header.specs.Reading.{header_of, is_sequence_byte, is_quality}
-use Rattle.msr_header.specs.Writing.{header_bytes, IsWritable, as_read}
+use Rattle.msr_header.specs.Writing.{IsWritableHeader, header_as_read, header_bytes}
 use Rattle.msr_base.specs.declared.order.Order.TheVariants.{Big}
 use Rattle.msr_header.specs.declared.header.Header.{Header}
 use Rattle.msr_kinds.specs.RecordLength.{least_exponent, most_exponent}
@@ -21,7 +21,7 @@ use Rattle.msr_kinds.specs.declared.kinds.Kind.{Kind}
 use Rattle.msr_kinds.specs.declared.kinds.Kind.TheVariants.{Int16, Int24, Int32, Steim1, Steim2}
 use Rattle.msr_rows.specs.Records.{kind_of_code}
 use Rattle.msr_rows.specs.Correction.{key_of, start_of, is_pending, correction_micros}
-use Rattle.msr_rows.specs.Area.{Carries, ReverseAgrees}
+use Rattle.msr_rows.specs.Area.{Carries, ReverseAgreesIfAny}
 use Rattle.msr_rows.specs.Records.{has_area, field_faults, data_area, IsRowOf}
 use Rattle.msr_base.specs.Faults.{first_fault}
 use Rattle.msr_record.specs.Written.{sequence_digits, header_for, IsWrittenArea, AppendsRecord}
@@ -47,7 +47,7 @@ digits n = rw (digit n 100_000, digit n 10_000, digit n 1_000, digit n 100, digi
 -- the header of a written record is such as a reader accepts
 writable : (key : Key) (time : BTime) (micros sequence count : ℕ) (kind : Kind) (exponent frames : ℕ) (start : ℤ)
     → IsTrue (is_quality key.quality) → IsSplit start time micros → least_exponent ≤ exponent
-    → exponent ≤ most_exponent → IsWritable (header_for key time micros sequence count kind exponent frames)
+    → exponent ≤ most_exponent → IsWritableHeader (header_for key time micros sequence count kind exponent frames)
 writable key time micros sequence count kind exponent frames start quality split low high = record {
   sequence = digits sequence;
   quality = quality;
@@ -114,11 +114,11 @@ pub appends_record : (old new front area : List ℕ) (key : Key) (start : ℤ) (
     → length front ≡ 64
     → IsWrittenArea (storage_of kind) before samples (size - 64) frames area
     → length area ≡ size - 64
-    → ((rest : List ℕ) → IsWritable (header_for key time micros sequence count kind exponent frames)
+    → ((rest : List ℕ) → IsWritableHeader (header_for key time micros sequence count kind exponent frames)
     → 2 ^ exponent ≤ 64 + length rest → header_of (front ++ rest)
-    ≡ Ok (as_read (header_for key time micros sequence count kind exponent frames)))
+    ≡ Ok (header_as_read (header_for key time micros sequence count kind exponent frames)))
     → Carries (storage_of kind) Big area samples
-    → ReverseAgrees (storage_of kind) Big area samples
+    → ReverseAgreesIfAny (storage_of kind) Big area samples
     → IsSplit start time micros → size ≡ 2 ^ exponent → least_exponent ≤ exponent → exponent ≤ most_exponent
     → IsTrue (is_quality key.quality) → is_pending key.activity key.correction ≡ false → 1 ≤ length samples
     → (key.rate.factor ≢ pos 0) × (key.rate.multiplier ≢ pos 0)

@@ -9,7 +9,8 @@ ghost use Rattle.msr_rows.specs.Correction.{is_pending};
 ghost use Rattle.msr_record.specs.Written.{sequence_digits, header_for, AppendsRecord, CanWrite, KnowsGroups};
 
 use crate::written_area::{WrittenRun, fill_area};
-use msr_header::{Header, Order, Timing, write_header};
+use msr_base::Order;
+use msr_header::{Header, Timing, write_header};
 use msr_kinds::{Kind, Length};
 use msr_rows::Key;
 use msr_time::{BTime, split};

@@ -9,11 +9,11 @@ ghost use Rattle.msr_words.specs.Fit.{HasRoom};
 ghost use Rattle.msr_kinds.specs.RecordLength.{words_of};
 ghost use Rattle.msr_kinds.specs.Lengths.{bytes_of};
 ghost use Rattle.msr_words.specs.Segment.{differences, points};
-ghost use Rattle.msr_rows.specs.Area.{Carries, ReverseAgrees};
+ghost use Rattle.msr_rows.specs.Area.{Carries, ReverseAgreesIfAny};
 ghost use Rattle.msr_record.specs.Written.{AreFrames, IsWrittenArea, KnowsGroups, frame_count};
 
+use msr_base::Order;
 use msr_filling::{fill_steim1, fill_steim2, fill_steim2_told};
-use msr_header::Order;
 use msr_kinds::{Kind, Length, Storage, Version};
 use msr_plain::fill_plain;
 use msr_rows::Key;
@@ -128,7 +128,7 @@ pub(crate) fn fill_area(
     ensures written { IfOk result (λ frames. IsWrittenArea storage run.now.before run.now.samples.now
         (bytes_of record_length - 64) frames area.new) }
     ensures carried { OnOk result (Carries storage Order.Big area.new run.now.samples.now) }
-    ensures reverse { OnOk result (ReverseAgrees storage Order.Big area.new run.now.samples.now) }
+    ensures reverse { OnOk result (ReverseAgreesIfAny storage Order.Big area.new run.now.samples.now) }
 {
     samples_have_32_bits(run.samples);
     match storage {

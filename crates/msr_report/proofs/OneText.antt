@@ -6,7 +6,7 @@ use Rattle.msr_time.specs.declared.btime.BTime.{BTime}
 use Rattle.msr_time.proofs.Existing.{has_split}
 use Rattle.msr_time.proofs.TimeLemmas.{split_one}
 use Rattle.msr_rows.specs.declared.row.Key.{Key}
-use Rattle.msr_report.specs.Proper.{IsProper, IsProperLine, records_of}
+use Rattle.msr_report.specs.Proper.{IsProper, IsProperLine, records_in}
 use Rattle.msr_report.specs.Text.{IsTimeText, split_text, segment_words, segment_line, separators_line, IsListLine, IsSegmentText, AreSegmentTexts, first_lines, end_line, IsReportText}
 use Rattle.msr_report.specs.declared.report.SegmentLine.{SegmentLine}
 use Rattle.msr_report.specs.declared.report.Report.{Report}
@@ -45,7 +45,7 @@ pub one_report_text : (report : Report) (text other : List ℕ) → IsReportText
     → IsReportText report other → text ≡ other
 one_report_text report text other h k =
     h.is ∙ ap (λ (t : List ℕ). first_lines report
-    ++ (t ++ end_line (length report.segments.items) (records_of report.segments.items)))
+    ++ (t ++ end_line (length report.segments.items) (records_in report.segments.items)))
     (one_segments_text report.segments.items h.segments k.segments h.are k.are) ∙ sym k.is
 
 pub has_time_text : (t : ℤ) → IsInstant t → (text : List ℕ) × IsTimeText t text
@@ -75,6 +75,6 @@ pub has_report_text : (report : Report) → IsProper report → (text : List ℕ
 has_report_text report h =
     let segments = has_segments_text report.segments.items h.lines in (
       first_lines report ++ (segments.0 ++ end_line (length report.segments.items)
-          (records_of report.segments.items)),
+          (records_in report.segments.items)),
       record { segments = segments.0; are = segments.1; is = refl },
     )

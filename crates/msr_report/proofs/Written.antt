@@ -5,7 +5,7 @@ use Rattle.std.proofs.lemmas.List.Elements.{All-drop}
 use Rattle.msr_devices.specs.Device.{Device, Takes}
 use Rattle.msr_devices.specs.WriteBuffer.{Passes}
 use Rattle.msr_devices.proofs.Chaining.{takes_append, takes_none}
-use Rattle.msr_report.specs.Proper.{IsProper, IsProperLine, records_of}
+use Rattle.msr_report.specs.Proper.{IsProper, IsProperLine, records_in}
 use Rattle.msr_report.specs.Text.{IsSegmentText, AreSegmentTexts, first_lines, end_line, IsReportText}
 use Rattle.msr_report.specs.Writing.{TakesPrefix}
 use Rattle.msr_report.specs.declared.report.SegmentLine.{SegmentLine}
@@ -87,7 +87,7 @@ pub written_front : (old new : Device) (report : Report) (lines others : List Se
     → IsWrittenReport old new report lines waits
     → (text : List ℕ) × (IsReportText report text × TakesPrefix old new text)
 written_front old new report lines others waits all more are w =
-    let end = end_line (length report.segments.items) (records_of report.segments.items) in
+    let end = end_line (length report.segments.items) (records_in report.segments.items) in
     let P : List SegmentLine → Type 0 = λ l. AreSegmentTexts l (w.segments ++ more) in (
       first_lines report ++ ((w.segments ++ more) ++ end),
       (
@@ -124,7 +124,7 @@ written_front_of old new report i waits proper w =
 pub written_end : (old new next : Device) (report : Report) (lines : List SegmentLine) (waits pushed left : List ℕ)
     (segments records : ℕ)
     → lines ≡ report.segments.items → segments ≡ length report.segments.items
-    → records ≡ records_of report.segments.items
+    → records ≡ records_in report.segments.items
     → IsWrittenReport old new report lines waits → pushed ≡ waits ++ end_line segments records
     → Passes new next pushed [] left
     → (text : List ℕ) × (IsReportText report text
@@ -180,16 +180,16 @@ nothing_taken device report proper =
 
 -- records of more segments
 pub records_append : (lines others : List SegmentLine)
-    → records_of (lines ++ others) ≡ records_of lines + records_of others
+    → records_in (lines ++ others) ≡ records_in lines + records_in others
 records_append [] others = omega arith
 records_append (line ∷ lines) others = omega (arith, records_append lines others)
 
 pub records_next : (lines : List SegmentLine) (i : ℕ) (line : SegmentLine) → i < length lines
-    → line ≡ get_or lines i line → records_of (take (i + 1) lines) ≡ records_of (take i lines) + line.records
+    → line ≡ get_or lines i line → records_in (take (i + 1) lines) ≡ records_in (take i lines) + line.records
 records_next lines i line within item =
-    omega (arith, ap records_of (one_more lines i line within item), records_append (take i lines) (line ∷ []))
+    omega (arith, ap records_in (one_more lines i line within item), records_append (take i lines) (line ∷ []))
 
 -- the records of the first segments are no more than those of all
-pub records_take : (i : ℕ) (lines : List SegmentLine) → records_of (take i lines) ≤ records_of lines
+pub records_take : (i : ℕ) (lines : List SegmentLine) → records_in (take i lines) ≤ records_in lines
 records_take i lines =
-    omega (arith, records_append (take i lines) (drop i lines), ap records_of (take-append-drop i lines))
+    omega (arith, records_append (take i lines) (drop i lines), ap records_in (take-append-drop i lines))

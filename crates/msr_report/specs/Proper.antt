@@ -6,9 +6,9 @@ use Rattle.msr_report.specs.declared.report.SegmentLine.{SegmentLine}
 use Rattle.msr_report.specs.declared.report.Report.{Report}
 
 -- how many records the segments of these lines have in all
-abbrev pub records_of : List SegmentLine → ℕ
-records_of [] = 0
-records_of (line ∷ lines) = line.records + records_of lines
+abbrev pub records_in : List SegmentLine → ℕ
+records_in [] = 0
+records_in (line ∷ lines) = line.records + records_in lines
 
 -- The line's quality is D, R, Q or M, and its start is of the supported years.
 pub record IsProperLine (line : SegmentLine) : Type 0 where
@@ -20,4 +20,4 @@ pub record IsProper (report : Report) : Type 0 where
   pub least : 1 ≤ report.tolerance
   pub most : report.tolerance ≤ 1_000_000
   pub lines : All IsProperLine report.segments.items
-  pub records : records_of report.segments.items < 2 ^ 64
+  pub records : records_in report.segments.items < 2 ^ 64

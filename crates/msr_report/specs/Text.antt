@@ -13,7 +13,7 @@ use Rattle.msr_kinds.specs.declared.kinds.Kind.TheVariants.{Int16, Int24, Int32,
 use Rattle.msr_kinds.specs.declared.kinds.Kinds.{Kinds}
 use Rattle.msr_kinds.specs.declared.kinds.Kinds.TheVariants.{All}
 use Rattle.msr_rows.specs.declared.row.Key.{Key}
-use Rattle.msr_report.specs.Proper.{records_of}
+use Rattle.msr_report.specs.Proper.{records_in}
 use Rattle.msr_base.specs.declared.counts.Counts.{Counts}
 use Rattle.msr_report.specs.declared.report.SegmentLine.{SegmentLine}
 use Rattle.msr_report.specs.declared.report.Report.{Report}
@@ -157,4 +157,4 @@ pub record IsReportText (report : Report) (text : List ℕ) : Type 0 where
   pub segments : List ℕ
   pub are : AreSegmentTexts report.segments.items segments
   pub is : text ≡ first_lines report ++ (segments
-      ++ end_line (length report.segments.items) (records_of report.segments.items))
+      ++ end_line (length report.segments.items) (records_in report.segments.items))

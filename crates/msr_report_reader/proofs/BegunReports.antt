@@ -3,12 +3,12 @@ use Rattle.std.proofs.Common.{◌≡◌, ◌∙◌, ap, sym, refl, rules, arith,
 use Rattle.std.proofs.lemmas.List.{append-nil}
 use Rattle.msr_kinds.specs.declared.kinds.Kinds.{Kinds}
 use Rattle.msr_kinds.specs.declared.kinds.Kinds.TheVariants.{All as AllKinds, WithoutInt24}
-use Rattle.msr_report.specs.Proper.{records_of}
+use Rattle.msr_report.specs.Proper.{records_in}
 use Rattle.msr_report.specs.Text.{segment_words, separators_line, end_line, kinds_words, kinds_line, counts_line}
 use Rattle.msr_base.specs.declared.counts.Counts.{Counts}
 use Rattle.msr_report.specs.declared.report.SegmentLine.{SegmentLine}
 use Rattle.msr_report_reader.specs.Content.{Content, ContentLine, IsContent, IsFirst, IsContentLine, IsContentLineText, AreContentLineTexts, IsOpening, content_records, content_line, first_then, lines_before, three_then}
-use Rattle.msr_report_reader.specs.Fault.{IsOneLine, AreLines, BeginsReport}
+use Rattle.msr_report_reader.specs.Fault.{IsOneLine, IsOfLines, BeginsReport}
 use Rattle.msr_report_reader.proofs.Rest.{body_1, body_2, body_3, body_5}
 use Rattle.msr_report_reader.proofs.RestOfText.{not_empty, content_with, one_2, one_3, one_5, counts_then, words_are_one}
 use Rattle.msr_report_reader.proofs.Segments.{opening_body, end_body, opening_then, end_then, words_then}
@@ -16,10 +16,10 @@ use Rattle.msr_report_reader.proofs.OneLines.{opening_is_one, end_is_one}
 use Rattle.msr_report_reader.proofs.NextLines.{opens_with, separators_body, separators_then, separators_body_is_one}
 use Rattle.msr_report_reader.proofs.SegmentsRead.{Going, texts_more, all_more, length-lines, records_same}
 
-same_count : (m n : ℕ) (text : List ℕ) → m ≡ n → AreLines m text → AreLines n text
+same_count : (m n : ℕ) (text : List ℕ) → m ≡ n → IsOfLines m text → IsOfLines n text
 same_count m n text is are = rw (sym is) are
 
-lines_append : (a b : ℕ) (xs ys : List ℕ) → AreLines a xs → AreLines b ys → AreLines (a + b) (xs ++ ys)
+lines_append : (a b : ℕ) (xs ys : List ℕ) → IsOfLines a xs → IsOfLines b ys → IsOfLines (a + b) (xs ++ ys)
 lines_append zero b xs ys first second = let none : xs ≡ [] = first in
     same_count b (zero + b) (xs ++ ys) (omega arith) (rw none second)
 lines_append (suc a) b xs ys first second =
@@ -35,13 +35,13 @@ lines_append (suc a) b xs ys first second =
       ),
     )
 
-one_line : (body : List ℕ) → IsOneLine body → AreLines 1 (body ++ (10 ∷ []))
+one_line : (body : List ℕ) → IsOneLine body → IsOfLines 1 (body ++ (10 ∷ []))
 one_line body one = (body, ([], (one, refl, refl)))
 
 -- lines after the first three
 three_lines : (n bytes tolerance : ℕ) (counts : Counts) (rest : List ℕ) → IsFirst bytes tolerance counts
-    → AreLines n rest
-    → AreLines (suc (suc (suc n))) (three_then bytes tolerance rest)
+    → IsOfLines n rest
+    → IsOfLines (suc (suc (suc n))) (three_then bytes tolerance rest)
 three_lines n bytes tolerance counts rest is_first are =
     let content : Content = content_with bytes tolerance AllKinds counts in
     let is_content : IsContent content = record { first = is_first; segments = λ k d within. absurd (omega arith) } in (
@@ -67,7 +67,7 @@ three_lines n bytes tolerance counts rest is_first are =
     )
 
 counts_are : (bytes tolerance : ℕ) (kinds : Kinds) (counts : Counts) → IsFirst bytes tolerance counts
-    → AreLines 1 (counts_line counts ++ [])
+    → IsOfLines 1 (counts_line counts ++ [])
 counts_are bytes tolerance kinds counts is_first =
     let content : Content = content_with bytes tolerance kinds counts in (
       body_5 content,
@@ -82,7 +82,7 @@ counts_are bytes tolerance kinds counts is_first =
     )
 
 first_lines_are : (bytes tolerance : ℕ) (kinds : Kinds) (counts : Counts) → IsFirst bytes tolerance counts
-    → AreLines (lines_before kinds) (first_then bytes tolerance kinds counts [])
+    → IsOfLines (lines_before kinds) (first_then bytes tolerance kinds counts [])
 first_lines_are bytes tolerance AllKinds counts is_first =
     three_lines 1 bytes tolerance counts (counts_line counts ++ []) is_first
     (counts_are bytes tolerance AllKinds counts is_first)
@@ -99,7 +99,7 @@ pub first_append : (bytes tolerance : ℕ) (kinds : Kinds) (counts : Counts) (xs
     → first_then bytes tolerance kinds counts xs ++ ys ≡ first_then bytes tolerance kinds counts (xs ++ ys)
 first_append bytes tolerance kinds counts xs ys = simp append_assoc
 
-line_lines : (line : ContentLine) (word : List ℕ) → IsContentLine line → IsContentLineText line word → AreLines 2 word
+line_lines : (line : ContentLine) (word : List ℕ) → IsContentLine line → IsContentLineText line word → IsOfLines 2 word
 line_lines line word is_line is =
     let opening = opens_with line word [] word is (sym (append-nil word)) in (
       opening_body line.key opening.word line.samples line.records,
@@ -125,7 +125,7 @@ line_lines line word is_line is =
     )
 
 texts_lines : (lines : List ContentLine) (text : List ℕ) → All IsContentLine lines → AreContentLineTexts lines text
-    → AreLines (2 * length lines) text
+    → IsOfLines (2 * length lines) text
 texts_lines [] text each are = are
 texts_lines (line ∷ lines) text each are =
     let is : text ≡ are.0 ++ are.1.0 = are.1.1.2 in
@@ -136,7 +136,7 @@ texts_lines (line ∷ lines) text each are =
 
 going_lines : (text : List ℕ) (bytes tolerance : ℕ) (kinds : Kinds) (counts : Counts) (segments : List SegmentLine)
     (rest : List ℕ) (going : Going text bytes tolerance kinds counts segments rest)
-    → AreLines (lines_before kinds + 2 * length segments) (first_then bytes tolerance kinds counts going.lines)
+    → IsOfLines (lines_before kinds + 2 * length segments) (first_then bytes tolerance kinds counts going.lines)
 going_lines text bytes tolerance kinds counts segments rest going =
     let lines = lines_append (lines_before kinds) (2 * length (map content_line segments))
     (first_then bytes tolerance kinds counts []) going.lines
@@ -144,7 +144,7 @@ going_lines text bytes tolerance kinds counts segments rest going =
     (texts_lines (map content_line segments) going.lines going.each going.are) in
     same_count (lines_before kinds + 2 * length (map content_line segments)) (lines_before kinds + 2 * length segments)
     (first_then bytes tolerance kinds counts going.lines) (omega (arith, length-lines segments))
-    (subst (λ (l : List ℕ). AreLines (lines_before kinds + 2 * length (map content_line segments)) l)
+    (subst (λ (l : List ℕ). IsOfLines (lines_before kinds + 2 * length (map content_line segments)) l)
     (first_append bytes tolerance kinds counts [] going.lines) lines)
 
 abbrev content_from : ℕ → ℕ → Kinds → Counts → List ContentLine → Content
@@ -178,12 +178,12 @@ one_more lines body more = append_assoc lines (body ++ (10 ∷ [])) more
 
 more_lines : (text : List ℕ) (bytes tolerance : ℕ) (kinds : Kinds) (counts : Counts) (segments : List SegmentLine)
     (rest body : List ℕ) (going : Going text bytes tolerance kinds counts segments rest)
-    → IsOneLine body → AreLines (suc (lines_before kinds + 2 * length segments))
+    → IsOneLine body → IsOfLines (suc (lines_before kinds + 2 * length segments))
     (first_then bytes tolerance kinds counts (going.lines ++ (body ++ (10 ∷ []))))
 more_lines text bytes tolerance kinds counts segments rest body going one =
     same_count ((lines_before kinds + 2 * length segments) + 1) (suc (lines_before kinds + 2 * length segments))
     (first_then bytes tolerance kinds counts (going.lines ++ (body ++ (10 ∷ [])))) (omega arith)
-    (subst (λ (l : List ℕ). AreLines ((lines_before kinds + 2 * length segments) + 1) l)
+    (subst (λ (l : List ℕ). IsOfLines ((lines_before kinds + 2 * length segments) + 1) l)
     (first_append bytes tolerance kinds counts going.lines (body ++ (10 ∷ [])))
     (lines_append (lines_before kinds + 2 * length segments) 1 (first_then bytes tolerance kinds counts going.lines)
     (body ++ (10 ∷ [])) (going_lines text bytes tolerance kinds counts segments rest going) (one_line body one)))
@@ -240,13 +240,13 @@ before_second text bytes tolerance kinds counts segments rest more line going is
 -- when the last line was read
 pub before_behind : (text : List ℕ) (bytes tolerance : ℕ) (kinds : Kinds) (counts : Counts)
     (segments : List SegmentLine) (rest more : List ℕ) → Going text bytes tolerance kinds counts segments rest
-    → records_of segments < 2 ^ 64 → rest ≡ end_line (length segments) (records_of segments) ++ more
+    → records_in segments < 2 ^ 64 → rest ≡ end_line (length segments) (records_in segments) ++ more
     → BeginsReport text (suc (lines_before kinds + 2 * length segments))
 before_behind text bytes tolerance kinds counts segments rest more going fits is =
-    let body : List ℕ = end_body (length segments) (records_of segments) in
+    let body : List ℕ = end_body (length segments) (records_in segments) in
     let end : List ℕ = end_line (length (map content_line segments)) (content_records (map content_line segments)) in
-    let last : body ++ (10 ∷ []) ≡ end = sym (end_then (length segments) (records_of segments) [])
-    ∙ append-nil (end_line (length segments) (records_of segments))
+    let last : body ++ (10 ∷ []) ≡ end = sym (end_then (length segments) (records_in segments) [])
+    ∙ append-nil (end_line (length segments) (records_in segments))
     ∙ rw (length-lines segments, records_same segments) refl in
     record {
       content = content_from bytes tolerance kinds counts (map content_line segments);
@@ -255,9 +255,9 @@ before_behind text bytes tolerance kinds counts segments rest more going fits is
       rest = [];
       is_content = record { first = going.is_first; segments = going.each };
       lines = more_lines text bytes tolerance kinds counts segments rest body going
-          (end_is_one (length segments) (records_of segments));
+          (end_is_one (length segments) (records_in segments));
       shown = more_shown text bytes tolerance kinds counts going.lines rest body more going.shown
-          (is ∙ end_then (length segments) (records_of segments) more);
+          (is ∙ end_then (length segments) (records_in segments) more);
       begins = record {
         segments = going.lines;
         are = going.are;

@@ -12,10 +12,10 @@ use Rattle.std.specs.Int.{w32}
 use lib.Signed.{mag}
 use Rattle.std.proofs.lemmas.List.{append_cancel_left}
 use Rattle.std.proofs.Math.Seq.{take-append_seam, drop-append_seam}
-use Rattle.msr_report_reader.specs.Fields.{EndsNumber, signed_len, number_after}
+use Rattle.msr_report_reader.specs.Fields.{EndsNumber, signed_len, with_digits}
 
-pub own : IsNumeralModel (λ ds. all_ascii_digits ds ≡ true) (number_after 0)
-own = numerals_by_fold _ (search rules) number_after (search rules)
+pub own : IsNumeralModel (λ ds. all_ascii_digits ds ≡ true) (with_digits 0)
+own = numerals_by_fold _ (search rules) with_digits (search rules)
 
 pub decimal_is_digits : (n : ℕ) → n < 2 ^ 64 → all_ascii_digits (decimal n) ≡ true
 decimal_is_digits n small = digits_decimal own n small

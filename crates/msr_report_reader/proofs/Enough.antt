@@ -6,7 +6,7 @@ use Rattle.std.proofs.lemmas.List.{append-nil, length-replicate}
 use Rattle.msr_rows.specs.declared.row.Key.{Key}
 use Rattle.msr_report.specs.Text.{IsTimeText, byte_text, field_text, hex_text, split_text}
 use Rattle.msr_report_reader.specs.Fields.{AreBytes}
-use Rattle.msr_report_reader.specs.Content.{Content, IsKey, key_then}
+use Rattle.msr_report_reader.specs.Content.{Content, IsReportKey, key_then}
 use Rattle.msr_report_reader.specs.Fault.{IsOneLine}
 use Rattle.msr_report_reader.proofs.Rest.{body_2, body_3, body_5}
 use Rattle.msr_report_reader.specs.Draft.{IsEnough, IsSettled, line_limit}
@@ -101,7 +101,7 @@ time_short t word is =
     (omega (arith, year, day, hour, minute, second, part)) in
     omega (arith, same, long)
 
-key_short : (key : Key) (more : List ℕ) → IsKey key → length (key_then key more) ≤ 350 + length more
+key_short : (key : Key) (more : List ℕ) → IsReportKey key → length (key_then key more) ≤ 350 + length more
 key_short key more is =
     let network = field_short 2 key.network is.network in
     let station = field_short 5 key.station is.station in
@@ -113,7 +113,7 @@ key_short key more is =
     let timing = decimal_short key.timing in
     simp length-append (omega (arith, network, station, location, channel, factor, multiplier, correction, timing))
 
-pub opening_short : (key : Key) (t : ℤ) (word : List ℕ) (samples records : ℕ) → IsKey key → IsTimeText t word
+pub opening_short : (key : Key) (t : ℤ) (word : List ℕ) (samples records : ℕ) → IsReportKey key → IsTimeText t word
     → length (opening_body key word samples records) < line_limit
 opening_short key t word samples records is time =
     let key_long = key_short key (codes " start " ++ (word ++ (codes " samples "

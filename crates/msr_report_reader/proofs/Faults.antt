@@ -3,7 +3,7 @@ use Rattle.std.proofs.Common.{◌≡◌, ◌∙◌, ap, sym, refl, rules, subst,
 use Rattle.std.proofs.lemmas.List.{append_cancel_left}
 use Rattle.msr_rows.specs.declared.row.Key.{Key}
 use Rattle.msr_kinds.specs.Lengths.{bytes_of}
-use Rattle.msr_report.specs.Proper.{records_of}
+use Rattle.msr_report.specs.Proper.{records_in}
 use Rattle.msr_report.specs.Text.{separators_line, end_line}
 use Rattle.msr_report.specs.declared.report.SegmentLine.{SegmentLine}
 use Rattle.msr_report_reader.specs.Fields.{EndsNumber}
@@ -55,15 +55,16 @@ none_more begins text more may enough none = λ key start samples n x is_key fit
 
 not_last_more : (segments : List SegmentLine) (begins : Bool) (text more : List ℕ)
     → ((x : List ℕ) → text ++ more ≡ codes "end " ++ x → begins ≡ true) → IsEnough begins text more
-    → ((rest : List ℕ) → IsLast segments text rest → ⊥) → (x : List ℕ) → records_of segments < 2 ^ 64
-    → text ++ more ≡ end_line (length segments) (records_of segments) ++ x → ⊥
+    → ((rest : List ℕ) → IsLast segments text rest → ⊥) → (x : List ℕ) → records_in segments < 2 ^ 64
+    → text ++ more ≡ end_line (length segments) (records_in segments) ++ x → ⊥
 not_last_more segments begins text more may enough none x fits is =
-    let within = inside (end_body (length segments) (records_of segments)) 10 x begins text more
-    (end_is_one (length segments) (records_of segments)) (end_short (length segments) (records_of segments)) (may _ is) enough
-    (is ∙ end_then (length segments) (records_of segments) x) in
+    let within = inside (end_body (length segments) (records_in segments)) 10 x begins text more
+    (end_is_one (length segments) (records_in segments)) (end_short (length segments) (records_in segments)) (may _ is)
+    enough
+    (is ∙ end_then (length segments) (records_in segments) x) in
     none within.left record {
       fits = fits;
-      is = within.is ∙ sym (end_then (length segments) (records_of segments) within.left);
+      is = within.is ∙ sym (end_then (length segments) (records_in segments) within.left);
     }
 
 pub segment_fault : (first : FirstLines) (segments : List SegmentLine) (begins : Bool) (past text more : List ℕ)
@@ -75,7 +76,7 @@ segment_fault first segments begins past text more read may may_end enough none 
     let going = going_of first segments past (text ++ more) read in
     at_number (past ++ (text ++ more)) (suc (lines_before first.kinds + 2 * length segments))
     (1 + lines_before first.kinds + 2 * length segments) (omega arith)
-    (fault_segment (past ++ (text ++ more)) (text ++ more) (length segments) (records_of segments)
+    (fault_segment (past ++ (text ++ more)) (text ++ more) (length segments) (records_in segments)
     (lines_before first.kinds + 2 * length segments) going.at (none_more begins text more may enough none)
     (not_last_more segments begins text more may_end enough not_last)
     (before_segment (past ++ (text ++ more)) (bytes_of first.length) first.tolerance first.kinds first.counts segments
@@ -97,7 +98,7 @@ record AtSecond (text rest : List ℕ) (k r i records : ℕ) : Type 0 where
 
 second_at : (first : FirstLines) (segments : List SegmentLine) (line : FirstLine) (past rest : List ℕ)
     → (read : ReadOpening first segments line past)
-    → AtSecond (read.before ++ (read.opening ++ rest)) rest (length segments) (records_of segments)
+    → AtSecond (read.before ++ (read.opening ++ rest)) rest (length segments) (records_in segments)
     (suc (lines_before first.kinds + 2 * length segments)) line.records
 second_at first segments line past rest read =
     let text : List ℕ = read.before ++ (read.opening ++ rest) in
@@ -111,11 +112,11 @@ second_at first segments line past rest read =
       separators = λ k d within. absurd (omega arith);
     } in
     record {
-      at = at_second text (read.opening ++ rest) rest (length segments) (records_of segments)
+      at = at_second text (read.opening ++ rest) rest (length segments) (records_in segments)
           (lines_before first.kinds + 2 * length segments) line.records going.at
           (only_opening (opened line) rest (read.opening ++ rest) is_line opens)
           (λ x is. opening_not_end (opened line) rest (read.opening ++ rest) x (length segments)
-          (records_of segments) opens is);
+          (records_in segments) opens is);
       before = before_second text (bytes_of first.length) first.tolerance first.kinds first.counts segments
           (read.opening ++ rest) rest (opened line) going is_line opens;
     }
@@ -135,7 +136,7 @@ second_fault first segments line past rest read none =
     (2 + lines_before first.kinds + 2 * length segments) (omega arith)
     (subst (λ (t : List ℕ). IsFaultLine t (suc (suc (lines_before first.kinds + 2 * length segments))))
     (opening_shown first segments line past rest read)
-    (fault_second (read.before ++ (read.opening ++ rest)) rest (length segments) (records_of segments)
+    (fault_second (read.before ++ (read.opening ++ rest)) rest (length segments) (records_in segments)
     (suc (lines_before first.kinds + 2 * length segments)) line.records second.at none second.before))
 
 -- what stands after a word of the separators' line
@@ -235,11 +236,11 @@ pub end_fault : (first : FirstLines) (segments : List SegmentLine) (past text mo
     → ReadEnd first segments past → 0 < length text → IsFaultLine (past ++ (text ++ more))
     (2 + lines_before first.kinds + 2 * length segments)
 end_fault first segments past text more read some =
-    let rest : List ℕ = end_line (length segments) (records_of segments) ++ (text ++ more) in
+    let rest : List ℕ = end_line (length segments) (records_in segments) ++ (text ++ more) in
     let whole : List ℕ = read.before ++ rest in
     let shown : whole ≡ past ++ (text ++ more) =
     sym (ap (λ (t : List ℕ). t ++ (text ++ more)) read.is
-    ∙ append_assoc read.before (end_line (length segments) (records_of segments)) (text ++ more)) in
+    ∙ append_assoc read.before (end_line (length segments) (records_in segments)) (text ++ more)) in
     let going = going_of first segments read.before rest read.read in
     let none : ReadsNone rest = λ key start samples n x is_key fits_samples fits_n opening.
     opening_not_end record {
@@ -248,13 +249,13 @@ end_fault first segments past text more read some =
       samples = samples;
       records = n;
       separators = [];
-    } x rest (text ++ more) (length segments) (records_of segments) opening refl in
-    let at = at_behind whole rest (text ++ more) (length segments) (records_of segments)
+    } x rest (text ++ more) (length segments) (records_in segments) opening refl in
+    let at = at_behind whole rest (text ++ more) (length segments) (records_in segments)
     (lines_before first.kinds + 2 * length segments) going.at none refl in
     let before = before_behind whole (bytes_of first.length) first.tolerance first.kinds first.counts segments rest
     (text ++ more) going read.fits refl in
     at_number (past ++ (text ++ more)) (suc (suc (lines_before first.kinds + 2 * length segments)))
     (2 + lines_before first.kinds + 2 * length segments) (omega arith)
     (subst (λ (t : List ℕ). IsFaultLine t (suc (suc (lines_before first.kinds + 2 * length segments)))) shown
-    (fault_behind whole (text ++ more) (length segments) (records_of segments)
+    (fault_behind whole (text ++ more) (length segments) (records_in segments)
     (suc (lines_before first.kinds + 2 * length segments)) at (omega (arith, some, length-append text more)) before))

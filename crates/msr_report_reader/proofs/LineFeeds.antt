@@ -5,7 +5,7 @@ use Rattle.std.specs.Fmt.{digit_glyph}
 use Rattle.std.specs.Str.{all_ascii_digits}
 use Rattle.std.proofs.lemmas.Bool.Decides.{nat_tests}
 use Rattle.msr_report.specs.Text.{hex_text, byte_text, field_text, padded_decimal}
-use Rattle.msr_report_reader.specs.Fault.{IsOneLine, AreLines}
+use Rattle.msr_report_reader.specs.Fault.{IsOfLines, IsOneLine}
 use Rattle.msr_report_reader.proofs.Digits.{both_true, decimal_is_digits}
 use Rattle.msr_report_reader.proofs.Padded.{reads_padded}
 
@@ -61,7 +61,7 @@ separators_are_one (n ∷ ns) each =
 -- what the first line takes of lines
 pub record Peeled (n : ℕ) (first rest body more : List ℕ) : Type 0 where
   pub left : List ℕ
-  pub lines : AreLines n left
+  pub lines : IsOfLines n left
   pub first_is : first ≡ body ++ (10 ∷ left)
   pub more_is : more ≡ left ++ rest
 
@@ -85,7 +85,7 @@ same_line (a ∷ line) xs (b ∷ body) ys one_line one_body e =
     let s = same_line line xs body ys one_line.1 one_body.1 both.1 in
     record { line_is = ap (λ (l : List ℕ). a ∷ l) s.line_is ∙ ap (λ (x : ℕ). x ∷ body) both.0; rest_is = s.rest_is }
 
-pub peel : (n : ℕ) (first rest body more : List ℕ) → AreLines (suc n) first → IsOneLine body
+pub peel : (n : ℕ) (first rest body more : List ℕ) → IsOfLines (suc n) first → IsOneLine body
     → first ++ rest ≡ body ++ (10 ∷ more) → Peeled n first rest body more
 peel n first rest body more lines one is =
     let line : List ℕ = lines.0 in

@@ -3,7 +3,7 @@ use Rattle.std.proofs.Common.{◌≡◌, ◌∙◌, ap, sym, refl, rules, arith,
 use Rattle.std.proofs.lemmas.List.{append-nil, append_cancel_left}
 use Rattle.msr_rows.specs.declared.row.Key.{Key}
 use Rattle.msr_report.specs.Text.{separators_line, end_line}
-use Rattle.msr_report_reader.specs.Content.{ContentLine, IsKey, IsContentLine, IsContentLineText, AreContentLineTexts, IsOpening, content_records}
+use Rattle.msr_report_reader.specs.Content.{ContentLine, IsReportKey, IsContentLine, IsContentLineText, AreContentLineTexts, IsOpening, content_records}
 use Rattle.msr_report_reader.specs.Fault.{IsOneLine, BeginsReport, IsFaultLine}
 use Rattle.msr_report_reader.proofs.Rest.{AtLine}
 use Rattle.msr_report_reader.proofs.LineFeeds.{one_append, separators_are_one}
@@ -116,11 +116,11 @@ step_second k r n w P s = record {
 
 -- what the reader of a segment's first line says of the texts that go on so
 abbrev pub ReadsOnly : List ℕ → List ℕ → ℕ → Type 0
-ReadsOnly rest more records = (key : Key) (start : ℤ) (samples n : ℕ) (x : List ℕ) → IsKey key → samples < 2 ^ 64
+ReadsOnly rest more records = (key : Key) (start : ℤ) (samples n : ℕ) (x : List ℕ) → IsReportKey key → samples < 2 ^ 64
     → n < 2 ^ 64 → IsOpening key start samples n x rest → (records ≡ n) × (more ≡ x)
 
 abbrev pub ReadsNone : List ℕ → Type 0
-ReadsNone rest = (key : Key) (start : ℤ) (samples n : ℕ) (x : List ℕ) → IsKey key → samples < 2 ^ 64 → n < 2 ^ 64
+ReadsNone rest = (key : Key) (start : ℤ) (samples n : ℕ) (x : List ℕ) → IsReportKey key → samples < 2 ^ 64 → n < 2 ^ 64
     → IsOpening key start samples n x rest → ⊥
 
 opening_of : (n : ℕ) (rest body x : List ℕ) (valid : IsOpeningBody n body) → rest ≡ body ++ (10 ∷ x)

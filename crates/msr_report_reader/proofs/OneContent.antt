@@ -9,7 +9,7 @@ use Rattle.msr_base.specs.declared.counts.Counts.{Counts}
 use Rattle.msr_report.specs.declared.report.SegmentLine.{SegmentLine}
 use Rattle.msr_report.specs.declared.report.Report.{Report}
 use Rattle.msr_report_reader.specs.Fields.{EndsNumber, name_then, rate_then, flags_then}
-use Rattle.msr_report_reader.specs.Content.{Content, ContentLine, IsKey, IsContent, IsFirst, IsContentLine, IsContentText, AreContentLineTexts, IsOpening, key_then, first_then, content_line, content_of, content_records}
+use Rattle.msr_report_reader.specs.Content.{Content, ContentLine, IsReportKey, IsContent, IsFirst, IsContentLine, IsContentText, AreContentLineTexts, IsOpening, key_then, first_then, content_line, content_of, content_records}
 use Rattle.msr_report_reader.specs.Laws.{OneReport, NoLineAtFault, TextIsReadBack}
 use Rattle.msr_report_reader.specs.declared.fault.ReportFault.TheVariants.{Line, Read, Memory}
 use Rattle.msr_report_reader.proofs.RestOfText.{record_length_small, counts_then, counts_split, same_kinds}
@@ -28,7 +28,7 @@ record IsSameName (key other : Key) (xs ys : List ℕ) : Type 0 where
   channel : key.channel ≡ other.channel
   rest : xs ≡ ys
 
-same_name : (key other : Key) (xs ys : List ℕ) → IsKey key → IsKey other
+same_name : (key other : Key) (xs ys : List ℕ) → IsReportKey key → IsReportKey other
     → name_then key.network key.station key.location key.channel xs
     ≡ name_then other.network other.station other.location other.channel ys → IsSameName key other xs ys
 same_name key other xs ys is_key is_other is =
@@ -50,7 +50,7 @@ record IsSameSettings (key other : Key) (xs ys : List ℕ) : Type 0 where
   data_quality : key.data_quality ≡ other.data_quality
   rest : xs ≡ ys
 
-same_settings : (key other : Key) (xs ys : List ℕ) → IsKey key → IsKey other
+same_settings : (key other : Key) (xs ys : List ℕ) → IsReportKey key → IsReportKey other
     → rate_then key.rate.factor key.rate.multiplier (flags_then key.activity key.clock key.data_quality xs)
     ≡ rate_then other.rate.factor other.rate.multiplier (flags_then other.activity other.clock other.data_quality ys)
     → IsSameSettings key other xs ys
@@ -115,7 +115,7 @@ key_is a b xs ys us vs name quality settings rate correction timing =
       timing = b.timing;
     } = cc in same
 
-pub same_key : (key other : Key) (xs ys : List ℕ) → IsKey key → IsKey other → EndsNumber xs → EndsNumber ys
+pub same_key : (key other : Key) (xs ys : List ℕ) → IsReportKey key → IsReportKey other → EndsNumber xs → EndsNumber ys
     → key_then key xs ≡ key_then other ys → (key ≡ other) × (xs ≡ ys)
 same_key key other xs ys is_key is_other ends_xs ends_ys is =
     let timing_then : List ℕ = codes " timing " ++ (decimal key.timing ++ xs) in

@@ -11,7 +11,7 @@ use Rattle.msr_header.specs.Reading.{is_quality}
 use Rattle.msr_rows.specs.declared.row.Key.{Key}
 use Rattle.msr_report.specs.Text.{IsTimeText, split_text, date_text, clock_text, padded_decimal, hex_text, field_text}
 use Rattle.msr_report_reader.specs.Fields.{AreBytes, name_then, rate_then, flags_then}
-use Rattle.msr_report_reader.specs.Content.{IsKey, key_then}
+use Rattle.msr_report_reader.specs.Content.{IsReportKey, key_then}
 use Rattle.msr_report_reader.specs.Fault.{IsOneLine}
 use Rattle.msr_report_reader.proofs.LineFeeds.{one_append, padded_is_one, hex_is_one, field_is_one, glyph_is_no_feed}
 use Rattle.msr_report_reader.proofs.Segments.{opening_body, end_body}
@@ -107,7 +107,7 @@ flags_are_one activity clock quality more small_activity small_clock small_quali
           (refl, one_append (hex_text quality) more (hex_is_one quality small_quality) one),
     ))
 
-key_is_one : (key : Key) (more : List ℕ) → IsKey key → IsOneLine more → IsOneLine (key_then key more)
+key_is_one : (key : Key) (more : List ℕ) → IsReportKey key → IsOneLine more → IsOneLine (key_then key more)
 key_is_one key more is one =
     let after_flags : List ℕ = codes " correction "
     ++ (signed_decimal key.correction ++ (codes " timing " ++ (decimal key.timing ++ more))) in
@@ -130,7 +130,7 @@ key_is_one key more is one =
       ),
     ))
 
-pub opening_is_one : (key : Key) (t : ℤ) (word : List ℕ) (samples records : ℕ) → IsKey key → IsTimeText t word
+pub opening_is_one : (key : Key) (t : ℤ) (word : List ℕ) (samples records : ℕ) → IsReportKey key → IsTimeText t word
     → IsOneLine (opening_body key word samples records)
 opening_is_one key t word samples records is time =
     key_is_one key (codes " start " ++ (word ++ (codes " samples "

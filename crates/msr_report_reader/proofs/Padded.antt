@@ -9,11 +9,11 @@ use Rattle.std.proofs.lemmas.List.{length-take-le, take_more, length-replicate}
 use Rattle.std.proofs.Math.Nat.{pow-le-pow_right}
 use Rattle.std.proofs.Math.Seq.{take-append_seam, drop-append_seam}
 use Rattle.msr_report.specs.Text.{padded_decimal}
-use Rattle.msr_report_reader.specs.Fields.{number_after}
+use Rattle.msr_report_reader.specs.Fields.{with_digits}
 use Rattle.msr_report_reader.proofs.Digits.{own, both_true, decimal_is_digits}
 
 -- one more digit
-pub value_more : (n : ℕ) (ds : List ℕ) (d : ℕ) → number_after n (ds ++ d ∷ []) ≡ 10 * number_after n ds + (d - 48)
+pub value_more : (n : ℕ) (ds : List ℕ) (d : ℕ) → with_digits n (ds ++ d ∷ []) ≡ 10 * with_digits n ds + (d - 48)
 value_more n [] d = refl
 value_more n (c ∷ cs) d = value_more (10 * n + (c - 48)) cs d
 
@@ -24,7 +24,7 @@ digits_more (c ∷ cs) d = rw (digits_more cs d) (grind (arith, nat_tests))
 -- the first `i` bytes are digits, and give the number `value`
 pub record ReadsDigits (digits : List ℕ) (i : ℕ) (value : ℕ) : Type 0 where
   pub all : all_ascii_digits (take i digits) ≡ true
-  pub is : value ≡ number_after 0 (take i digits)
+  pub is : value ≡ with_digits 0 (take i digits)
   pub small : value < 10 ^ 6
 
 pub reads_more : (digits : List ℕ) (i value d : ℕ) → ReadsDigits digits i value → i < length digits
@@ -34,7 +34,7 @@ reads_more digits i value d so_far more short is digit =
     let front : take (i + 1) digits ≡ take i digits ++ d ∷ [] = rw is (take_more digits i 0 more) in
     let every : all_ascii_digits (take (i + 1) digits) ≡ true =
     rw (front, digits_more (take i digits) d, so_far.all, digit) refl in
-    let sum : value * 10 + (d - 48) ≡ number_after 0 (take (i + 1) digits) =
+    let sum : value * 10 + (d - 48) ≡ with_digits 0 (take (i + 1) digits) =
     rw (front, value_more 0 (take i digits) d) (omega (arith, so_far.is)) in
     let few : length (take (i + 1) digits) ≤ 6 = omega (arith, length-take-le (i + 1) digits (omega arith)) in
     let bound = digits_value_short own (take (i + 1) digits) 6 every few in
@@ -53,38 +53,38 @@ not_48 d h is = grind (arith, nat_tests)
 
 -- digits are the decimal of their number with leading zeros
 pads_behind_zero : (d : ℕ) (ds : List ℕ) → d ≡ 48 → 0 < length ds → length ds ≤ 6 → all_ascii_digits ds ≡ true
-    → padded_decimal (length ds) (number_after 0 ds) ≡ ds
-    → padded_decimal (length (d ∷ ds)) (number_after 0 (d ∷ ds)) ≡ d ∷ ds
+    → padded_decimal (length ds) (with_digits 0 ds) ≡ ds
+    → padded_decimal (length (d ∷ ds)) (with_digits 0 (d ∷ ds)) ≡ d ∷ ds
 pads_behind_zero d ds is some few all before =
-    let short : number_after 0 ds < 10 ^ length ds = digits_value_short own ds (length ds) all (omega arith) in
-    let small : number_after 0 ds < 10 ^ 6 = digits_value_short own ds 6 all few in
-    let fits : length (decimal (number_after 0 ds)) ≤ length ds =
-    length-decimal-le (length ds) (number_after 0 ds) some short (omega arith) in
-    let longer : suc (length ds) - length (decimal (number_after 0 ds))
-    ≡ suc (length ds - length (decimal (number_after 0 ds))) = omega arith in
+    let short : with_digits 0 ds < 10 ^ length ds = digits_value_short own ds (length ds) all (omega arith) in
+    let small : with_digits 0 ds < 10 ^ 6 = digits_value_short own ds 6 all few in
+    let fits : length (decimal (with_digits 0 ds)) ≤ length ds =
+    length-decimal-le (length ds) (with_digits 0 ds) some short (omega arith) in
+    let longer : suc (length ds) - length (decimal (with_digits 0 ds))
+    ≡ suc (length ds - length (decimal (with_digits 0 ds))) = omega arith in
     rw (is, longer) (ap (λ (l : List ℕ). 48 ∷ l) before)
 
-pads_whole : (ds : List ℕ) → decimal (number_after 0 ds) ≡ ds → padded_decimal (length ds) (number_after 0 ds) ≡ ds
+pads_whole : (ds : List ℕ) → decimal (with_digits 0 ds) ≡ ds → padded_decimal (length ds) (with_digits 0 ds) ≡ ds
 pads_whole ds is =
     let none : length ds - length ds ≡ 0 = omega arith in rw (is, none) refl
 
 pads_from : (b : Bool) (d : ℕ) (ds : List ℕ) → (d == 48) ≡ b → 0 < length ds → length (d ∷ ds) ≤ 6
     → all_ascii_digits (d ∷ ds) ≡ true
-    → padded_decimal (length ds) (number_after 0 ds) ≡ ds
-    → padded_decimal (length (d ∷ ds)) (number_after 0 (d ∷ ds)) ≡ d ∷ ds
+    → padded_decimal (length ds) (with_digits 0 ds) ≡ ds
+    → padded_decimal (length (d ∷ ds)) (with_digits 0 (d ∷ ds)) ≡ d ∷ ds
 pads_from true d ds test some few all before =
     pads_behind_zero d ds (is_48 d test) some (omega arith)
     (both_true (is_ascii_digit d) (all_ascii_digits ds) all).1 before
 pads_from false d ds test some few all before =
-    let small : number_after 0 (d ∷ ds) < 10 ^ 6 = digits_value_short own (d ∷ ds) 6 all few in
+    let small : with_digits 0 (d ∷ ds) < 10 ^ 6 = digits_value_short own (d ∷ ds) 6 all few in
     pads_whole (d ∷ ds) (decimal-digits_value own (d ∷ ds) all (omega arith) (λ is. absurd (not_48 d test is))
     (omega arith))
 
 pub pads : (ds : List ℕ) → all_ascii_digits ds ≡ true → 0 < length ds → length ds ≤ 6
-    → padded_decimal (length ds) (number_after 0 ds) ≡ ds
+    → padded_decimal (length ds) (with_digits 0 ds) ≡ ds
 pads [] all some few = absurd (omega arith)
 pads (d ∷ []) all some few =
-    let small : number_after 0 (d ∷ []) < 10 ^ 6 = digits_value_short own (d ∷ []) 6 all few in
+    let small : with_digits 0 (d ∷ []) < 10 ^ 6 = digits_value_short own (d ∷ []) 6 all few in
     pads_whole (d ∷ []) (decimal-digits_value own (d ∷ []) all some (λ _. refl) (omega arith))
 pads (d ∷ e ∷ ds) all some few =
     pads_from (d == 48) d (e ∷ ds) refl (omega arith) few all
@@ -95,13 +95,13 @@ zeros_are_digits : (k : ℕ) (ds : List ℕ) → all_ascii_digits ds ≡ true �
 zeros_are_digits zero ds all = all
 zeros_are_digits (suc k) ds all = zeros_are_digits k ds all
 
-zeros_give_none : (k : ℕ) (ds : List ℕ) → number_after 0 (replicate k 48 ++ ds) ≡ number_after 0 ds
+zeros_give_none : (k : ℕ) (ds : List ℕ) → with_digits 0 (replicate k 48 ++ ds) ≡ with_digits 0 ds
 zeros_give_none zero ds = refl
 zeros_give_none (suc k) ds = zeros_give_none k ds
 
 pub record IsPadded (width n : ℕ) : Type 0 where
   pub all : all_ascii_digits (padded_decimal width n) ≡ true
-  pub is : number_after 0 (padded_decimal width n) ≡ n
+  pub is : with_digits 0 (padded_decimal width n) ≡ n
   pub long : length (padded_decimal width n) ≡ width
 
 pub reads_padded : (width n : ℕ) → 1 ≤ width → n < 10 ^ width → n < 10 ^ 6 → IsPadded width n

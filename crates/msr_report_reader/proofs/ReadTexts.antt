@@ -6,11 +6,11 @@ use Rattle.msr_kinds.specs.Lengths.{bytes_of}
 use Rattle.msr_kinds.specs.declared.kinds.Kinds.{Kinds}
 use Rattle.msr_kinds.specs.declared.kinds.Kinds.TheVariants.{All as AllKinds, WithoutInt24}
 use Rattle.msr_rows.specs.declared.row.Key.{Key}
-use Rattle.msr_report.specs.Proper.{records_of}
+use Rattle.msr_report.specs.Proper.{records_in}
 use Rattle.msr_report.specs.Text.{separators_line, kinds_line, counts_line}
 use Rattle.msr_base.specs.declared.counts.Counts.{Counts}
 use Rattle.msr_report.specs.declared.report.SegmentLine.{SegmentLine}
-use Rattle.msr_report_reader.specs.Content.{ContentLine, IsKey, IsFirst, IsContentLine, AreContentLineTexts, IsOpening, content_records, content_line, first_then, lines_before}
+use Rattle.msr_report_reader.specs.Content.{ContentLine, IsReportKey, IsFirst, IsContentLine, AreContentLineTexts, IsOpening, content_records, content_line, first_then, lines_before}
 use Rattle.msr_report_reader.proofs.Rest.{AtLine, InFirst, counts_body, body_5, tail_5, tail_6}
 use Rattle.msr_report_reader.specs.Draft.{ReadSegments}
 use Rattle.msr_report_reader.specs.declared.first.FirstLines.{FirstLines}
@@ -83,7 +83,7 @@ first_at bytes tolerance WithoutInt24 counts text rest is_first is =
 
 -- the same first line of a segment, and the same text after it
 same_opening : (key other : Key) (start other_start : ℤ) (samples records other_samples other_records : ℕ)
-    (xs ys text : List ℕ) → IsKey key → IsKey other → samples < 2 ^ 64 → records < 2 ^ 64 → other_samples < 2 ^ 64
+    (xs ys text : List ℕ) → IsReportKey key → IsReportKey other → samples < 2 ^ 64 → records < 2 ^ 64 → other_samples < 2 ^ 64
     → other_records < 2 ^ 64 → IsOpening key start samples records xs text
     → IsOpening other other_start other_samples other_records ys text → (records ≡ other_records) × (xs ≡ ys)
 same_opening key other start other_start samples records other_samples other_records xs ys text is_key is_other
@@ -154,7 +154,7 @@ going_of first segments past rest read =
       is_first = read.is_first;
       shown = shown;
       at = at_numbers (0 + length (map content_line segments)) (length segments)
-          (0 + content_records (map content_line segments)) (records_of segments)
+          (0 + content_records (map content_line segments)) (records_in segments)
           (lines_before first.kinds + 2 * length (map content_line segments))
           (lines_before first.kinds + 2 * length segments) (past ++ rest) rest
           (omega (arith, length-lines segments)) (omega (arith, records_same segments))

@@ -4,14 +4,14 @@ use Rattle.std.specs.Fmt.{decimal}
 use Rattle.msr_report.specs.Text.{kinds_line, counts_line, end_line}
 use Rattle.msr_base.specs.declared.counts.Counts.{Counts}
 use Rattle.msr_report_reader.specs.Content.{Content, IsContent, IsContentText, AreContentLineTexts, content_records}
-use Rattle.msr_report_reader.specs.Fault.{AreLines, BeginsReport}
+use Rattle.msr_report_reader.specs.Fault.{BeginsReport, IsOfLines}
 
 -- The first n lines begin a text of the language; if they are all of it, P holds.
 pub record Begins (L : List ℕ → Type 0 → Type 0) (text : List ℕ) (n : ℕ) : Type 0 where
   pub first : List ℕ
   pub behind : List ℕ
   pub rest : List ℕ
-  pub lines : AreLines n first
+  pub lines : IsOfLines n first
   pub shown : text ≡ first ++ behind
   pub within : L (first ++ rest) (rest ≡ [])
 

@@ -8,7 +8,7 @@ use Rattle.msr_kinds.specs.declared.kinds.Kinds.TheVariants.{All as AllKinds, Wi
 use Rattle.msr_report.specs.Text.{kinds_words, kinds_line, counts_line, end_line}
 use Rattle.msr_base.specs.declared.counts.Counts.{Counts}
 use Rattle.msr_report_reader.specs.Content.{Content, IsContent, IsFirst, IsContentText, content_records, first_then}
-use Rattle.msr_report_reader.specs.Fault.{IsOneLine, AreLines, BeginsReport, IsFaultLine}
+use Rattle.msr_report_reader.specs.Fault.{IsOneLine, IsOfLines, BeginsReport, IsFaultLine}
 use Rattle.msr_report_reader.proofs.Rest.{Begins, InFirst, AtLine, body_1, body_2, body_3, body_5, counts_body, tail_1, tail_2, tail_3, tail_4, tail_5, tail_6}
 use Rattle.msr_report_reader.proofs.LineFeeds.{peel, one_append, decimal_is_one}
 use Rattle.msr_report_reader.proofs.SameFields.{differ}
@@ -39,7 +39,7 @@ last_line (x ∷ left) rest more is none = absurd (not_empty x (left ++ rest) (s
 pub down : (V : ℕ → List ℕ → Type 0) (L : ℕ → List ℕ → Type 0 → Type 0) (text text' first behind rest : List ℕ)
     (v n : ℕ)
     → ((value : ℕ) (body x : List ℕ) → V value body → text ≡ body ++ (10 ∷ x) → (value ≡ v) × (text' ≡ x))
-    → AreLines (suc n) first → text ≡ first ++ behind → LineStep V L (first ++ rest) (rest ≡ []) → Begins (L v) text' n
+    → IsOfLines (suc n) first → text ≡ first ++ behind → LineStep V L (first ++ rest) (rest ≡ []) → Begins (L v) text' n
 down V L text text' first behind rest v n only lines shown step =
     let p = peel n first rest step.body step.more lines step.one step.is in
     let read = only step.value step.body (p.left ++ behind) (step.valid (last_line p.left rest step.more p.more_is))
@@ -57,7 +57,7 @@ down V L text text' first behind rest v n only lines shown step =
 
 pub refused : (V : ℕ → List ℕ → Type 0) (L : ℕ → List ℕ → Type 0 → Type 0) (text first behind rest : List ℕ) (n : ℕ)
     → ((value : ℕ) (body x : List ℕ) → V value body → text ≡ body ++ (10 ∷ x) → ⊥)
-    → AreLines (suc n) first → text ≡ first ++ behind → LineStep V L (first ++ rest) (rest ≡ []) → ⊥
+    → IsOfLines (suc n) first → text ≡ first ++ behind → LineStep V L (first ++ rest) (rest ≡ []) → ⊥
 refused V L text first behind rest n none lines shown step =
     let p = peel n first rest step.body step.more lines step.one step.is in
     none step.value step.body (p.left ++ behind) (step.valid (last_line p.left rest step.more p.more_is))
@@ -300,7 +300,7 @@ first_with bytes tolerance is least most = record
 
 pub before : (bytes tolerance : ℕ) (kinds : Kinds) (counts : Counts) → IsFirst bytes tolerance counts
     → (text first behind rest : List ℕ) (i : ℕ)
-    → AreLines i first → text ≡ first ++ behind → first ++ rest ≡ first_then bytes tolerance kinds counts (end_line 0 0)
+    → IsOfLines i first → text ≡ first ++ behind → first ++ rest ≡ first_then bytes tolerance kinds counts (end_line 0 0)
     → BeginsReport text i
 before bytes tolerance kinds counts is_first text first behind rest i lines shown begins = record {
   content = content_with bytes tolerance kinds counts;
@@ -373,7 +373,7 @@ counts_split counts x = simp append_assoc
 before_more : (text t1 t2 t3 behind first rest : List ℕ) (bytes tolerance n : ℕ) (kinds : Kinds)
     → IsRecordLength bytes → 1 ≤ tolerance → tolerance ≤ 1_000_000
     → text ≡ codes "msrepack 1" ++ (10 ∷ t1) → t1 ≡ codes "length " ++ (decimal bytes ++ (10 ∷ t2))
-    → t2 ≡ codes "tolerance " ++ (decimal tolerance ++ (10 ∷ t3)) → AreLines n first → t3 ≡ first ++ behind
+    → t2 ≡ codes "tolerance " ++ (decimal tolerance ++ (10 ∷ t3)) → IsOfLines n first → t3 ≡ first ++ behind
     → first ++ rest ≡ kinds_line kinds ++ (counts_line no_counts ++ end_line 0 0)
     → BeginsReport text (suc (suc (suc n)))
 before_more text t1 t2 t3 behind first rest bytes tolerance n kinds is least most is_1 is_2 is_3 are is_4 begins =

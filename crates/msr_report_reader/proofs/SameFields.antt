@@ -11,7 +11,7 @@ use Rattle.jiff_core.proofs.CalendarLemmas.{days_in_year_bounds}
 use Rattle.msr_time.specs.declared.btime.BTime.{BTime}
 use Rattle.msr_time.specs.Instant.{IsTime, instant_of}
 use Rattle.msr_report.specs.Text.{hex_text, byte_text, field_text, padded_decimal, IsTimeText}
-use Rattle.msr_report_reader.specs.Fields.{EndsNumber, AreBytes, signed_len, number_after, clock_then, split_then}
+use Rattle.msr_report_reader.specs.Fields.{EndsNumber, AreBytes, signed_len, with_digits, clock_then, split_then}
 use Rattle.msr_report_reader.proofs.Digits.{parts, signed_parts, short, decimal_is_digits}
 use Rattle.msr_report_reader.proofs.LineFeeds.{same_cons}
 use Rattle.msr_report_reader.proofs.Instants.{split_same}
@@ -118,7 +118,7 @@ same_padded width m n xs ys some fits_m fits_n small_m small_n is =
     (padded_decimal width m) width refl refl refl is_m.long in
     let second = padded_parts text ys (take width text) (drop width text)
     (padded_decimal width n) width refl refl is is_n.long in
-    (sym is_m.is ∙ ap (number_after 0) (sym first.0 ∙ second.0) ∙ is_n.is, sym first.1 ∙ second.1)
+    (sym is_m.is ∙ ap (with_digits 0) (sym first.0 ∙ second.0) ∙ is_n.is, sym first.1 ∙ second.1)
 
 -- the same time, and the same microseconds below its fraction
 record IsSameTime (time other : BTime) (m n : ℕ) (xs ys : List ℕ) : Type 0 where

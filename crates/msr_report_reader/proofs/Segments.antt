@@ -2,7 +2,7 @@
 use Rattle.std.proofs.Common.{◌≡◌, ◌∙◌, ap, sym, refl, arith, ℕ, zero, suc, ◌+◌, ◌<◌, ◌^◌, List, [], ◌∷◌, ◌++◌, append_assoc, length, decimal, codes, All, ℤ}
 use Rattle.msr_rows.specs.declared.row.Key.{Key}
 use Rattle.msr_report.specs.Text.{segment_words, separators_line, end_line, IsTimeText}
-use Rattle.msr_report_reader.specs.Content.{ContentLine, IsKey, IsContentLine, IsContentLineText, AreContentLineTexts, IsOpening, key_then, content_records}
+use Rattle.msr_report_reader.specs.Content.{ContentLine, IsReportKey, IsContentLine, IsContentLineText, AreContentLineTexts, IsOpening, key_then, content_records}
 use Rattle.msr_report_reader.proofs.Rest.{InFirst, AtLine, tail_6}
 
 -- after `segments` segments with `records` records, `w` is the lines of further segments and the
@@ -42,7 +42,7 @@ pub record IsOpeningBody (records : ℕ) (body : List ℕ) : Type 0 where
   pub start : ℤ
   pub samples : ℕ
   pub word : List ℕ
-  pub is_key : IsKey key
+  pub is_key : IsReportKey key
   pub time : IsTimeText start word
   pub fits_samples : samples < 2 ^ 64
   pub fits_records : records < 2 ^ 64

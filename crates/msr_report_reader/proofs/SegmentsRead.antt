@@ -3,7 +3,7 @@ use Rattle.std.proofs.Common.{◌≡◌, ◌∙◌, ap, sym, refl, arith, ℕ, z
 use Rattle.std.proofs.lemmas.List.{append-nil}
 use Rattle.msr_kinds.specs.Lengths.{bytes_of}
 use Rattle.msr_kinds.specs.declared.kinds.Kinds.{Kinds}
-use Rattle.msr_report.specs.Proper.{records_of, IsProperLine}
+use Rattle.msr_report.specs.Proper.{IsProperLine, records_in}
 use Rattle.msr_report.specs.Text.{separators_line, end_line, first_lines, AreSegmentTexts}
 use Rattle.msr_base.specs.declared.counts.Counts.{Counts}
 use Rattle.msr_report.specs.declared.report.SegmentLine.{SegmentLine}
@@ -22,7 +22,7 @@ pub record Going (text : List ℕ) (bytes tolerance : ℕ) (kinds : Kinds) (coun
   pub each : All IsContentLine (map content_line segments)
   pub is_first : IsFirst bytes tolerance counts
   pub shown : text ≡ first_then bytes tolerance kinds counts (lines ++ rest)
-  pub at : AtLine (Tail (length segments) (records_of segments)) text rest (lines_before kinds + 2 * length segments)
+  pub at : AtLine (Tail (length segments) (records_in segments)) text rest (lines_before kinds + 2 * length segments)
 
 pub texts_more : (lines : List ContentLine) (text : List ℕ) (line : ContentLine) (more : List ℕ)
     → AreContentLineTexts lines text → IsContentLineText line more
@@ -76,7 +76,7 @@ texts_of (s ∷ segments) text are = (
   ),
 )
 
-pub records_same : (segments : List SegmentLine) → content_records (map content_line segments) ≡ records_of segments
+pub records_same : (segments : List SegmentLine) → content_records (map content_line segments) ≡ records_in segments
 records_same [] = refl
 records_same (s ∷ segments) = ap (λ n. s.records + n) (records_same segments)
 
@@ -94,8 +94,8 @@ first_same report more = simp append_assoc
 
 pub found_report : (report : Report) (text rest : List ℕ)
     → Going text (bytes_of report.length) report.tolerance report.kinds report.counts report.segments.items rest
-    → records_of report.segments.items < 2 ^ 64 → rest
-    ≡ end_line (length report.segments.items) (records_of report.segments.items)
+    → records_in report.segments.items < 2 ^ 64 → rest
+    ≡ end_line (length report.segments.items) (records_in report.segments.items)
     → IsReadFrom report text
 found_report report text rest going fits is = record {
   proper = record {
@@ -111,7 +111,7 @@ found_report report text rest going fits is = record {
     is = going.shown ∙ ap (λ (t : List ℕ). first_then (bytes_of report.length) report.tolerance report.kinds
         report.counts (going.lines ++ t)) is
         ∙ sym (first_same report (going.lines ++ end_line (length report.segments.items)
-        (records_of report.segments.items)));
+        (records_in report.segments.items)));
   };
 }
 

@@ -6,16 +6,16 @@ use Rattle.std.proofs.lemmas.List.Elements.{All-push}
 use Rattle.std.specs.List.{list_any}
 use Rattle.msr_time.specs.Instant.{IsInstant}
 use Rattle.msr_kinds.specs.Lengths.{bytes_of}
-use Rattle.msr_report.specs.Proper.{records_of}
+use Rattle.msr_report.specs.Proper.{records_in}
 use Rattle.msr_report.specs.Text.{separators_line, end_line}
 use Rattle.msr_report.specs.declared.report.SegmentLine.{SegmentLine}
 use Rattle.msr_report.specs.declared.report.Report.{Report}
-use Rattle.msr_report_reader.specs.Content.{IsKey, IsFirst, IsContentLine, IsOpening, first_then, content_line}
+use Rattle.msr_report_reader.specs.Content.{IsReportKey, IsFirst, IsContentLine, IsOpening, first_then, content_line}
 use Rattle.msr_report_reader.specs.Fault.{IsOneLine, IsFaultLine}
 use Rattle.msr_report_reader.specs.LastLine.{IsLast}
 use Rattle.msr_report_reader.specs.Reading.{IsReadFrom}
 use Rattle.msr_report_reader.specs.TextFault.{IsTextFault}
-use Rattle.msr_report_reader.specs.Draft.{IsEnough, IsRefused, IsStep, IsConsumed, Follows, ReadTo, ReadSegments, ReadOpening, ReadEnd, numbers_then, stop_byte}
+use Rattle.msr_report_reader.specs.Draft.{IsEnough, IsLineRefused, IsDraftStep, IsConsumed, HasRead, ReadTo, ReadSegments, ReadOpening, ReadEnd, numbers_then, stop_byte}
 use Rattle.msr_report_reader.specs.declared.fault.ReportFault.{ReportFault}
 use Rattle.msr_report_reader.specs.declared.fault.ReportFault.TheVariants.{Line, Read, Memory}
 use Rattle.msr_report_reader.specs.declared.first.FirstLines.{FirstLines}
@@ -34,8 +34,8 @@ use Rattle.msr_report_reader.proofs.ReadTexts.{going_of}
 
 -- a line that no report has there
 pub refused : (old new : Draft) (whole : List ℕ) (begins : Bool) (text : List ℕ) (line : ℕ) (result : Result Progress ReportFault) → new ≡ old
-    → ((past more : List ℕ) → Follows old past → IsEnough begins text more → IsFaultLine (past ++ (whole ++ more)) line)
-    → IsRefused begins text line result → IsStep old new whole result
+    → ((past more : List ℕ) → HasRead old past → IsEnough begins text more → IsFaultLine (past ++ (whole ++ more)) line)
+    → IsLineRefused begins text line result → IsDraftStep old new whole result
 refused old new whole begins text line (Ok (Consumed n)) same fault is = absurd is
 refused old new whole begins text line (Ok (Cut n)) same fault is = record {
   same = same;
@@ -65,17 +65,17 @@ none_is_one (byte ∷ text) none =
 
 -- what a draft follows, by what it expects
 pub follows_at : (draft : Draft) (expected : Expected) (past : List ℕ) → draft.expected ≡ expected
-    → ReadTo expected draft.segments.items draft.numbers.items past → Follows draft past
+    → ReadTo expected draft.segments.items draft.numbers.items past → HasRead draft past
 follows_at draft expected past is to = record {
   to = subst (λ (p : Expected). ReadTo p draft.segments.items draft.numbers.items past) (sym is) to;
 }
 
-pub read_to : (draft : Draft) (expected : Expected) (past : List ℕ) → draft.expected ≡ expected → Follows draft past
+pub read_to : (draft : Draft) (expected : Expected) (past : List ℕ) → draft.expected ≡ expected → HasRead draft past
     → ReadTo expected draft.segments.items draft.numbers.items past
 read_to draft expected past is follows =
     subst (λ (p : Expected). ReadTo p draft.segments.items draft.numbers.items past) is follows.to
 
-pub first_fault : (draft : Draft) (past text : List ℕ) (line : ℕ) → draft.expected ≡ Start → Follows draft past
+pub first_fault : (draft : Draft) (past text : List ℕ) (line : ℕ) → draft.expected ≡ Start → HasRead draft past
     → IsFaultLine text line → IsFaultLine (past ++ text) line
 first_fault draft past text line expected follows fault =
     let to : ReadTo Start draft.segments.items draft.numbers.items past = read_to draft Start past expected follows in
@@ -124,7 +124,7 @@ first_step old new first text rest n expected new_expected segments numbers is_f
 
 pub opening_step : (old new : Draft) (first : FirstLines) (line : FirstLine) (text rest : List ℕ) (n : ℕ)
     → old.expected ≡ Segment first → new.expected ≡ Separators first line → new.segments.items ≡ old.segments.items
-    → new.numbers.items ≡ old.numbers.items → IsKey line.key → IsInstant line.start → line.samples < 2 ^ 64
+    → new.numbers.items ≡ old.numbers.items → IsReportKey line.key → IsInstant line.start → line.samples < 2 ^ 64
     → line.records < 2 ^ 64 → IsOpening line.key line.start line.samples line.records rest text
     → n ≡ length text - length rest → IsConsumed old new text n
 opening_step old new first line text rest n expected new_expected segments numbers is_key start samples records opens
@@ -166,7 +166,7 @@ pub end_step : (old new : Draft) (first : FirstLines) (text rest : List ℕ) (n 
     → new.expected ≡ End first → new.segments.items ≡ old.segments.items → new.numbers.items ≡ old.numbers.items
     → IsLast old.segments.items text rest → n ≡ length text - length rest → IsConsumed old new text n
 end_step old new first text rest n expected new_expected segments numbers last count =
-    let taken : List ℕ = end_line (length old.segments.items) (records_of old.segments.items) in
+    let taken : List ℕ = end_line (length old.segments.items) (records_in old.segments.items) in
     let long : 4 ≤ length taken = simp length-append (omega arith) in
     let size : n ≡ length taken =
     omega (arith, count, ap (λ (l : List ℕ). length l) last.is, length-append taken rest) in
@@ -191,7 +191,7 @@ end_step old new first text rest n expected new_expected segments numbers last c
 pub word_step : (old new : Draft) (first : FirstLines) (line : FirstLine) (last : Bool) (text rest : List ℕ) (n : ℕ)
     → old.expected ≡ Separators first line
     → ((past : List ℕ) → ReadOpening first old.segments.items line past → All (λ n. n < 2 ^ 64) old.numbers.items
-    → Follows new (past ++ numbers_then old.numbers.items last))
+    → HasRead new (past ++ numbers_then old.numbers.items last))
     → text ≡ codes "separators" ++ (stop_byte last ∷ rest) → n ≡ length text - length rest
     → IsConsumed old new text n
 word_step old new first line last text rest n expected goes is count =
@@ -207,7 +207,7 @@ word_step old new first line last text rest n expected goes is count =
       follows = λ past follows.
           let to = read_to old (Separators first line) past expected follows in
           let none : All (λ n. n < 2 ^ 64) [] = λ k d within. absurd (omega arith) in
-          subst (λ (ns : List ℕ). Follows new (past ++ numbers_then ns last)) to.1
+          subst (λ (ns : List ℕ). HasRead new (past ++ numbers_then ns last)) to.1
           (goes past to.0 (subst (λ (ns : List ℕ). All (λ n. n < 2 ^ 64) ns) (sym to.1) none));
     }
 
@@ -215,7 +215,7 @@ pub number_step : (old mid new : Draft) (first : FirstLines) (line : FirstLine) 
     (text rest : List ℕ) (n : ℕ) → old.expected ≡ Number first line → mid.segments.items ≡ old.segments.items
     → mid.numbers.items ≡ old.numbers.items ++ number ∷ [] → number < 2 ^ 64
     → ((past : List ℕ) → ReadOpening first mid.segments.items line past → All (λ n. n < 2 ^ 64) mid.numbers.items
-    → Follows new (past ++ numbers_then mid.numbers.items last))
+    → HasRead new (past ++ numbers_then mid.numbers.items last))
     → text ≡ decimal number ++ (stop_byte last ∷ rest) → n ≡ length text - length rest → IsConsumed old new text n
 number_step old mid new first line number last text rest n expected segments pushed small goes is count =
     let taken : List ℕ = decimal number ++ (stop_byte last ∷ []) in
@@ -234,13 +234,13 @@ number_step old mid new first line number last text rest n expected segments pus
           let fits : All (λ n. n < 2 ^ 64) mid.numbers.items =
           subst (λ (ns : List ℕ). All (λ n. n < 2 ^ 64) ns) (sym pushed)
           (All-push (λ m. m < 2 ^ 64) old.numbers.items number to.each small) in
-          let more : Follows new (to.before ++ numbers_then (old.numbers.items ++ number ∷ []) last) =
-          subst (λ (ns : List ℕ). Follows new (to.before ++ numbers_then ns last)) pushed (goes to.before read fits) in
+          let more : HasRead new (to.before ++ numbers_then (old.numbers.items ++ number ∷ []) last) =
+          subst (λ (ns : List ℕ). HasRead new (to.before ++ numbers_then ns last)) pushed (goes to.before read fits) in
           let shown : past ++ taken ≡ to.before ++ numbers_then (old.numbers.items ++ number ∷ []) last =
           ap (λ (p : List ℕ). p ++ taken) to.is ∙ numbers_more to.before old.numbers.items 32 taken
           ∙ ap (λ (l : List ℕ). to.before ++ (codes "separators" ++ l))
           (one_more old.numbers.items number (stop_byte last ∷ [])) in
-          subst (λ (p : List ℕ). Follows new p) (sym shown) more;
+          subst (λ (p : List ℕ). HasRead new p) (sym shown) more;
     }
 
 -- one more segment was read
@@ -288,11 +288,11 @@ drop_taken old new text n taken =
 -- what was read of a text, and what is left
 pub record Left (draft : Draft) (whole rest : List ℕ) : Type 0 where
   pub read : List ℕ
-  pub follows : Follows draft read
+  pub follows : HasRead draft read
   pub is : whole ≡ read ++ rest
 
 pub left_fault : (draft : Draft) (whole rest : List ℕ) (why : ReportFault) → Left draft whole rest
-    → ((past more : List ℕ) → Follows draft past → IsTextFault (past ++ (rest ++ more)) why) → IsTextFault whole why
+    → ((past more : List ℕ) → HasRead draft past → IsTextFault (past ++ (rest ++ more)) why) → IsTextFault whole why
 left_fault draft whole rest why left fault =
     subst (λ (t : List ℕ). IsTextFault t why)
     (ap (λ (l : List ℕ). left.read ++ l) (append-nil rest) ∙ sym left.is) (fault left.read [] left.follows)
@@ -307,7 +307,7 @@ pub whole_report : (report : Report) (first : FirstLines) (past : List ℕ) → 
     → report.kinds ≡ first.kinds → report.tolerance ≡ first.tolerance → report.counts ≡ first.counts
     → ReadEnd first report.segments.items past → IsReadFrom report past
 whole_report report first past same_length same_kinds same_tolerance same_counts read =
-    let last : List ℕ = end_line (length report.segments.items) (records_of report.segments.items) in
+    let last : List ℕ = end_line (length report.segments.items) (records_in report.segments.items) in
     let going : Going (read.before ++ last) (bytes_of report.length) report.tolerance report.kinds report.counts
     report.segments.items last = rw (same_length, same_kinds, same_tolerance, same_counts)
     (going_of first report.segments.items read.before last read.read) in

@@ -6,8 +6,8 @@ use Rattle.msr_devices.specs.declared.fault.DeviceFault.{DeviceFault}
 use Rattle.msr_devices.specs.declared.fault.DeviceFault.TheVariants as fill
 use Rattle.msr_devices.proofs.Chaining.{calm_calm, calm_failed, calm_same, gives_append, left_of, steady_sound, steady_steady, steady_then_few}
 use Rattle.msr_report.specs.declared.report.Report.{Report}
-use Rattle.msr_report_reader.specs.Draft.{Follows, IsStep, IsConsumed}
-use Rattle.msr_report_reader.specs.Reading.{IsReadFrom, ReadsReport, fault_of_fill}
+use Rattle.msr_report_reader.specs.Draft.{HasRead, IsConsumed, IsDraftStep}
+use Rattle.msr_report_reader.specs.Reading.{IsReadFrom, ReadsReport, report_fault_of_fill}
 use Rattle.msr_report_reader.specs.TextFault.{IsTextFault}
 use Rattle.msr_report_reader.specs.declared.draft.Draft.{Draft}
 use Rattle.msr_report_reader.specs.declared.draft.Progress.{Progress}
@@ -18,7 +18,7 @@ use Rattle.msr_report_reader.specs.declared.fault.ReportFault.TheVariants.{Line,
 use Rattle.msr_report_reader.proofs.Steps.{drop_taken}
 
 pub stopped : (source : Device) (why : DeviceFault)
-    → (text : List ℕ) × HasLeft source text × ReadsReport text (Err (fault_of_fill why))
+    → (text : List ℕ) × HasLeft source text × ReadsReport text (Err (report_fault_of_fill why))
 stopped source fill.Failed = let left = left_of source in (left.0, left.1, tt)
 stopped source fill.Memory = let left = left_of source in (left.0, left.1, tt)
 
@@ -34,7 +34,7 @@ judged start now bytes Memory came fault = let left = left_of start in (left.0, 
 -- a source that was not read to its end failed, or memory was refused
 pub stopped_tells : {T : Type 0} (start old new : Device) (want : ℕ) (before after : Window) (why : DeviceFault)
     → IsCalm start old → StopsFilling want old new before after why
-    → IsErrOf {T = T} (Err (fault_of_fill why)) Read ↔ HasFailed start new
+    → IsErrOf {T = T} (Err (report_fault_of_fill why)) Read ↔ HasFailed start new
 stopped_tells start old new want before after fill.Failed calm stops =
     ((λ e. calm_failed start old new calm stops.0), (λ has_failed. refl))
 stopped_tells start old new want before after fill.Memory calm stops = (
@@ -45,7 +45,7 @@ stopped_tells start old new want before after fill.Memory calm stops = (
 -- The bytes that came are those that the draft follows, and then those of the buffer.
 pub record IsReading (start now : Device) (draft : Draft) (buffer : Window) : Type 0 where
   pub read : List ℕ
-  pub follows : Follows draft read
+  pub follows : HasRead draft read
   pub came : Gives start now (read ++ buffer.bytes)
   pub end : buffer.ended ≡ true → HasLeft now []
   pub calm : buffer.ended ≡ false → IsCalm start now
@@ -71,13 +71,13 @@ reading_taken start now old new before after n reading taken bytes ended =
 -- a step that takes nothing changes nothing
 pub rests : (old new : Draft) (text : List ℕ) (progress : Progress)
     → ((x : ℕ) × (progress ≡ Cut x)) ⊎ ((x : FirstLines) × (progress ≡ Whole x))
-    → IsStep old new text (Ok progress) → new ≡ old
+    → IsDraftStep old new text (Ok progress) → new ≡ old
 rests old new text progress (inl cut) step =
-    let is : IsStep old new text (Ok (Cut cut.0)) =
-    subst (λ (p : Progress). IsStep old new text (Ok p)) cut.1 step in is.same
+    let is : IsDraftStep old new text (Ok (Cut cut.0)) =
+    subst (λ (p : Progress). IsDraftStep old new text (Ok p)) cut.1 step in is.same
 rests old new text progress (inr whole) step =
-    let is : IsStep old new text (Ok (Whole whole.0)) =
-    subst (λ (p : Progress). IsStep old new text (Ok p)) whole.1 step in is.same
+    let is : IsDraftStep old new text (Ok (Whole whole.0)) =
+    subst (λ (p : Progress). IsDraftStep old new text (Ok p)) whole.1 step in is.same
 
 pub reading_filled : (start old new : Device) (draft other : Draft) (before after : Window) (want : ℕ)
     → IsReading start old draft before → before.ended ≡ false → other ≡ draft
@@ -99,7 +99,7 @@ reading_filled start old new draft other before after want reading open_before s
 
 pub reading_fault : (start now : Device) (draft : Draft) (buffer : Window) (bytes : List ℕ) (why : ReportFault)
     → IsReading start now draft buffer → bytes ≡ buffer.bytes
-    → ((past more : List ℕ) → Follows draft past → IsTextFault (past ++ (bytes ++ more)) why)
+    → ((past more : List ℕ) → HasRead draft past → IsTextFault (past ++ (bytes ++ more)) why)
     → (text : List ℕ) × HasLeft start text × ReadsReport text (Err why)
 reading_fault start now draft buffer bytes why reading is fault =
     judged start now (reading.read ++ buffer.bytes) why reading.came
@@ -108,7 +108,7 @@ reading_fault start now draft buffer bytes why reading is fault =
     (fault reading.read more reading.follows))
 
 -- before the first byte
-pub reading_none : (start : Device) (draft : Draft) (buffer : Window) → Follows draft []
+pub reading_none : (start : Device) (draft : Draft) (buffer : Window) → HasRead draft []
     → buffer ≡ record { bytes = []; ended = false; room = 0 } → IsReading start start draft buffer
 reading_none start draft buffer follows is = record {
   read = [];
@@ -150,7 +150,7 @@ never_read (Err Memory) text fault is = absurd cc
 
 pub judged_tells : (start now : Device) (draft : Draft) (buffer : Window) (bytes : List ℕ) (why : ReportFault)
     → IsReading start now draft buffer
-    → ((past more : List ℕ) → Follows draft past → IsTextFault (past ++ (bytes ++ more)) why)
+    → ((past more : List ℕ) → HasRead draft past → IsTextFault (past ++ (bytes ++ more)) why)
     → IsErrOf {T = Report} (Err why) Read ↔ HasFailed start now
 judged_tells start now draft buffer bytes why reading fault = (
   λ is. absurd (never_read (Err why) (reading.read ++ (bytes ++ [])) (fault reading.read [] reading.follows) is),
@@ -168,8 +168,8 @@ reads_of (Err Memory) text found fault = tt
 pub finished : (start now : Device) (draft : Draft) (buffer : Window) (bytes : List ℕ)
     (result : Result Report ReportFault) → IsReading start now draft buffer → buffer.ended ≡ true
     → bytes ≡ buffer.bytes
-    → ((past : List ℕ) → Follows draft past → IfOk result (λ report. IsReadFrom report (past ++ bytes)))
-    → ((past : List ℕ) → Follows draft past → IfErr result (IsTextFault (past ++ bytes)))
+    → ((past : List ℕ) → HasRead draft past → IfOk result (λ report. IsReadFrom report (past ++ bytes)))
+    → ((past : List ℕ) → HasRead draft past → IfErr result (IsTextFault (past ++ bytes)))
     → (text : List ℕ) × HasLeft start text × ReadsReport text result
 finished start now draft buffer bytes result reading ended is found fault =
     let left = rw append-nil at (reading.came.front [] (reading.end ended)) in (
@@ -181,7 +181,7 @@ finished start now draft buffer bytes result reading ended is found fault =
 
 pub finished_tells : (start now : Device) (draft : Draft) (buffer : Window) (bytes : List ℕ)
     (result : Result Report ReportFault) → IsReading start now draft buffer
-    → ((past : List ℕ) → Follows draft past → IfErr result (IsTextFault (past ++ bytes)))
+    → ((past : List ℕ) → HasRead draft past → IfErr result (IsTextFault (past ++ bytes)))
     → IsErrOf result Read ↔ HasFailed start now
 finished_tells start now draft buffer bytes result reading fault = (
   λ is. absurd (never_read result (reading.read ++ bytes) (fault reading.read reading.follows) is),

@@ -18,7 +18,7 @@ use Rattle.msr_kinds.specs.Lengths.{bytes_of}
 use Rattle.msr_report_reader.specs.Fields.{AreBytes, name_then, rate_then, flags_then}
 
 -- the fields of a key are in the ranges of their types, with a quality and a rate that a record can have
-pub record IsKey (key : Key) : Type 0 where
+pub record IsReportKey (key : Key) : Type 0 where
   pub network : AreBytes 2 key.network
   pub station : AreBytes 5 key.station
   pub location : AreBytes 2 key.location
@@ -66,7 +66,7 @@ pub record Content : Type 0 where
   pub segments : List ContentLine
 
 pub record IsContentLine (line : ContentLine) : Type 0 where
-  pub key : IsKey line.key
+  pub key : IsReportKey line.key
   pub start : IsInstant line.start
   pub samples : line.samples < 2 ^ 64
   pub records : line.records < 2 ^ 64

@@ -3,10 +3,10 @@ use Rattle.std.specs.Prelude.{◌≡◌, ℕ, ◌<◌, ◌≤◌, ◌^◌, ◌�
 use Rattle.std.specs.Fmt.{decimal}
 use Rattle.msr_time.specs.Instant.{IsInstant}
 use Rattle.msr_kinds.specs.Lengths.{bytes_of}
-use Rattle.msr_report.specs.Proper.{records_of}
+use Rattle.msr_report.specs.Proper.{records_in}
 use Rattle.msr_report.specs.Text.{end_line}
 use Rattle.msr_report.specs.declared.report.SegmentLine.{SegmentLine}
-use Rattle.msr_report_reader.specs.Content.{IsFirst, IsKey, IsContentLine, IsOpening, AreContentLineTexts, first_then, content_line}
+use Rattle.msr_report_reader.specs.Content.{IsFirst, IsReportKey, IsContentLine, IsOpening, AreContentLineTexts, first_then, content_line}
 use Rattle.msr_report_reader.specs.Fault.{IsOneLine, IsFaultLine}
 use Rattle.msr_report_reader.specs.TextFault.{IsTextFault}
 use Rattle.msr_report_reader.specs.declared.fault.ReportFault.{ReportFault}
@@ -54,7 +54,7 @@ pub record ReadOpening (first : FirstLines) (segments : List SegmentLine) (line 
   pub before : List ℕ
   pub read : ReadSegments first segments before
   pub opening : List ℕ
-  pub is_key : IsKey line.key
+  pub is_key : IsReportKey line.key
   pub start : IsInstant line.start
   pub samples : line.samples < 2 ^ 64
   pub records : line.records < 2 ^ 64
@@ -73,8 +73,8 @@ pub record ReadNumbers (first : FirstLines) (segments : List SegmentLine) (line 
 pub record ReadEnd (first : FirstLines) (segments : List SegmentLine) (past : List ℕ) : Type 0 where
   pub before : List ℕ
   pub read : ReadSegments first segments before
-  pub fits : records_of segments < 2 ^ 64
-  pub is : past ≡ before ++ end_line (length segments) (records_of segments)
+  pub fits : records_in segments < 2 ^ 64
+  pub is : past ≡ before ++ end_line (length segments) (records_in segments)
 
 -- the text that was read before what is expected
 abbrev pub ReadTo : Expected → List SegmentLine → List ℕ → List ℕ → Type 0
@@ -84,7 +84,7 @@ ReadTo (Separators first line) segments numbers past = ReadOpening first segment
 ReadTo (Number first line) segments numbers past = ReadNumbers first segments line numbers past
 ReadTo (End first) segments numbers past = ReadEnd first segments past
 
-pub record Follows (draft : Draft) (past : List ℕ) : Type 0 where
+pub record HasRead (draft : Draft) (past : List ℕ) : Type 0 where
   pub to : ReadTo draft.expected draft.segments.items draft.numbers.items past
 
 -- the first n bytes of the text were read
@@ -94,31 +94,32 @@ pub record IsConsumed (old new : Draft) (text : List ℕ) (n : ℕ) : Type 0 whe
   pub is : text ≡ taken ++ rest
   pub count : n ≡ length taken
   pub some : 0 < n
-  pub follows : (past : List ℕ) → Follows old past → Follows new (past ++ taken)
+  pub follows : (past : List ℕ) → HasRead old past → HasRead new (past ++ taken)
 
 -- if nothing follows the text, this line is at fault
 pub record IsCut (old new : Draft) (text : List ℕ) (line : ℕ) : Type 0 where
   pub same : new ≡ old
-  pub fault : (past : List ℕ) → Follows old past → IsFaultLine (past ++ text) line
+  pub fault : (past : List ℕ) → HasRead old past → IsFaultLine (past ++ text) line
 
 -- the text of a report was read, and nothing more
 pub record IsWhole (old new : Draft) (text : List ℕ) (first : FirstLines) : Type 0 where
   pub same : new ≡ old
   pub none : text ≡ []
-  pub read : (past : List ℕ) → Follows old past → ReadEnd first old.segments.items past
+  pub read : (past : List ℕ) → HasRead old past → ReadEnd first old.segments.items past
 
-abbrev pub IsStep : Draft → Draft → List ℕ → Result Progress ReportFault → Type 0
-IsStep old new text (Ok (Consumed n)) = IsConsumed old new text n
-IsStep old new text (Ok (Cut line)) = IsCut old new text line
-IsStep old new text (Ok (Whole first)) = IsWhole old new text first
-IsStep old new text (Err fault) = (past more : List ℕ) → Follows old past → IsTextFault (past ++ (text ++ more)) fault
+abbrev pub IsDraftStep : Draft → Draft → List ℕ → Result Progress ReportFault → Type 0
+IsDraftStep old new text (Ok (Consumed n)) = IsConsumed old new text n
+IsDraftStep old new text (Ok (Cut line)) = IsCut old new text line
+IsDraftStep old new text (Ok (Whole first)) = IsWhole old new text first
+IsDraftStep old new text (Err fault) =
+    (past more : List ℕ) → HasRead old past → IsTextFault (past ++ (text ++ more)) fault
 
 -- the line is cut, and more bytes can make it another; or it is at fault however the text goes on
-abbrev pub IsRefused : Bool → List ℕ → ℕ → Result Progress ReportFault → Type 0
-IsRefused begins text line (Ok (Consumed n)) = ⊥
-IsRefused begins text line (Ok (Cut n)) =
+abbrev pub IsLineRefused : Bool → List ℕ → ℕ → Result Progress ReportFault → Type 0
+IsLineRefused begins text line (Ok (Consumed n)) = ⊥
+IsLineRefused begins text line (Ok (Cut n)) =
     (n ≡ line) × ((begins ≡ true) × (IsOneLine text × (length text < line_limit)))
-IsRefused begins text line (Ok (Whole first)) = ⊥
-IsRefused begins text line (Err (Line n)) = (n ≡ line) × IsSettled begins text
-IsRefused begins text line (Err Read) = ⊥
-IsRefused begins text line (Err Memory) = ⊥
+IsLineRefused begins text line (Ok (Whole first)) = ⊥
+IsLineRefused begins text line (Err (Line n)) = (n ≡ line) × IsSettled begins text
+IsLineRefused begins text line (Err Read) = ⊥
+IsLineRefused begins text line (Err Memory) = ⊥

@@ -8,10 +8,10 @@ IsOneLine [] = Unit {0}
 IsOneLine (byte ∷ bytes) = ((byte == 10) ≡ false) × IsOneLine bytes
 
 -- the text is the given number of lines, each with its line feed
-abbrev pub AreLines : ℕ → List ℕ → Type 0
-AreLines zero text = text ≡ []
-AreLines (suc n) text = (line : List ℕ) × ((more : List ℕ)
-    × (IsOneLine line × AreLines n more × (text ≡ line ++ (10 ∷ more))))
+abbrev pub IsOfLines : ℕ → List ℕ → Type 0
+IsOfLines zero text = text ≡ []
+IsOfLines (suc n) text = (line : List ℕ) × ((more : List ℕ)
+    × (IsOneLine line × IsOfLines n more × (text ≡ line ++ (10 ∷ more))))
 
 -- The first n lines of the text, each with its line feed, begin the text of a report whose fields are in their
 -- ranges. If they are all its lines, its records fit 64 bits: that is a matter of the last line, which tells their
@@ -22,7 +22,7 @@ pub record BeginsReport (text : List ℕ) (n : ℕ) : Type 0 where
   pub behind : List ℕ
   pub rest : List ℕ
   pub is_content : IsContent content
-  pub lines : AreLines n first
+  pub lines : IsOfLines n first
   pub shown : text ≡ first ++ behind
   pub begins : IsContentText content (first ++ rest)
   pub records : rest ≡ [] → content_records content.segments < 2 ^ 64

@@ -23,9 +23,9 @@ pub record AreBytes (count : ℕ) (bytes : List ℕ) : Type 0 where
   pub each : (place : ℕ) → slice_index bytes place < 256
 
 -- the number that digits give after the number so far
-abbrev pub number_after : ℕ → List ℕ → ℕ
-number_after n [] = n
-number_after n (digit ∷ digits) = number_after (10 * n + (digit - 48)) digits
+abbrev pub with_digits : ℕ → List ℕ → ℕ
+with_digits n [] = n
+with_digits n (digit ∷ digits) = with_digits (10 * n + (digit - 48)) digits
 
 -- the words of a date, of a clock time and of a whole time, and then more text
 abbrev pub date_then : ℕ → ℕ → List ℕ → List ℕ

@@ -11,9 +11,9 @@ use Rattle.msr_report_reader.specs.declared.fault.ReportFault.{ReportFault}
 use Rattle.msr_report_reader.specs.declared.fault.ReportFault.TheVariants.{Line, Read, Memory}
 
 -- the fault of reading to which a fault of filling leads
-abbrev pub fault_of_fill : DeviceFault → ReportFault
-fault_of_fill fill.Failed = Read
-fault_of_fill fill.Memory = Memory
+abbrev pub report_fault_of_fill : DeviceFault → ReportFault
+report_fault_of_fill fill.Failed = Read
+report_fault_of_fill fill.Memory = Memory
 
 -- The report is proper, each of its fields is in the range of its type, and the text is its.
 pub record IsReadFrom (report : Report) (text : List ℕ) : Type 0 where

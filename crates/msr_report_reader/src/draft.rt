@@ -1,9 +1,9 @@
 //! A report that is read as its text comes.
 ghost use Rattle.std.specs.Prelude.{◌≡◌, ◌<◌, ◌+◌, ◌*◌, ◌^◌, ◌++◌, ◌∷◌, [], ℕ, List, Bool, All, IfOk, IfErr, IfSome, IsSomeAnd, SomeIff, OnOk, length, codes};
 ghost use Rattle.std.specs.Fmt.{decimal};
-ghost use Rattle.msr_report.specs.Proper.{records_of};
+ghost use Rattle.msr_report.specs.Proper.{records_in};
 ghost use Rattle.msr_report_reader.specs.Content.{lines_before};
-ghost use Rattle.msr_report_reader.specs.Draft.{Follows, IsRefused, IsStep, ReadOpening, numbers_then, stop_byte};
+ghost use Rattle.msr_report_reader.specs.Draft.{HasRead, IsDraftStep, IsLineRefused, ReadOpening, numbers_then, stop_byte};
 ghost use Rattle.msr_report_reader.specs.LastLine.{IsLast};
 ghost use Rattle.msr_report_reader.specs.Reading.{IsReadFrom};
 ghost use Rattle.msr_report_reader.specs.TextFault.{IsTextFault};
@@ -59,7 +59,7 @@ pub(crate) enum Progress {
 /// Answers that the line is at fault, or that it may be whole once more bytes come: `begins` says whether these may
 /// make the text begin with its word.
 fn refuse(text: &[u8], begins: bool, line: u64) -> Result<Progress, ReportFault>
-    ensures { IsRefused begins text.now line result }
+    ensures { IsLineRefused begins text.now line result }
 {
     if begins && text.len() < LINE_LIMIT && !text.contains(&b'\n') {
         Ok(Progress::Cut(line))
@@ -104,7 +104,7 @@ fn separator(text: &[u8]) -> Option<(u64, bool, &[u8])>
 
 /// How many records the segments have in all, if that fits 64 bits.
 fn all_records(segments: &[SegmentLine]) -> Option<u64>
-    ensures { SomeIff result (records_of segments.now < 2 ^ 64) (records_of segments.now) }
+    ensures { SomeIff result (records_in segments.now < 2 ^ 64) (records_in segments.now) }
 {
     let mut records = 0u64;
     for segment in segments {
@@ -128,7 +128,7 @@ fn last_line<'a>(text: &'a [u8], segments: &[SegmentLine]) -> Option<&'a [u8]>
 impl Draft {
     /// A draft before the first byte.
     pub(crate) fn new(alloc: Global) -> Draft
-        ensures { Follows result [] }
+        ensures { HasRead result [] }
     {
         Draft {
             alloc,
@@ -149,7 +149,7 @@ impl Draft {
 
     /// Reads what the text begins with: the lines before the segments, another line, or a word of the separators' line.
     pub(crate) fn step(&mut self, text: &[u8]) -> Result<Progress, ReportFault>
-        ensures { IsStep self.old self.new text.now result }
+        ensures { IsDraftStep self.old self.new text.now result }
     {
         match self.expected {
             Expected::Start => self.read_first(text),
@@ -162,7 +162,7 @@ impl Draft {
 
     /// Reads the lines before the segments.
     fn read_first(&mut self, text: &[u8]) -> Result<Progress, ReportFault>
-        ensures { self.old.expected ≡ Start → IsStep self.old self.new text.now result }
+        ensures { self.old.expected ≡ Start → IsDraftStep self.old self.new text.now result }
     {
         match first_lines(text) {
             Ok((first, rest)) => {
@@ -175,7 +175,7 @@ impl Draft {
 
     /// Reads the first line of a segment, or the last line.
     fn read_segment(&mut self, first: FirstLines, text: &[u8]) -> Result<Progress, ReportFault>
-        ensures { self.old.expected ≡ Segment first → IsStep self.old self.new text.now result }
+        ensures { self.old.expected ≡ Segment first → IsDraftStep self.old self.new text.now result }
     {
         if let Some((line, rest)) = opening(text) {
             self.expected = Expected::Separators(first, line);
@@ -196,7 +196,7 @@ impl Draft {
         line: FirstLine,
         text: &[u8],
     ) -> Result<Progress, ReportFault>
-        ensures { self.old.expected ≡ Separators first line → IsStep self.old self.new text.now result }
+        ensures { self.old.expected ≡ Separators first line → IsDraftStep self.old self.new text.now result }
     {
         let Some((last, rest)) = separators_word(text) else {
             let begins = may_begin(text, b"separators");
@@ -213,7 +213,7 @@ impl Draft {
         line: FirstLine,
         text: &[u8],
     ) -> Result<Progress, ReportFault>
-        ensures { self.old.expected ≡ Number first line → IsStep self.old self.new text.now result }
+        ensures { self.old.expected ≡ Number first line → IsDraftStep self.old self.new text.now result }
     {
         let Some((n, last, rest)) = separator(text) else {
             return refuse(text, may_be_number(text), 1 + self.line_after(first));
@@ -227,7 +227,7 @@ impl Draft {
     fn go_on(&mut self, first: FirstLines, line: FirstLine, last: bool) -> Result<(), AllocError>
         ensures { OnOk result ((past : List ℕ) → ReadOpening first self.old.segments.items line past
             → All (λ n. n < 2 ^ 64) self.old.numbers.items
-            → Follows self.new (past ++ numbers_then self.old.numbers.items last)) }
+            → HasRead self.new (past ++ numbers_then self.old.numbers.items last)) }
     {
         if !last {
             self.expected = Expected::Number(first, line);
@@ -247,7 +247,7 @@ impl Draft {
 
     /// Reads nothing after the last line: more text is a line at fault.
     fn read_nothing(&mut self, first: FirstLines, text: &[u8]) -> Result<Progress, ReportFault>
-        ensures { self.old.expected ≡ End first → IsStep self.old self.new text.now result }
+        ensures { self.old.expected ≡ End first → IsDraftStep self.old self.new text.now result }
     {
         if text.is_empty() {
             Ok(Progress::Whole(first))
@@ -258,9 +258,9 @@ impl Draft {
 
     /// Reads the text as all that is left.
     pub(crate) fn finish(mut self, text: &[u8]) -> Result<Report, ReportFault>
-        ensures found { (past : List ℕ) → Follows self past
+        ensures found { (past : List ℕ) → HasRead self past
             → IfOk result (λ report. IsReadFrom report (past ++ text.now)) }
-        ensures fault { (past : List ℕ) → Follows self past → IfErr result (IsTextFault (past ++ text.now)) }
+        ensures fault { (past : List ℕ) → HasRead self past → IfErr result (IsTextFault (past ++ text.now)) }
     {
         let mut rest = text;
         'reading: loop {

@@ -1,7 +1,7 @@
 //! Why a report is not read.
 ghost use Rattle.std.specs.Prelude.{◌≡◌};
 ghost use Rattle.msr_report_reader.specs.declared.fault.ReportFault.TheVariants.{Read, Memory};
-ghost use Rattle.msr_report_reader.specs.Reading.{fault_of_fill};
+ghost use Rattle.msr_report_reader.specs.Reading.{report_fault_of_fill};
 
 use msr_devices::DeviceFault;
 use std::alloc::{AllocError, AllocFailed};
@@ -38,7 +38,7 @@ impl<T: Drop> From<AllocFailed<T>> for ReportFault {
 }
 
 impl From<DeviceFault> for ReportFault {
-    ghost from_gives = { λ fill e. e ≡ fault_of_fill fill };
+    ghost from_gives = { λ fill e. e ≡ report_fault_of_fill fill };
 
     fn from(fault: DeviceFault) -> ReportFault {
         match fault {

@@ -7,8 +7,8 @@ ghost use Rattle.msr_report_reader.specs.Draft.{IsEnough};
 
 use crate::fields::{after, may_begin};
 use crate::lines::{counts, kinds, record_length, tolerance};
+use msr_base::Counts;
 use msr_kinds::{Kinds, Length};
-use msr_report::Counts;
 
 /// What the lines before the segments say.
 #[derive(Clone, Copy)]

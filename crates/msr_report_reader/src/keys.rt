@@ -5,7 +5,7 @@ ghost use Rattle.msr_report.specs.Text.{hex_text, field_text};
 ghost use Rattle.msr_report_reader.specs.Fields.{EndsNumber, AreBytes, name_then, rate_then, flags_then};
 ghost use Rattle.msr_header.specs.Reading.{is_quality};
 ghost use Rattle.msr_rows.specs.declared.row.Key.{Key as ChannelKey};
-ghost use Rattle.msr_report_reader.specs.Content.{IsKey, key_then};
+ghost use Rattle.msr_report_reader.specs.Content.{IsReportKey, key_then};
 
 use crate::fields::{after, counted, hex_byte, name_bytes, signed, signed_16};
 use msr_rows::Key;
@@ -37,7 +37,7 @@ struct ChannelName {
 /// Network, station, location and channel, with dots between them.
 fn channel_name(text: &[u8]) -> Option<(ChannelName, &[u8])>
     ensures found { IfSome result (λ x. text.now ≡ name_then x.0.network x.0.station x.0.location x.0.channel x.1.now) }
-    ensures only { (key : ChannelKey) (rest : List ℕ) → IsKey key
+    ensures only { (key : ChannelKey) (rest : List ℕ) → IsReportKey key
         → text.now ≡ name_then key.network key.station key.location key.channel rest
         → IsSomeAnd result (λ x. x.1.now ≡ rest) }
 {
@@ -57,7 +57,7 @@ fn channel_name(text: &[u8]) -> Option<(ChannelName, &[u8])>
 /// The factor and the multiplier of a rate.
 fn rate(text: &[u8]) -> Option<(i16, i16, &[u8])>
     ensures found { IfSome result (λ x. text.now ≡ rate_then x.0 x.1 x.2.now) }
-    ensures only { (key : ChannelKey) (rest : List ℕ) → IsKey key → EndsNumber rest
+    ensures only { (key : ChannelKey) (rest : List ℕ) → IsReportKey key → EndsNumber rest
         → text.now ≡ rate_then key.rate.factor key.rate.multiplier rest
         → IsSomeAnd result (λ x. (x.0 ≡ key.rate.factor) × (x.1 ≡ key.rate.multiplier) × (x.2.now ≡ rest)) }
 {
@@ -78,7 +78,7 @@ fn byte_after<'a>(text: &'a [u8], word: &[u8]) -> Option<(u8, &'a [u8])>
 /// The activity, clock and data quality flags.
 fn flags(text: &[u8]) -> Option<(u8, u8, u8, &[u8])>
     ensures found { IfSome result (λ x. text.now ≡ flags_then x.0 x.1 x.2 x.3.now) }
-    ensures only { (key : ChannelKey) (rest : List ℕ) → IsKey key
+    ensures only { (key : ChannelKey) (rest : List ℕ) → IsReportKey key
         → text.now ≡ flags_then key.activity key.clock key.data_quality rest
         → IsSomeAnd result (λ x. x.3.now ≡ rest) }
 {
@@ -107,7 +107,7 @@ fn named(text: &[u8]) -> Option<(ChannelName, u8, &[u8])>
     ensures found { IfSome result (λ x. text.now ≡ codes "segment "
         ++ name_then x.0.network x.0.station x.0.location x.0.channel (32 ∷ (x.1 ∷ x.2.now))) }
     ensures quality { IfSome result (λ x. IsTrue (is_quality x.1)) }
-    ensures only { (key : ChannelKey) (rest : List ℕ) → IsKey key
+    ensures only { (key : ChannelKey) (rest : List ℕ) → IsReportKey key
         → text.now ≡ codes "segment "
         ++ name_then key.network key.station key.location key.channel (32 ∷ (key.quality ∷ rest))
         → IsSomeAnd result (λ x. x.2.now ≡ rest) }
@@ -139,8 +139,8 @@ fn quality(text: &[u8]) -> Option<(u8, &[u8])>
 /// What a segment's line says up to the timing quality.
 pub(crate) fn channel_key(text: &[u8]) -> Option<(Key, &[u8])>
     ensures found { IfSome result (λ x. text.now ≡ key_then x.0 x.1.now) }
-    ensures is_key { IfSome result (λ x. IsKey x.0) }
-    ensures only { (key : ChannelKey) (rest : List ℕ) → IsKey key → EndsNumber rest → text.now ≡ key_then key rest
+    ensures is_key { IfSome result (λ x. IsReportKey x.0) }
+    ensures only { (key : ChannelKey) (rest : List ℕ) → IsReportKey key → EndsNumber rest → text.now ≡ key_then key rest
         → IsSomeAnd result (λ x. x.1.now ≡ rest) }
 {
     let (name, quality, text) = named(text)?;

@@ -2,10 +2,11 @@
 ghost use Rattle.std.specs.Prelude.{◌<◌, ◌^◌, All, IsTrue};
 ghost use Rattle.msr_header.specs.Reading.{is_quality};
 ghost use Rattle.msr_report.specs.Proper.{IsProper, IsProperLine};
-ghost use Rattle.msr_report_reader.specs.Content.{IsContent, IsContentLine, IsKey, content_line, content_of};
+ghost use Rattle.msr_report_reader.specs.Content.{IsContent, IsContentLine, IsReportKey, content_line, content_of};
 ghost use Rattle.msr_report_reader.specs.Laws.{NoLineAtFault, OneReport, TextIsReadBack};
 
-use msr_report::{Counts, Report, SegmentLine};
+use msr_base::Counts;
+use msr_report::{Report, SegmentLine};
 use msr_rows::Key;
 
 /// Two reports with the same text say the same.
@@ -40,7 +41,7 @@ pub fn line_in_range(line: &SegmentLine)
 }
 
 fn key_in_range(key: Key)
-    ensures { IsTrue (is_quality key.quality) → IsKey key }
+    ensures { IsTrue (is_quality key.quality) → IsReportKey key }
 {}
 
 fn numbers_in_range(numbers: &[u64])

@@ -7,13 +7,14 @@ ghost use Rattle.msr_kinds.specs.RecordLength.{IsRecordLength};
 ghost use Rattle.msr_kinds.specs.declared.kinds.Kinds.{Kinds as AChoice};
 ghost use Rattle.msr_report.specs.Text.{kinds_line};
 ghost use Rattle.msr_rows.specs.declared.row.Key.{Key as ChannelKey};
-ghost use Rattle.msr_report_reader.specs.Content.{IsKey, IsOpening};
+ghost use Rattle.msr_report_reader.specs.Content.{IsOpening, IsReportKey};
 
 use crate::fields::{after, counted};
 use crate::keys::channel_key;
 use crate::times::instant;
+use msr_base::Counts;
 use msr_kinds::{Kinds, Length};
-use msr_report::{Counts, kinds_line};
+use msr_report::kinds_line;
 use msr_rows::Key;
 
 /// The number that stands after the word and ends the line.
@@ -117,10 +118,10 @@ pub(crate) struct FirstLine {
 
 /// The first line of a segment.
 pub(crate) fn opening(text: &[u8]) -> Option<(FirstLine, &[u8])>
-    ensures is_key { IfSome result (λ x. IsKey x.0.key) }
+    ensures is_key { IfSome result (λ x. IsReportKey x.0.key) }
     ensures range { IfSome result (λ x. IsInstant x.0.start) }
     ensures found { IfSome result (λ x. IsOpening x.0.key x.0.start x.0.samples x.0.records x.1.now text.now) }
-    ensures only { (key : ChannelKey) (start : ℤ) (samples records : ℕ) (rest : List ℕ) → IsKey key
+    ensures only { (key : ChannelKey) (start : ℤ) (samples records : ℕ) (rest : List ℕ) → IsReportKey key
         → samples < 2 ^ 64 → records < 2 ^ 64
         → IsOpening key start samples records rest text.now
         → IsSomeAnd result (λ x. (x.0.records ≡ records) × (x.1.now ≡ rest)) }

@@ -2,7 +2,7 @@
 ghost use Rattle.std.specs.Prelude.{◌≡◌, ◌<◌, ◌≤◌, ◌^◌, ◌++◌, ◌+◌, ◌*◌, ℕ, ℤ, List, IfSome, IsSomeAnd, SomeIff, true, length};
 ghost use Rattle.std.specs.Str.{all_ascii_digits};
 ghost use Rattle.msr_report.specs.Text.{padded_decimal, IsTimeText};
-ghost use Rattle.msr_report_reader.specs.Fields.{number_after, date_then, clock_then, split_then};
+ghost use Rattle.msr_report_reader.specs.Fields.{with_digits, date_then, clock_then, split_then};
 ghost use Rattle.msr_time.specs.Instant.{IsTime, IsInstant};
 ghost use Rattle.msr_time.specs.declared.btime.BTime.{BTime as Time};
 
@@ -12,7 +12,7 @@ use msr_time::BTime;
 /// Gives the number that at most 6 digits make, if all bytes are digits.
 fn value_of(digits: &[u8]) -> Option<u32>
     requires { length digits.now ≤ 6 }
-    ensures { SomeIff result (all_ascii_digits digits.now ≡ true) (number_after 0 digits.now) }
+    ensures { SomeIff result (all_ascii_digits digits.now ≡ true) (with_digits 0 digits.now) }
 {
     let mut value = 0;
     for digit in digits {

@@ -9,7 +9,7 @@ use Rattle.msr_header.specs.declared.header.Header.{Header}
 use Rattle.msr_rows.specs.Records.{kind_of_code}
 use Rattle.msr_rows.specs.Correction.{key_of, start_of}
 use Rattle.msr_kinds.specs.Storage.{storage_of}
-use Rattle.msr_rows.specs.Area.{Carries, ReverseAgrees}
+use Rattle.msr_rows.specs.Area.{Carries, ReverseAgreesIfAny}
 use Rattle.msr_rows.specs.Records.{has_rate, has_area, field_faults, data_area, HasSamples, HasArea, IsOutOfTime, AgreesAtEnd, IsInTime, IsRefused}
 use Rattle.msr_base.specs.Faults.{first_fault, unless}
 use Rattle.msr_kinds.specs.declared.kinds.Kind.{Kind}
@@ -26,7 +26,7 @@ has_area_from bytes h kind read some fields code =
 
 -- the test of the reverse constant, for the record that the bytes begin with
 pub agrees_from : (bytes : List ℕ) (h : Header) (row : Row) (b : Bool) → header_of bytes ≡ Ok h
-    → (IsTrue b ↔ ReverseAgrees (storage_of row.kind) h.data_order (data_area h bytes) row.samples)
+    → (IsTrue b ↔ ReverseAgreesIfAny (storage_of row.kind) h.data_order (data_area h bytes) row.samples)
     → (IsTrue b ↔ AgreesAtEnd bytes row)
 agrees_from bytes h row b read test = (
   λ t. record { header = h; read = read; reverse = test.0 t },

@@ -22,6 +22,6 @@ AreaHasFault (Frames version) order area count (BadCode word) = IsUndefinedBefor
 AreaHasFault storage order area count _ = ⊥
 
 -- the last sample is the reverse constant; integers have none
-abbrev pub ReverseAgrees : Storage → Order → List ℕ → List ℤ → Type 0
-ReverseAgrees (Integers width) order area samples = Unit {0}
-ReverseAgrees (Frames version) order area samples = FramesAgree order area samples
+abbrev pub ReverseAgreesIfAny : Storage → Order → List ℕ → List ℤ → Type 0
+ReverseAgreesIfAny (Integers width) order area samples = Unit {0}
+ReverseAgreesIfAny (Frames version) order area samples = FramesAgree order area samples

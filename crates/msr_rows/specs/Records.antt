@@ -7,7 +7,7 @@ use Rattle.msr_base.specs.Faults.{first_fault, unless}
 use Rattle.msr_header.specs.Reading.{header_of}
 use Rattle.msr_header.specs.declared.header.Header.{Header}
 use Rattle.msr_rows.specs.Correction.{key_of, start_of}
-use Rattle.msr_rows.specs.Area.{Carries, AreaHasFault, ReverseAgrees}
+use Rattle.msr_rows.specs.Area.{Carries, AreaHasFault, ReverseAgreesIfAny}
 use Rattle.msr_kinds.specs.declared.kinds.Kind.{Kind}
 use Rattle.msr_kinds.specs.declared.kinds.Kind.TheVariants.{Int16, Int24, Int32, Steim1, Steim2}
 use Rattle.msr_kinds.specs.Storage.{storage_of}
@@ -123,7 +123,7 @@ IsRefused bytes Memory = ⊥
 pub record AgreesAtEnd (bytes : List ℕ) (row : Row) : Type 0 where
   pub header : Header
   pub read : header_of bytes ≡ Ok header
-  pub reverse : ReverseAgrees (storage_of row.kind) header.data_order (data_area header bytes) row.samples
+  pub reverse : ReverseAgreesIfAny (storage_of row.kind) header.data_order (data_area header bytes) row.samples
 
 -- the bytes begin with a record without a fault: its length, its row, and whether the reverse constant agrees
 pub record IsRecordOf (bytes : List ℕ) (found : Record) : Type 0 where
@@ -153,7 +153,7 @@ pub record IsRefusedBeforeTime (bytes : List ℕ) : Type 0 where
   pub before : fault ≢ TimeRange
 
 -- the rate and the kind are those of the record of this header, which has samples
-pub record AreFields (bytes : List ℕ) (header : Header) (fields : SampleRate × Kind) : Type 0 where
+pub record AreRateAndKind (bytes : List ℕ) (header : Header) (fields : SampleRate × Kind) : Type 0 where
   pub has_area : HasArea bytes header fields.1
   pub begins : header.data_at ≤ 2 ^ header.exponent
   pub factor : fields.0.factor ≡ header.factor
@@ -167,4 +167,4 @@ pub record IsOpened (bytes : List ℕ) (opened : Opened) : Type 0 where
   pub within : opened.length ≤ length bytes
   pub small : opened.length ≤ 1_048_576
   pub empty : IfNone opened.fields (opened.header.samples ≡ 0)
-  pub fields_are : IfSome opened.fields (AreFields bytes opened.header)
+  pub fields_are : IfSome opened.fields (AreRateAndKind bytes opened.header)

@@ -17,11 +17,11 @@ abbrev pub viewed_area : Header → List ℕ → List ℕ
 viewed_area header bytes = if header.samples == 0 then [] else data_area header bytes
 
 -- the key and the start of a row
-abbrev pub place_of : Option Row → Option (Key × ℤ)
-place_of None = None
-place_of (Some row) = Some (row.key, row.start)
+abbrev pub key_and_start : Option Row → Option (Key × ℤ)
+key_and_start None = None
+key_and_start (Some row) = Some (row.key, row.start)
 
 -- the samples of a row, if there is one
-abbrev pub samples_of : Option Row → List ℤ
-samples_of None = []
-samples_of (Some row) = row.samples
+abbrev pub samples_of_row : Option Row → List ℤ
+samples_of_row None = []
+samples_of_row (Some row) = row.samples

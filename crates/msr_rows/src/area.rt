@@ -1,11 +1,11 @@
 //! The samples of a data area.
 ghost use Rattle.std.specs.Prelude.{◌≡◌, ◌≢◌, ◌≤◌, ◌-◌, ◌↔◌, true, length, IfOk, IfErr, IsTrue};
-ghost use Rattle.msr_rows.specs.Area.{Carries, AreaHasFault, ReverseAgrees};
+ghost use Rattle.msr_rows.specs.Area.{Carries, AreaHasFault, ReverseAgreesIfAny};
 
 use crate::fault::FaultKind;
-use msr_header::Order;
+use msr_base::{Order, SampleVec};
 use msr_kinds::Storage;
-use msr_plain::{PlainFault, SampleVec, decode_plain_into};
+use msr_plain::{PlainFault, decode_plain_into};
 use msr_steim::{Decoded, SteimFault, decode_steim_into};
 
 /// The samples of an area that stores them so, in the memory of `spare`. It stands apart, so that its loops over words
@@ -22,7 +22,7 @@ pub(crate) fn decode_area(
     requires small { length area.now ≤ 1048576 }
     ensures samples { IfOk result (λ d. Carries storage order area.now d.samples) }
     ensures count { IfOk result (λ d. length d.samples ≡ count) }
-    ensures reverse { IfOk result (λ d. IsTrue d.reverse_agrees ↔ ReverseAgrees storage order area.now d.samples) }
+    ensures reverse { IfOk result (λ d. IsTrue d.reverse_agrees ↔ ReverseAgreesIfAny storage order area.now d.samples) }
     ensures fault { IfErr result (λ f. f ≢ FaultKind.Memory → AreaHasFault storage order area.now count f) }
 {
     let Ok(mut values) = spare.into_places(usize::from(count)) else {

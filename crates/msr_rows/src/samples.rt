@@ -3,10 +3,10 @@ ghost use Rattle.std.specs.Prelude.{◌≡◌, ◌≤◌, ◌↔◌, ℤ, [], le
 ghost use Rattle.std.specs.Iterator.{item_count};
 ghost use Rattle.msr_steim.specs.InOrder.{GivesFirst};
 ghost use Rattle.msr_steim.specs.Area.{CarriesSteim, ReverseAgrees as FramesAgree};
-ghost use Rattle.msr_rows.specs.Area.{Carries, AreaHasFault, ReverseAgrees};
+ghost use Rattle.msr_rows.specs.Area.{Carries, AreaHasFault, ReverseAgreesIfAny};
 
 use crate::fault::FaultKind;
-use msr_header::Order;
+use msr_base::Order;
 use msr_kinds::{Storage, Version};
 use msr_plain::{PlainSamples, plain_samples};
 use msr_steim::{SteimFault, SteimSamples, steim_samples};
@@ -111,7 +111,7 @@ pub(crate) fn view_area<'a>(
     requires small { length area.now ≤ 1048576 }
     ensures samples { IfOk result (λ s. Carries storage order area.now s.samples) }
     ensures count { IfOk result (λ s. length s.samples ≡ count) }
-    ensures reverse { IfOk result (λ s. IsTrue s.agrees ↔ ReverseAgrees storage order area.now s.samples) }
+    ensures reverse { IfOk result (λ s. IsTrue s.agrees ↔ ReverseAgreesIfAny storage order area.now s.samples) }
     ensures fault { IfErr result (AreaHasFault storage order area.now count) }
 {
     match storage {

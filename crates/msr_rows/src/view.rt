@@ -2,7 +2,7 @@
 ghost use Rattle.std.specs.Prelude.{◌≡◌, Ok, IfOk, IfErr, IsErrOf};
 ghost use Rattle.msr_header.specs.Reading.{header_of};
 ghost use Rattle.msr_rows.specs.Records.{first_bytes, IsRecordOf, IsRefused};
-ghost use Rattle.msr_rows.specs.Views.{place_of, samples_of, viewed_area};
+ghost use Rattle.msr_rows.specs.Views.{key_and_start, samples_of_row, viewed_area};
 
 use crate::fault::FaultKind;
 use crate::reading::{area_of, open_record, place_in_time};
@@ -68,7 +68,7 @@ impl<'a> RecordView<'a> {
 
     /// Its key and the instant of its first sample, if it has samples.
     pub fn place(&self) -> Option<(Key, i64)>
-        ensures { result ≡ place_of self.now.found.row }
+        ensures { result ≡ key_and_start self.now.found.row }
     {
         match &self.row {
             Some(row) => Some((row.key, row.start)),
@@ -78,7 +78,7 @@ impl<'a> RecordView<'a> {
 
     /// Its samples, one after the other.
     pub fn samples(&self) -> Samples<'a>
-        ensures samples { result.samples ≡ samples_of self.now.found.row }
+        ensures samples { result.samples ≡ samples_of_row self.now.found.row }
         ensures agrees { result.agrees ≡ self.now.found.reverse_agrees }
     {
         match &self.row {

@@ -3,7 +3,7 @@ use Rattle.std.proofs.Common.{◌≡◌, ℕ, suc, ◌<◌, List, [], ◌∷◌,
 use Rattle.std.proofs.lemmas.Bool.Decides.{nat_tests}
 use Rattle.msr_sds.specs.Separators.{Lacks, slash, dot}
 use Rattle.msr_sds.specs.Parts.{HaveNoSeparator}
-use Rattle.msr_sds.specs.SdsPath.{SdsPath, HasForm, OneReading, text_of, file_name, IsLocation, IsDataType, AreDigits}
+use Rattle.msr_sds.specs.SdsPath.{SdsPath, HasForm, OneReading, path_of, file_name, IsLocation, IsDataType, AreDigits}
 use Rattle.msr_sds.proofs.CutLemmas.{after_year, after_network, after_station, after_channel, from_station, from_location, from_channel, from_data_type, from_year}
 
 lacks_tail : (c b : ℕ) (bs : List ℕ) → Lacks c (b ∷ bs) → Lacks c bs
@@ -45,7 +45,7 @@ no_separator p form = record {
 }
 
 -- two paths with one text are the same
-one_path : (p q : SdsPath) → HasForm p → HasForm q → text_of p ≡ text_of q → p ≡ q
+one_path : (p q : SdsPath) → HasForm p → HasForm q → path_of p ≡ path_of q → p ≡ q
 one_path p q hp hq e =
     let a = no_separator p hp in
     let b = no_separator q hq in

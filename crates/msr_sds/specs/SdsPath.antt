@@ -29,8 +29,8 @@ in_folders p file =
     ++ dot ∷ (p.data_type ++ slash ∷ file))))
 
 -- the whole path
-abbrev pub text_of : SdsPath → List ℕ
-text_of p = in_folders p (file_name p)
+abbrev pub path_of : SdsPath → List ℕ
+path_of p = in_folders p (file_name p)
 
 -- the text is `count` decimal digits
 abbrev pub AreDigits : ℕ → List ℕ → Type 0
@@ -71,7 +71,7 @@ pub record HasDate (p : SdsPath) : Type 0 where
 -- the text reads as a path with these parts, each of its form
 pub record ReadsAs (text : List ℕ) (p : SdsPath) : Type 0 where
   pub form : HasForm p
-  pub spelled : text ≡ text_of p
+  pub spelled : text ≡ path_of p
 
 -- the text reads as the path of a day of waveform data
 pub record ReadsAsDay (text : List ℕ) (p : SdsPath) : Type 0 where

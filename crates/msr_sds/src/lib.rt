@@ -7,7 +7,7 @@ mod parts;
 
 ghost use Rattle.std.specs.Prelude.{◌≡◌, ◌↔◌, IfOk};
 ghost use Rattle.std.specs.String.{string_bytes};
-ghost use Rattle.msr_sds.specs.SdsPath.{SdsPath, ReadsAs, ReadsAsDay, IsWaveform, HasDate, OneReading, text_of};
+ghost use Rattle.msr_sds.specs.SdsPath.{SdsPath, ReadsAs, ReadsAsDay, IsWaveform, HasDate, OneReading, path_of};
 
 pub use folders::{FOLDERS, levels_below};
 use parts::Parts;
@@ -39,13 +39,13 @@ pub struct SdsName<'a> {
 impl<'a> Model for SdsName<'a> {
     ghost use Rattle.std.specs.Prelude.{◌≡◌};
     ghost use Rattle.msr_sds.specs.Parts.{parts_of};
-    ghost use Rattle.msr_sds.specs.SdsPath.{SdsPath, text_of};
+    ghost use Rattle.msr_sds.specs.SdsPath.{SdsPath, path_of};
 
     ghost Value = { SdsPath };
 
     ghost view = { λ name. parts_of name.parts };
 
-    ghost invariant = { λ name. name.path.now ≡ text_of (parts_of name.parts) };
+    ghost invariant = { λ name. name.path.now ≡ path_of (parts_of name.parts) };
 }
 
 impl<'a> SdsName<'a> {
@@ -103,7 +103,7 @@ impl<'a> SdsName<'a> {
 
     /// The path that was read.
     pub fn path_text(&self, alloc: Global) -> Result<String, AllocError>
-        ensures { IfOk result (λ text. string_bytes text ≡ text_of self.now) }
+        ensures { IfOk result (λ text. string_bytes text ≡ path_of self.now) }
     {
         String::from_str(alloc, self.path)
     }

@@ -2,7 +2,7 @@
 ghost use Rattle.std.specs.Prelude.{◌≡◌, ◌↔◌, ◌∷◌, ◌++◌, ◌<◌, ◌≤◌, ℕ, List, All, length, IsTrue, IfSome, IsSomeAnd};
 ghost use Rattle.std.specs.Char.{is_ascii_digit};
 ghost use Rattle.std.specs.Str.Parse.{digits_value};
-ghost use Rattle.msr_sds.specs.SdsPath.{SdsPath, ReadsAs, HasDate, HasForm, AreDigits, IsCode, IsLocation, IsDataType, in_folders, text_of, file_name};
+ghost use Rattle.msr_sds.specs.SdsPath.{SdsPath, ReadsAs, HasDate, HasForm, AreDigits, IsCode, IsLocation, IsDataType, in_folders, path_of, file_name};
 ghost use Rattle.msr_sds.specs.Parts.{parts_of, with_file, SameFolders, HaveNoSeparator};
 ghost use Rattle.msr_sds.specs.Separators.{Lacks, dot};
 
@@ -125,8 +125,8 @@ impl<'a> Parts<'a> {
 
     /// The parts between the separators, whatever they are.
     fn cut(text: &'a str) -> Option<Parts<'a>>
-        ensures found { IfSome result (λ parts. text.now ≡ text_of (parts_of parts)) }
-        ensures only { (path : SdsPath) → HaveNoSeparator path → text.now ≡ text_of path
+        ensures found { IfSome result (λ parts. text.now ≡ path_of (parts_of parts)) }
+        ensures only { (path : SdsPath) → HaveNoSeparator path → text.now ≡ path_of path
             → IsSomeAnd result (λ parts. parts_of parts ≡ path) }
     {
         let (parts, file) = Parts::cut_folders(text)?;

@@ -10,7 +10,7 @@ use Rattle.msr_segments.specs.declared.span.Span.{Span}
 use Rattle.msr_segments.specs.declared.joiner.Segment.{Segment}
 use Rattle.msr_segments.specs.declared.follow.Step.{Step}
 use Rattle.msr_segments.specs.declared.follow.Step.TheVariants.{Begins, Joins}
-use Rattle.msr_segments.specs.Spans.{Continues, Following, IsStep, longer}
+use Rattle.msr_segments.specs.Spans.{Continues, Following, TakesStep, longer}
 use Rattle.msr_segments.specs.Segments.{Part, segment_of, row_span, segment_span, row_segment, with_row, part_span, ContinuesSegment, IsDivision, AreSegments}
 use Rattle.msr_segments.specs.Joining.{steps_of, HasFollowed, Joining, HasJoined}
 use Rattle.msr_segments.proofs.Divisions.{no_empty, cases_last, ContinuesPart, longer_part, division_breaks, division_joins, division_begins, division_none, no_parts, segment_of_longer, segment_of_alone, span_with_row}
@@ -99,7 +99,7 @@ followed_joins old rows parts (Some p) answers row segment d t c e k =
     }
 
 pub followed_step : (old new : Following) (rows : List Row) (answers : List Step) (row : Row) (answer : Step)
-    → HasFollowed old rows answers → IsStep old (row_span row) answer new
+    → HasFollowed old rows answers → TakesStep old (row_span row) answer new
     → HasFollowed new (rows ++ row ∷ []) (answers ++ answer ∷ [])
 followed_step old new rows answers row Begins h k =
     rw k.after (followed_begins old rows rows h.ended h.last answers row h.division h.told h.current h.begun k.breaks)

@@ -6,7 +6,7 @@ use Rattle.msr_segments.specs.declared.span.Span.{Span}
 use Rattle.msr_segments.specs.declared.joiner.Segment.{Segment}
 use Rattle.msr_segments.specs.Spans.{Continues, SpanIsInTime, longer, Following, BeginsSegment, JoinsSegment}
 use Rattle.msr_segments.specs.Segments.{row_span, segment_span}
-use Rattle.msr_segments.specs.Joining.{segment_at, joining_of, following_of, IsCounted, JoinsRow, BeginsRow}
+use Rattle.msr_segments.specs.Joining.{segment_at, joining_of, following_of, AreAsMany, JoinsRow, BeginsRow}
 use Rattle.msr_segments.proofs.Divisions.{span_with_row}
 
 -- a row that continues a segment, and with which it stays in time, joins it
@@ -50,21 +50,21 @@ begins_after old row tolerance e breaks = record {
 span_at : (samples : List ℤ) (span : Span) → span.count ≡ length samples → segment_span (segment_at samples span) ≡ span
 span_at samples span e = ap (λ (n : ℕ). record { key = span.key; start = span.start; count = n }) (sym e)
 
-same_current : (samples : List ℤ) (current : Option Span) → IsCounted current samples
+same_current : (samples : List ℤ) (current : Option Span) → AreAsMany current samples
     → option_map segment_span (option_map (segment_at samples) current) ≡ current
 same_current samples None h = refl
 same_current samples (Some span) h = ap (λ (s : Span). Some s) (span_at samples span (h span refl))
 
 -- a joiner without its samples is its follower
-pub following_same : (following : Following) (samples : List ℤ) → IsCounted following.current samples
+pub following_same : (following : Following) (samples : List ℤ) → AreAsMany following.current samples
     → following_of (joining_of following samples) ≡ following
 following_same following samples h =
     ap (λ (o : Option Span). record { tolerance = following.tolerance; current = o })
     (same_current samples following.current h)
 
 -- the samples stay as many as the follower says
-pub counted_joins : (old new : Following) (samples more : List ℤ) (row : Row) → IsCounted old.current samples
-    → JoinsSegment old (row_span row) new → more ≡ samples ++ row.samples → IsCounted new.current more
+pub counted_joins : (old new : Following) (samples more : List ℤ) (row : Row) → AreAsMany old.current samples
+    → JoinsSegment old (row_span row) new → more ≡ samples ++ row.samples → AreAsMany new.current more
 counted_joins old new samples more row counted k e span is =
     let after = ap (λ (f : Following). f.current) k.after in
     let some : Some span ≡ Some (longer k.segment (row_span row)) = sym is ∙ after in
@@ -73,7 +73,7 @@ counted_joins old new samples more row counted k e span is =
     ∙ sym (length-append samples row.samples) ∙ ap length (sym e)
 
 -- what a joiner shows once its follower and its samples have moved on
-pub moved_joins : (old new : Following) (samples more : List ℤ) (row : Row) → IsCounted old.current samples
+pub moved_joins : (old new : Following) (samples more : List ℤ) (row : Row) → AreAsMany old.current samples
     → JoinsSegment old (row_span row) new → more ≡ samples ++ row.samples
     → JoinsRow (joining_of old samples) row None (joining_of new more)
 moved_joins old new samples more row counted k e =
@@ -95,7 +95,7 @@ current_at : (samples : List ℤ) (current : Option Span) (s : Segment) → opti
 current_at samples None s e = absurd cc
 current_at samples (Some span) s e = let same : s ≡ segment_at samples span = cc in (span, refl, same)
 
-pub moved_begins : (old new : Following) (samples : List ℤ) (row : Row) → IsCounted old.current samples
+pub moved_begins : (old new : Following) (samples : List ℤ) (row : Row) → AreAsMany old.current samples
     → BeginsSegment old (row_span row) new → BeginsRow (joining_of old samples) row
     (option_map (segment_at samples) old.current) (joining_of new row.samples)
 moved_begins old new samples row counted k = record {

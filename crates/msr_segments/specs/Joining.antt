@@ -8,7 +8,7 @@ use Rattle.msr_segments.specs.declared.span.Span.{Span}
 use Rattle.msr_segments.specs.declared.joiner.Segment.{Segment}
 use Rattle.msr_segments.specs.declared.follow.Step.{Step}
 use Rattle.msr_segments.specs.declared.follow.Step.TheVariants.{Begins, Joins}
-use Rattle.msr_segments.specs.Spans.{Following, Overruns, IsStep}
+use Rattle.msr_segments.specs.Spans.{Following, Overruns, TakesStep}
 use Rattle.msr_segments.specs.Segments.{Part, row_span, segment_span, row_segment, with_row, part_span, ContinuesSegment, SegmentIsInTime, IsDivision, AreSegments, LastEndsOutOfRange}
 
 -- the answers for the rows of a part
@@ -78,7 +78,7 @@ PushesGrowSegments =
 abbrev pub StepsArePushes : Type 0
 StepsArePushes =
     (old : Joining) (row : Row) (answer : Step) (next : Following)
-    → IsStep (following_of old) (row_span row) answer next
+    → TakesStep (following_of old) (row_span row) answer next
     → (new : Joining) × (ended : Option Segment) × IsPushTold answer old row ended new × IsPush old row ended new
     × (next ≡ following_of new)
 
@@ -105,8 +105,8 @@ abbrev pub segment_at : List ℤ → Span → Segment
 segment_at samples span = record { key = span.key; start = span.start; samples = samples }
 
 -- the samples are as many as the span says
-abbrev pub IsCounted : Option Span → List ℤ → Type 0
-IsCounted current samples = (span : Span) → current ≡ Some span → span.count ≡ length samples
+abbrev pub AreAsMany : Option Span → List ℤ → Type 0
+AreAsMany current samples = (span : Span) → current ≡ Some span → span.count ≡ length samples
 
 -- a joiner's follower and samples together
 abbrev pub joining_of : Following → List ℤ → Joining

@@ -66,6 +66,6 @@ pub record JoinsSegment (old : Following) (row : Span) (new : Following) : Type 
   pub after : new ≡ record { tolerance = old.tolerance; current = Some (longer segment row) }
 
 -- what the answer for a row says
-abbrev pub IsStep : Following → Span → Step → Following → Type 0
-IsStep old row Begins new = BeginsSegment old row new
-IsStep old row Joins new = JoinsSegment old row new
+abbrev pub TakesStep : Following → Span → Step → Following → Type 0
+TakesStep old row Begins new = BeginsSegment old row new
+TakesStep old row Joins new = JoinsSegment old row new

@@ -38,7 +38,7 @@ impl Follow {
     ghost use Rattle.msr_time.specs.Instant.{IsInstant};
     ghost use Rattle.msr_rows.specs.declared.row.Row.{Row};
     ghost use Rattle.msr_segments.specs.declared.follow.Step.{Step as Answer};
-    ghost use Rattle.msr_segments.specs.Spans.{Overruns, IsInBounds, IsStep, span_of};
+    ghost use Rattle.msr_segments.specs.Spans.{Overruns, IsInBounds, TakesStep, span_of};
     ghost use Rattle.msr_segments.specs.Segments.{row_span};
     ghost use Rattle.msr_segments.specs.Joining.{HasFollowed};
 
@@ -66,7 +66,7 @@ impl Follow {
         requires count { 1 ≤ count }
         requires start { IsInstant start }
         ensures out_of_range { IsErr result ↔ Overruns self.old (span_of key.now start count) }
-        ensures step { IfOk result (λ answer. IsStep self.old (span_of key.now start count) answer self.new) }
+        ensures step { IfOk result (λ answer. TakesStep self.old (span_of key.now start count) answer self.new) }
         ensures unchanged { OnErr result (self.new ≡ self.old) }
         ensures in_bounds { OnOk result (IsInBounds self.new.current) }
 

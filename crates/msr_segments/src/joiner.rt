@@ -44,13 +44,13 @@ pub struct Joiner {
 }
 
 impl Model for Joiner {
-    ghost use Rattle.msr_segments.specs.Joining.{Joining, joining_of, IsCounted};
+    ghost use Rattle.msr_segments.specs.Joining.{AreAsMany, Joining, joining_of};
 
     ghost Value = { Joining };
 
     ghost view = { λ j. joining_of j.follow j.samples };
 
-    ghost invariant = { λ j. IsCounted j.follow.current j.samples };
+    ghost invariant = { λ j. AreAsMany j.follow.current j.samples };
 }
 
 impl Joiner {

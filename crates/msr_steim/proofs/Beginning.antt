@@ -9,7 +9,7 @@ use Rattle.msr_base.specs.declared.order.Order.{Order}
 use Rattle.msr_steim.specs.declared.sums.Progress.{Progress}
 use Rattle.msr_steim.specs.declared.word.WordLayout.{WordLayout}
 use Rattle.msr_kinds.specs.declared.storage.Version.{Version}
-use Rattle.msr_steim.specs.Area.{FirstWordsHold, WordHolds, arranged_word, code_of, constant, differences, samples_of, sums_after, whole_word, word_count}
+use Rattle.msr_steim.specs.Area.{FirstWordsHold, WordHolds, arranged_word, constant, joined_groups, samples_of, sums_after, whole_word, word_code, word_count}
 use Rattle.msr_steim.specs.InOrder.{BeginsAfter, differences_from, numbers_of, word_differences}
 use Rattle.msr_steim.specs.Sums.{IsWritten, ReachesEnd}
 use Rattle.msr_steim.specs.Word.{AreFields, layout_of}
@@ -31,7 +31,7 @@ held_differences : (version : Version) (order : Order) (area : List ℕ) (number
     → WordHolds version order area number group → word_differences version order area number ≡ group
 unfolding word_differences
 held_differences version order area number group holds =
-    let code = code_of order area number in
+    let code = word_code order area number in
     let word = arranged_word version order code area number in
     let layout = layout_of version code (word / 2 ^ 30) in
     holds_one version code word (numbers_of layout word) group
@@ -47,7 +47,7 @@ one_group version order area number group within holds =
 -- the groups of the first words are the first differences
 pub held_in_order : (version : Version) (order : Order) (area : List ℕ) (groups : List (List ℤ)) (words : ℕ)
     → FirstWordsHold version order area groups → words ≤ length groups
-    → differences_from version order area 0 ≡ differences (take words groups)
+    → differences_from version order area 0 ≡ joined_groups (take words groups)
     ++ differences_from version order area words
 held_in_order version order area groups zero held within = refl
 held_in_order version order area groups (suc words) held within =
@@ -56,14 +56,14 @@ held_in_order version order area groups (suc words) held within =
     let rest = differences_from version order area (words + 1) in
     let here : words < length groups = omega (arith, within) in
     let below : words < word_count area = omega (arith, held.within, here) in
-    let more : differences (take (words + 1) groups) ≡ differences front ++ group =
-    ap differences (take_more groups words [] here) ∙ differences_push front group in
+    let more : joined_groups (take (words + 1) groups) ≡ joined_groups front ++ group =
+    ap joined_groups (take_more groups words [] here) ∙ differences_push front group in
     let next : words + 1 ≡ suc words = omega arith in
-    let so : differences_from version order area 0 ≡ differences (take (words + 1) groups) ++ rest =
+    let so : differences_from version order area 0 ≡ joined_groups (take (words + 1) groups) ++ rest =
     held_in_order version order area groups words held (omega (arith, within))
-    ∙ ap (λ ds. differences front ++ ds) (one_group version order area words group below (held.each words here))
-    ∙ sym (append_assoc (differences front) group rest) ∙ ap (λ ds. ds ++ rest) (sym more) in
-    subst (λ n. differences_from version order area 0 ≡ differences (take n groups)
+    ∙ ap (λ ds. joined_groups front ++ ds) (one_group version order area words group below (held.each words here))
+    ∙ sym (append_assoc (joined_groups front) group rest) ∙ ap (λ ds. ds ++ rest) (sym more) in
+    subst (λ n. differences_from version order area 0 ≡ joined_groups (take n groups)
     ++ differences_from version order area n) next so
 
 -- ---- what the first difference is added to
@@ -82,11 +82,11 @@ pub none_before : (version : Version) (order : Order) (area : List ℕ) (count n
     → AreReadBelow version order area count number (constant order area 1) samples → length samples ≡ 0
     → differences_from version order area 0 ≡ differences_from version order area number
 none_before version order area count number samples read none =
-    let size : length (differences read.groups) ≡ 0 =
-    sym (length-samples_of (constant order area 1) (differences read.groups)) ∙ ap length (sym read.sums) ∙ none in
-    let empty : differences read.groups ≡ [] = no_samples (constant order area 1) (differences read.groups) size in
+    let size : length (joined_groups read.groups) ≡ 0 =
+    sym (length-samples_of (constant order area 1) (joined_groups read.groups)) ∙ ap length (sym read.sums) ∙ none in
+    let empty : joined_groups read.groups ≡ [] = no_samples (constant order area 1) (joined_groups read.groups) size in
     held_in_order version order area read.groups (length read.groups) read.held (omega arith)
-    ∙ ap (λ gs. differences gs ++ differences_from version order area (length read.groups))
+    ∙ ap (λ gs. joined_groups gs ++ differences_from version order area (length read.groups))
     (take_all (length read.groups) read.groups (omega arith))
     ∙ ap (λ ds. ds ++ differences_from version order area (length read.groups)) empty
     ∙ ap (differences_from version order area) read.number_is
@@ -103,7 +103,7 @@ begins_here version order area count number samples group last read none begins 
 -- the first samples begin after it, the others after the one before
 pub starts_here : (version : Version) (order : Order) (area : List ℕ) (number code word : ℕ) (at : Progress) (out : List ℤ)
     → IsReached version order area number at out → (at.place ≡ 0 → BeginsAfter version order area at.last)
-    → number < word_count area → code ≡ code_of order area number
+    → number < word_count area → code ≡ word_code order area number
     → word ≡ arranged_word version order code area number → IsStart version code word (constant order area 1) at at
 starts_here version order area number code word at out reached begins within code_is word_is = record {
   place = refl;
@@ -150,7 +150,7 @@ end_reached version code word at next old new ends written room same =
 -- the highest bits are the code of the next word
 pub code_here : (order : Order) (area : List ℕ) (frame slot codes : ℕ) → 1 ≤ slot → slot < 16
     → 3 ≤ 16 * frame + slot → codes ≡ whole_word order area (16 * frame) * 2 ^ (2 * slot) % 4294967296
-    → codes / 1073741824 ≡ code_of order area (16 * frame + slot)
+    → codes / 1073741824 ≡ word_code order area (16 * frame + slot)
 code_here order area frame slot codes some small late same =
     let word = whole_word order area (16 * frame) in
     code_data order area frame slot word (codes / 1073741824) some small late refl

@@ -8,8 +8,8 @@ use Rattle.msr_base.specs.declared.order.Order.{Order}
 use Rattle.msr_steim.specs.declared.sums.Progress.{Progress}
 use Rattle.msr_steim.specs.declared.word.WordLayout.{WordLayout}
 use Rattle.msr_kinds.specs.declared.storage.Version.{Version}
-use Rattle.msr_steim.specs.Area.{CarriesSteim, WordHolds, arranged_word, code_of, constant, differences, samples_of, sums_after, whole_word, word_count}
-use Rattle.msr_steim.specs.InOrder.{BeginsAfter, HasSamples, differences_from}
+use Rattle.msr_steim.specs.Area.{CarriesSteim, WordHolds, arranged_word, constant, joined_groups, samples_of, sums_after, whole_word, word_code, word_count}
+use Rattle.msr_steim.specs.InOrder.{BeginsAfter, CarriesCount, differences_from}
 use Rattle.msr_steim.specs.Sums.{IsInnerWritten, ReachesEnd}
 use Rattle.msr_steim.specs.Word.{AreFields, IsUndefinedWord, layout_of, numbers_in}
 use Rattle.msr_steim.proofs.Beginning.{begins_here, begins_on, code_here, held_in_order}
@@ -83,7 +83,7 @@ pub record IsLookedAt (version : Version) (order : Order) (area : List ℕ) (num
   pub inner : IsInnerWritten version code word at old new next
   pub zeroth : at.place ≡ 0
   pub same : length new ≡ length old
-  pub code_is : code ≡ code_of order area number
+  pub code_is : code ≡ word_code order area number
   pub word_is : word ≡ arranged_word version order code area number
   pub within : number < word_count area
 
@@ -198,7 +198,7 @@ module _ (version : Version) (order : Order) (area : List ℕ) (number count lef
   -- none is left: what the places have up to the last sample is the end of the samples
   pub passed_enough : left ≤ next.place → (agrees : Bool) (last : List ℤ) → last ≡ take left new
       → (IsTrue agrees ↔ (slice_get last (length last - 1) ≡ Some (constant order area 2)))
-      → HasSamples version order area count agrees
+      → CarriesCount version order area count agrees
   passed_enough enough agrees last last_is test =
       let size : length (take count all) ≡ count = length-take count all
       ∙ omega (arith, length-all, passed.left_is, enough) in
@@ -211,7 +211,7 @@ module _ (version : Version) (order : Order) (area : List ℕ) (number count lef
         passed.left_is,
         passed.read.few,
         ap length passed.read.sums,
-        length-samples_of (constant order area 1) (differences passed.read.groups),
+        length-samples_of (constant order area 1) (joined_groups passed.read.groups),
       ) in
       let some : 0 < length last =
       omega (arith, few, ap length last_is, length-take left new, enough, looked.inner.room, looked.same) in
@@ -235,8 +235,8 @@ pub in_order_is : (version : Version) (order : Order) (area : List ℕ) (ds samp
 in_order_is version order area ds samples before c same begins =
     let first = constant order area 1 in
     let more = differences_from version order area (length c.groups) in
-    let spread : differences_from version order area 0 ≡ differences c.groups ++ more =
+    let spread : differences_from version order area 0 ≡ joined_groups c.groups ++ more =
     held_in_order version order area c.groups (length c.groups) c.held (omega arith)
-    ∙ ap (λ gs. differences gs ++ more) (take_all (length c.groups) c.groups (omega arith)) in
-    c.sums ∙ sym (samples_more first (differences c.groups) more (length samples) c.enough)
+    ∙ ap (λ gs. joined_groups gs ++ more) (take_all (length c.groups) c.groups (omega arith)) in
+    c.sums ∙ sym (samples_more first (joined_groups c.groups) more (length samples) c.enough)
     ∙ ap (λ xs. take (length samples) (samples_of first xs)) (sym spread ∙ same) ∙ ap (take (length samples)) begins

@@ -8,7 +8,7 @@ use Rattle.std.proofs.lemmas.Bool.{cases_lt}
 use Rattle.std.proofs.lemmas.Grind.{flat_map-append}
 use Rattle.msr_base.specs.declared.order.Order.{Order}
 use Rattle.msr_kinds.specs.declared.storage.Version.{Version}
-use Rattle.msr_steim.specs.Area.{CarriesSteim, FirstWordsHold, WordHolds, constant, differences, samples_of, sums_after, word_count}
+use Rattle.msr_steim.specs.Area.{CarriesSteim, FirstWordsHold, WordHolds, constant, joined_groups, samples_of, sums_after, word_count}
 
 pub sums_after_push : (x : ℤ) (es : List ℤ) (d : ℤ) → sums_after x (es ++ d ∷ []) ≡ sums_after x es
     ++ int_wrap w32 (get_or (x ∷ sums_after x es) (length (sums_after x es)) (pos 0) +ℤ d) ∷ []
@@ -31,8 +31,8 @@ pub record AreReadBelow (version : Version) (order : Order) (area : List ℕ) (c
   pub groups : List (List ℤ)
   pub held : FirstWordsHold version order area groups
   pub number_is : length groups ≡ number
-  pub few : length (differences groups) < count
-  pub sums : samples ≡ samples_of first (differences groups)
+  pub few : length (joined_groups groups) < count
+  pub sums : samples ≡ samples_of first (joined_groups groups)
 
 pub one_more_held : (version : Version) (order : Order) (area : List ℕ) (groups : List (List ℤ)) (group : List ℤ)
     → FirstWordsHold version order area groups → length groups < word_count area
@@ -50,9 +50,9 @@ one_more_held version order area groups group held within here = record {
         (rw (get_or-append_seam groups group [] []) here)) (cases_lt n (length groups))
 
 pub differences_push : (groups : List (List ℤ)) (group : List ℤ)
-    → differences (groups ++ group ∷ []) ≡ differences groups ++ group
+    → joined_groups (groups ++ group ∷ []) ≡ joined_groups groups ++ group
 differences_push groups group = flat_map-append (λ g. g) groups (group ∷ [])
-    ∙ ap (λ g. differences groups ++ g) (append-nil group)
+    ∙ ap (λ g. joined_groups groups ++ g) (append-nil group)
 
 -- one more word, and still too few samples
 pub read_more : (version : Version) (order : Order) (area : List ℕ) (count number : ℕ) (first : ℤ)
@@ -61,10 +61,10 @@ pub read_more : (version : Version) (order : Order) (area : List ℕ) (count num
     → ((before : List ℤ) → old ≡ samples_of first before → new ≡ take count (samples_of first (before ++ group)))
     → length new ≢ count → AreReadBelow version order area count (number + 1) first new
 read_more version order area count number first old new group read within here pushed unlike =
-    let ds = differences read.groups ++ group in
+    let ds = joined_groups read.groups ++ group in
     let here_so : WordHolds version order area (length read.groups) group = rw read.number_is here in
-    let more : differences (read.groups ++ group ∷ []) ≡ ds = differences_push read.groups group in
-    let cut : new ≡ take count (samples_of first ds) = pushed (differences read.groups) read.sums in
+    let more : joined_groups (read.groups ++ group ∷ []) ≡ ds = differences_push read.groups group in
+    let cut : new ≡ take count (samples_of first ds) = pushed (joined_groups read.groups) read.sums in
     let size : length new ≡ min count (length (samples_of first ds)) = ap length cut
     ∙ length-take count (samples_of first ds) in
     let number_of_samples : length (samples_of first ds) ≡ length ds = length-samples_of first ds in
@@ -86,10 +86,10 @@ pub read_enough : (version : Version) (order : Order) (area : List ℕ) (count n
     → length new ≡ count → CarriesSteim version order area new
 read_enough version order area count number old new group read within here pushed same =
     let first = constant order area 1 in
-    let ds = differences read.groups ++ group in
+    let ds = joined_groups read.groups ++ group in
     let here_so : WordHolds version order area (length read.groups) group = rw read.number_is here in
-    let more : differences (read.groups ++ group ∷ []) ≡ ds = differences_push read.groups group in
-    let cut : new ≡ take count (samples_of first ds) = pushed (differences read.groups) read.sums in
+    let more : joined_groups (read.groups ++ group ∷ []) ≡ ds = differences_push read.groups group in
+    let cut : new ≡ take count (samples_of first ds) = pushed (joined_groups read.groups) read.sums in
     let size : length new ≡ min count (length (samples_of first ds)) = ap length cut
     ∙ length-take count (samples_of first ds) in
     let number_of_samples : length (samples_of first ds) ≡ length ds = length-samples_of first ds in

@@ -22,7 +22,7 @@ use Rattle.msr_base.specs.declared.order.Order.TheVariants.{Big}
 use Rattle.msr_kinds.specs.declared.storage.Version.{Version}
 use Rattle.msr_kinds.specs.declared.storage.Version.TheVariants.{One, Two}
 use Rattle.msr_steim.specs.Word.{AreGroups, FitsBits, Holds, IsGroup, IsInnerGroup, IsWordOf, as_read, layout_of, group_code, group_width, group_word, joined_fields, padding_of}
-use Rattle.msr_steim.specs.Area.{CarriesSteim, FirstWordsHold, ReverseAgrees, WordHolds, arranged_word, code_of, constant, differences, samples_of, sums_after, whole_word}
+use Rattle.msr_steim.specs.Area.{CarriesSteim, FirstWordsHold, ReverseAgrees, WordHolds, arranged_word, constant, joined_groups, samples_of, sums_after, whole_word, word_code}
 use Rattle.msr_steim.specs.Frames.{code_in, codes_word, differences_after, frame_bytes, frame_word, frame_words, group_in}
 use Rattle.msr_steim.proofs.Fields.{joined_fields_lt, all_fit_zeros, pow_pow}
 use Rattle.msr_steim.proofs.OneList.{number_after}
@@ -248,7 +248,7 @@ code_cases version false g x e = e
 -- a code of the area is the code of the word with that number
 code_is : (version : Version) (first last : ℤ) (gs : List (List ℤ)) (frames number : ℕ) → AreGroups version gs
     → SFits w32 first → SFits w32 last → number < 16 * frames
-    → code_of Big (frame_bytes version first last gs frames) number ≡ code_in version gs number
+    → word_code Big (frame_bytes version first last gs frames) number ≡ code_in version gs number
 code_is version first last gs frames number are f g within =
     let s = number / 16 * 16 in
     let p = number % 16 in
@@ -332,10 +332,10 @@ word_holds_group : (version : Version) (first last : ℤ) (gs : List (List ℤ))
     → WordHolds version Big (frame_bytes version first last gs frames) number (as_read version (group_in gs number))
 word_holds_group version first last gs frames number are f g within =
     let area = frame_bytes version first last gs frames in
-    held_here version gs number (code_of Big area number)
-    (arranged_word version Big (code_of Big area number) area number) are
+    held_here version gs number (word_code Big area number)
+    (arranged_word version Big (word_code Big area number) area number) are
     (code_is version first last gs frames number are f g within)
-    (λ e. arranged_is version (code_of Big area number) area number
+    (λ e. arranged_is version (word_code Big area number) area number
     ∙ word_is version first last gs frames number are f g within ∙ data_word version first last gs number e)
 
 pub length-frame_bytes : (version : Version) (first last : ℤ) (gs : List (List ℤ)) (frames : ℕ)
@@ -450,7 +450,7 @@ inner_as_read Two g is = append-nil g
 -- all words together have the differences of the groups, and then what pads the last of them
 record ArePadded (version : Version) (gs : List (List ℤ)) : Type 0 where
   padding : List ℤ
-  join : flat_map (as_read version) gs ≡ differences gs ++ padding
+  join : flat_map (as_read version) gs ≡ joined_groups gs ++ padding
 
 are_padded : (version : Version) (gs : List (List ℤ)) → AreGroups version gs → ArePadded version gs
 are_padded version [] are = record { padding = []; join = refl }
@@ -464,7 +464,7 @@ are_padded version (g ∷ h ∷ gs) are =
     record {
       padding = r.padding;
       join = ap (λ xs. xs ++ flat_map (as_read version) (h ∷ gs)) (inner_as_read version g are.0)
-          ∙ ap (λ xs. g ++ xs) r.join ∙ sym (append_assoc g (differences (h ∷ gs)) r.padding);
+          ∙ ap (λ xs. g ++ xs) r.join ∙ sym (append_assoc g (joined_groups (h ∷ gs)) r.padding);
     }
 
 -- ---- the samples
@@ -520,7 +520,7 @@ filled_agrees version first last gs xs frames are some f g is = is
     ∙ ap Some (sym (filled_reverse version first last gs frames are some f g))
 
 pub filled_carries : (version : Version) (before last : ℤ) (gs : List (List ℤ)) (xs : List ℤ) (frames : ℕ)
-    → AreGroups version gs → length gs + 2 ≤ 15 * frames → differences gs ≡ differences_after before xs
+    → AreGroups version gs → length gs + 2 ≤ 15 * frames → joined_groups gs ≡ differences_after before xs
     → All (SFits w32) xs → SFits w32 last → CarriesSteim version Big
     (frame_bytes version (get_or xs 0 (pos 0)) last gs frames) xs
 filled_carries version before last gs xs frames are room join fit g =
@@ -532,11 +532,11 @@ filled_carries version before last gs xs frames are room join fit g =
     let padded = are_padded version gs are in
     let places : 16 * frames - (16 * frames + 15) / 16 - 2 ≡ 15 * frames - 2 = omega arith in
     let ds = differences_after before xs in
-    let spelled : differences held ≡ ds ++ padded.padding =
+    let spelled : joined_groups held ≡ ds ++ padded.padding =
     groups_below version gs (16 * frames) ∙ ap (λ k. flat_map (as_read version) (take k gs)) places
     ∙ ap (flat_map (as_read version)) (take_all (15 * frames - 2) gs (omega arith)) ∙ padded.join
     ∙ ap (λ d. d ++ padded.padding) join in
-    let size : length (differences held) ≡ length xs + length padded.padding = ap length spelled
+    let size : length (joined_groups held) ≡ length xs + length padded.padding = ap length spelled
     ∙ length-append ds padded.padding ∙ ap (λ n. n + length padded.padding) (length-differences_after before xs) in
     let first_is : constant Big area 1 ≡ first = (constant_is version first last gs frames are f g (omega arith)).0 in
     let few : length xs ≤ length ds = subst (λ n. length xs ≤ n) (sym (length-differences_after before xs))
@@ -545,7 +545,7 @@ filled_carries version before last gs xs frames are room join fit g =
       groups = held;
       held = all_held version first last gs frames are f g;
       enough = omega arith;
-      sums = sym (ap (λ c. take (length xs) (samples_of c (differences held))) first_is
+      sums = sym (ap (λ c. take (length xs) (samples_of c (joined_groups held))) first_is
           ∙ ap (λ d. take (length xs) (samples_of first d)) spelled
           ∙ samples_more first ds padded.padding (length xs) few
           ∙ ap (take (length xs)) (samples_of_differences before xs all) ∙ take_all (length xs) xs (omega arith));

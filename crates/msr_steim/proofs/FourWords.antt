@@ -14,7 +14,7 @@ use Rattle.msr_base.specs.declared.order.Order.TheVariants.{Big, Little}
 use Rattle.msr_kinds.specs.declared.storage.Version.{Version}
 use Rattle.msr_kinds.specs.declared.storage.Version.TheVariants.{One, Two}
 use Rattle.msr_steim.specs.declared.sums.Progress.{Progress}
-use Rattle.msr_steim.specs.Area.{FirstWordsHold, WordHolds, code_of, constant, differences, samples_of, sums_after, whole_word, word_count}
+use Rattle.msr_steim.specs.Area.{FirstWordsHold, WordHolds, constant, joined_groups, samples_of, sums_after, whole_word, word_code, word_count}
 use Rattle.msr_steim.specs.InOrder.{BeginsAfter, differences_from}
 use Rattle.msr_steim.specs.Sums.{AreSumsWritten}
 use Rattle.msr_steim.specs.Word.{AreFields, layout_of, numbers_in, signed_of}
@@ -44,25 +44,26 @@ all_held version order area before (group ∷ groups) number held number_is here
     (subst (λ n. WordHolds version order area n group) (sym number_is) here.0))
     (length-append before (group ∷ []) ∙ ap (λ n. n + 1) number_is) here.1 (omega (arith, within)))
 
-all_differences : (before groups : List (List ℤ)) → differences (before ++ groups) ≡ differences before ++ differences groups
+all_differences : (before groups : List (List ℤ))
+    → joined_groups (before ++ groups) ≡ joined_groups before ++ joined_groups groups
 all_differences before groups = flat_map-append (λ g. g) before groups
 
 -- more words, and still too few samples
 read_all : (version : Version) (order : Order) (area : List ℕ) (count number : ℕ) (first : ℤ) (samples more : List ℤ)
     (groups : List (List ℤ)) → AreReadBelow version order area count number first samples
     → HoldFrom version order area number groups → number + length groups ≤ word_count area
-    → ((before : List ℤ) → samples ≡ samples_of first before → more ≡ samples_of first (before ++ differences groups))
+    → ((before : List ℤ) → samples ≡ samples_of first before → more ≡ samples_of first (before ++ joined_groups groups))
     → length more < count → AreReadBelow version order area count (number + length groups) first more
 read_all version order area count number first samples more groups read here within pushed few =
-    let joined : differences (read.groups ++ groups) ≡ differences read.groups ++ differences groups =
+    let joined : joined_groups (read.groups ++ groups) ≡ joined_groups read.groups ++ joined_groups groups =
     all_differences read.groups groups in
-    let sums : more ≡ samples_of first (differences (read.groups ++ groups)) =
-    pushed (differences read.groups) read.sums ∙ ap (samples_of first) (sym joined) in
+    let sums : more ≡ samples_of first (joined_groups (read.groups ++ groups)) =
+    pushed (joined_groups read.groups) read.sums ∙ ap (samples_of first) (sym joined) in
     record {
       groups = read.groups ++ groups;
       held = all_held version order area read.groups groups number read.held read.number_is here within;
       number_is = length-append read.groups groups ∙ ap (λ n. n + length groups) read.number_is;
-      few = omega (arith, few, ap length sums, length-samples_of first (differences (read.groups ++ groups)));
+      few = omega (arith, few, ap length sums, length-samples_of first (joined_groups (read.groups ++ groups)));
       sums = sums;
     }
 
@@ -70,7 +71,7 @@ read_all version order area count number first samples more groups read here wit
 first_differences : (version : Version) (order : Order) (area : List ℕ) (number : ℕ) (groups : List (List ℤ))
     → HoldFrom version order area number groups → number + length groups ≤ word_count area
     → differences_from version order area number
-    ≡ differences groups ++ differences_from version order area (number + length groups)
+    ≡ joined_groups groups ++ differences_from version order area (number + length groups)
 first_differences version order area number [] here within =
     ap (differences_from version order area) same
   where
@@ -80,17 +81,17 @@ first_differences version order area number (group ∷ groups) here within =
     let place : number + 1 + length groups ≡ number + suc (length groups) = omega arith in
     one_group version order area number group (omega (arith, within)) here.0
     ∙ ap (λ ds. group ++ ds) (first_differences version order area (number + 1) groups here.1 (omega (arith, within)))
-    ∙ sym (append_assoc group (differences groups) (differences_from version order area (number + 1 + length groups)))
-    ∙ ap (λ n. (group ++ differences groups) ++ differences_from version order area n) place
+    ∙ sym (append_assoc group (joined_groups groups) (differences_from version order area (number + 1 + length groups)))
+    ∙ ap (λ n. (group ++ joined_groups groups) ++ differences_from version order area n) place
 
 begins_all : (version : Version) (order : Order) (area : List ℕ) (count number : ℕ) (samples : List ℤ)
     (groups : List (List ℤ)) (last : ℤ)
     → AreReadBelow version order area count number (constant order area 1) samples → length samples ≡ 0
     → BeginsAfter version order area last → HoldFrom version order area number groups
     → number + length groups ≤ word_count area
-    → samples_of (constant order area 1) (differences groups) ≡ sums_after last (differences groups)
+    → samples_of (constant order area 1) (joined_groups groups) ≡ sums_after last (joined_groups groups)
 begins_all version order area count number samples groups last read none begins here within =
-    first_part (constant order area 1) last (differences groups)
+    first_part (constant order area 1) last (joined_groups groups)
     (differences_from version order area (number + length groups)) (differences_from version order area 0)
     (none_before version order area count number samples read none
     ∙ first_differences version order area number groups here within) begins.sums
@@ -99,13 +100,13 @@ begins_all version order area count number samples groups last read none begins 
 
 pub reached_on : (version : Version) (order : Order) (area : List ℕ) (number : ℕ) (groups : List (List ℤ))
     (at next : Progress) (old new : List ℤ) → IsReached version order area number at old
-    → (at.place ≡ 0 → BeginsAfter version order area at.last) → AreSumsWritten (differences groups) at old new next
+    → (at.place ≡ 0 → BeginsAfter version order area at.last) → AreSumsWritten (joined_groups groups) at old new next
     → HoldFrom version order area number groups → number + length groups ≤ word_count area
     → length new ≡ length old → next.place < length new → IsReached version order area (number + length groups) next new
 reached_on version order area number groups at next old new reached begins written here within same room =
     let first = constant order area 1 in
     let samples = take at.place old in
-    let group = differences groups in
+    let group = joined_groups groups in
     let size : length samples ≡ at.place = length-take at.place old ∙ omega (arith, reached.room) in
     let last_is : 0 < length samples → at.last ≡ get_or samples (length samples - 1) (pos 0) = λ more.
     let some : 0 < at.place = omega (arith, size, more) in
@@ -130,13 +131,13 @@ reached_on version order area number groups at next old new reached begins writt
 
 pub passed_all : (version : Version) (order : Order) (area : List ℕ) (number count left : ℕ) (groups : List (List ℤ))
     (at next : Progress) (old new : List ℤ) → ArePassed version order area number count left at.last
-    → at.place ≡ 0 → AreSumsWritten (differences groups) at old new next
+    → at.place ≡ 0 → AreSumsWritten (joined_groups groups) at old new next
     → HoldFrom version order area number groups → number + length groups ≤ word_count area
     → next.place ≤ length new → 0 < next.place → next.place < left
     → ArePassed version order area (number + length groups) count (left - next.place) next.last
 passed_all version order area number count left groups at next old new passed zeroth written here within room some few =
     let first = constant order area 1 in
-    let group = differences groups in
+    let group = joined_groups groups in
     let sums = sums_after at.last group in
     let all = passed.samples ++ sums in
     let sums_are : take next.place new ≡ sums = written.samples ∙ ap (λ n. take n old ++ sums) zeroth in
@@ -193,13 +194,13 @@ byte_groups area number (suc words) =
 
 pub byte_groups_hold : (version : Version) (area : List ℕ) (number words : ℕ)
     → ((k : ℕ) → Fits w8 (get_or area k 0)) → 4 * (number + words) ≤ length area
-    → ((k : ℕ) → k < words → code_of Big area (number + k) ≡ 1)
+    → ((k : ℕ) → k < words → word_code Big area (number + k) ≡ 1)
     → HoldFrom version Big area number (byte_groups area number words)
 byte_groups_hold version area number zero fits within codes = tt
 byte_groups_hold version area number (suc words) fits within codes = (
   here,
   byte_groups_hold version area (number + 1) words fits (omega (arith, within))
-      (λ k less. ap (code_of Big area) (next k) ∙ codes (suc k) (omega (arith, less))),
+      (λ k less. ap (word_code Big area) (next k) ∙ codes (suc k) (omega (arith, less))),
 )
   where
     next : (k : ℕ) → number + 1 + k ≡ number + suc k
@@ -210,8 +211,8 @@ byte_groups_hold version area number (suc words) fits within codes = (
         let bytes = drop (4 * number) area in
         let word = whole_word Big area number in
         let same : number + 0 ≡ number = omega arith in
-        let code_is : 1 ≡ code_of Big area number =
-        sym (ap (code_of Big area) (sym same) ∙ codes 0 (omega arith)) in
+        let code_is : 1 ≡ word_code Big area number =
+        sym (ap (word_code Big area) (sym same) ∙ codes 0 (omega arith)) in
         let numbers : numbers_in word 8 4 ≡ map (signed_of 8) (take 4 bytes) =
         word_of_bytes bytes (omega (arith, length-drop (4 * number) area, within))
         (λ k. subst (Fits w8) (sym (get_or-drop (4 * number) area k 0)) (fits (4 * number + k))) in
@@ -221,7 +222,7 @@ byte_groups_hold version area number (suc words) fits within codes = (
         (subst (λ ds. AreFields word ds (record { count = 4; width = 8 })) numbers (are_fields word 8 4 (lit< tt))))
 
 pub differences_of_bytes : (area : List ℕ) (number words : ℕ)
-    → differences (byte_groups area number words) ≡ map (signed_of 8) (take (4 * words) (drop (4 * number) area))
+    → joined_groups (byte_groups area number words) ≡ map (signed_of 8) (take (4 * words) (drop (4 * number) area))
 differences_of_bytes area number zero = refl
 differences_of_bytes area number (suc words) =
     let bytes = drop (4 * number) area in
@@ -263,12 +264,12 @@ highest codes (suc (suc (suc (suc k)))) ones less = absurd (omega (arith, less))
 
 pub codes_are_ones : (order : Order) (area : List ℕ) (frame slot codes : ℕ) → 1 ≤ slot → 3 ≤ 16 * frame + slot
     → codes ≡ whole_word order area (16 * frame) * 2 ^ (2 * slot) % 4294967296 → codes / 16777216 ≡ 85
-    → (k : ℕ) → k < 4 → code_of order area (16 * frame + slot + k) ≡ 1
+    → (k : ℕ) → k < 4 → word_code order area (16 * frame + slot + k) ≡ 1
 codes_are_ones order area frame slot codes some late same ones k less =
     let word = whole_word order area (16 * frame) in
     let within : slot + 4 ≤ 16 = four_left word slot codes same ones in
     let number : 16 * frame + (slot + k) ≡ 16 * frame + slot + k = omega arith in
-    ap (code_of order area) (sym number)
+    ap (word_code order area) (sym number)
     ∙ sym (code_here order area frame (slot + k) (codes * 2 ^ (2 * k) % 4294967296) (omega (arith, some))
     (omega (arith, within, less)) (omega (arith, late)) (codes_by codes word slot k same)) ∙ highest codes k ones less
 
@@ -323,7 +324,7 @@ pub four_reached : (version : Version) (order : Order) (area : List ℕ) (frame 
 four_reached version order area frame slot codes at next old new are reached begins written same room =
     let number = 16 * frame + slot in
     let groups = byte_groups area number 4 in
-    let bytes : differences groups ≡ bytes_after area frame slot = differences_of_bytes area number 4 in
+    let bytes : joined_groups groups ≡ bytes_after area frame slot = differences_of_bytes area number 4 in
     let further : number + length groups ≡ 16 * frame + (slot + 4) = omega arith in
     let within = ones_within order area frame slot codes are in
     let place : next.place ≡ at.place + 16 = four_place area frame slot at next old new within.2 written in
@@ -340,7 +341,7 @@ pub four_passed : (version : Version) (order : Order) (area : List ℕ) (frame s
 four_passed version order area frame slot codes count left at next old new are passed zeroth written room few =
     let number = 16 * frame + slot in
     let groups = byte_groups area number 4 in
-    let bytes : differences groups ≡ bytes_after area frame slot = differences_of_bytes area number 4 in
+    let bytes : joined_groups groups ≡ bytes_after area frame slot = differences_of_bytes area number 4 in
     let further : number + length groups ≡ 16 * frame + (slot + 4) = omega arith in
     let within = ones_within order area frame slot codes are in
     let place : next.place ≡ 16 = four_place area frame slot at next old new within.2 written

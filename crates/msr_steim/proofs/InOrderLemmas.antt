@@ -5,7 +5,7 @@ use Rattle.std.proofs.Math.Nat.{pow-zero, mod-lt}
 use Rattle.msr_base.specs.declared.order.Order.{Order}
 use Rattle.msr_steim.specs.declared.borrowed.Fields.{Fields}
 use Rattle.msr_kinds.specs.declared.storage.Version.{Version}
-use Rattle.msr_steim.specs.Area.{IsUndefined, arranged_word, code_of, samples_of, sums_after, word_count}
+use Rattle.msr_steim.specs.Area.{IsUndefined, arranged_word, samples_of, sums_after, word_code, word_count}
 use Rattle.msr_steim.specs.InOrder.{HasFields, differences_from, differences_of, numbers_of, word_differences}
 use Rattle.msr_steim.specs.Word.{AreFields, numbers_in, signed_of}
 use Rattle.msr_steim.proofs.Reading.{first_sums}
@@ -34,14 +34,14 @@ pub fields_differences : (version : Version) (order : Order) (area : List ℕ) (
 unfolding word_differences
 fields_differences version order area number fields has =
     ap (λ layout. numbers_of layout (arranged_word version order
-    (code_of order area number) area number)) has.layout_is
+    (word_code order area number) area number)) has.layout_is
     ∙ ap (λ word. numbers_in word fields.width fields.count) (sym has.word_is)
 
 undefined_differences : (version : Version) (order : Order) (area : List ℕ) (number : ℕ)
     → IsUndefined version order area number → word_differences version order area number ≡ []
 unfolding word_differences
 undefined_differences version order area number undefined =
-    ap (λ layout. numbers_of layout (arranged_word version order (code_of order area number) area number)) undefined
+    ap (λ layout. numbers_of layout (arranged_word version order (word_code order area number) area number)) undefined
 
 pub no_numbers : (word width count : ℕ) → count ≡ 0 → numbers_in word width count ≡ []
 unfolding numbers_in

@@ -7,7 +7,7 @@ use Rattle.std.proofs.lemmas.Grind.{flat_map-append}
 use Rattle.std.proofs.lemmas.List.{take-append-drop, take-append-le, length-take, get_or-take}
 use Rattle.msr_base.specs.declared.order.Order.{Order}
 use Rattle.msr_kinds.specs.declared.storage.Version.{Version}
-use Rattle.msr_steim.specs.Area.{CarriesSteim, EndsBefore, FirstWordsHold, IsUndefined, IsUndefinedBefore, arranged_word, code_of, constant, differences, samples_of, sums_after}
+use Rattle.msr_steim.specs.Area.{CarriesSteim, EndsBefore, FirstWordsHold, IsUndefined, IsUndefinedBefore, arranged_word, constant, joined_groups, samples_of, sums_after, word_code}
 use Rattle.msr_steim.proofs.OneList.{holds_one, undefined_holds_none}
 use Rattle.msr_steim.proofs.Decoding.{length-samples_of}
 
@@ -17,33 +17,33 @@ same_groups : (version : Version) (order : Order) (area : List ℕ) (gs hs : Lis
     → gs ≡ take (length gs) hs
 same_groups version order area gs hs f g few =
     ext_get_or [] gs (take (length gs) hs) (sym (length-take (length gs) hs ∙ omega arith))
-    (λ k (within : k < length gs). holds_one version (code_of order area k)
-    (arranged_word version order (code_of order area k) area k) (get_or gs k []) (get_or (take (length gs) hs) k [])
+    (λ k (within : k < length gs). holds_one version (word_code order area k)
+    (arranged_word version order (word_code order area k) area k) (get_or gs k []) (get_or (take (length gs) hs) k [])
     (f.each k within) (rw (get_or-take (length gs) hs k [] within) (g.each k (omega arith))))
 
 -- so the differences of fewer words begin those of more
 more_differences : (version : Version) (order : Order) (area : List ℕ) (gs hs : List (List ℤ))
     → FirstWordsHold version order area gs → FirstWordsHold version order area hs → length gs ≤ length hs
-    → differences hs ≡ differences gs ++ differences (drop (length gs) hs)
+    → joined_groups hs ≡ joined_groups gs ++ joined_groups (drop (length gs) hs)
 more_differences version order area gs hs f g few =
-    ap differences (sym (take-append-drop (length gs) hs))
+    ap joined_groups (sym (take-append-drop (length gs) hs))
     ∙ flat_map-append (λ g. g) (take (length gs) hs) (drop (length gs) hs)
-    ∙ ap (λ xs. differences xs ++ differences (drop (length gs) hs))
+    ∙ ap (λ xs. joined_groups xs ++ joined_groups (drop (length gs) hs))
     (sym (same_groups version order area gs hs f g few))
 
 fewer_differences : (version : Version) (order : Order) (area : List ℕ) (gs hs : List (List ℤ))
     → FirstWordsHold version order area gs → FirstWordsHold version order area hs → length gs ≤ length hs
-    → length (differences gs) ≤ length (differences hs)
+    → length (joined_groups gs) ≤ length (joined_groups hs)
 fewer_differences version order area gs hs f g few =
-    let e : length (differences hs) ≡ length (differences gs) + length (differences (drop (length gs) hs)) =
+    let e : length (joined_groups hs) ≡ length (joined_groups gs) + length (joined_groups (drop (length gs) hs)) =
     ap length (more_differences version order area gs hs f g few)
-    ∙ length-append (differences gs) (differences (drop (length gs) hs)) in
+    ∙ length-append (joined_groups gs) (joined_groups (drop (length gs) hs)) in
     omega arith
 
 -- words that hold too few differences are no more than those that hold enough
 enough_after : (version : Version) (order : Order) (area : List ℕ) (gs hs : List (List ℤ)) (count : ℕ)
-    → FirstWordsHold version order area gs → FirstWordsHold version order area hs → length (differences gs) < count
-    → count ≤ length (differences hs) → length gs < length hs
+    → FirstWordsHold version order area gs → FirstWordsHold version order area hs → length (joined_groups gs) < count
+    → count ≤ length (joined_groups hs) → length gs < length hs
 enough_after version order area gs hs count f g few enough =
     ⊎_elim (λ (lt : length gs < length hs). lt)
     (λ (ge : length hs ≤ length gs). let h = fewer_differences version order area hs gs g f ge in absurd (omega arith))
@@ -53,8 +53,8 @@ enough_after version order area gs hs count f g few enough =
 undefined_not_held : (version : Version) (order : Order) (area : List ℕ) (hs : List (List ℤ)) (number : ℕ)
     → IsUndefined version order area number → FirstWordsHold version order area hs → number < length hs → ⊥
 undefined_not_held version order area hs number undefined held within =
-    undefined_holds_none version (code_of order area number)
-    (arranged_word version order (code_of order area number) area number) (get_or hs number []) undefined
+    undefined_holds_none version (word_code order area number)
+    (arranged_word version order (word_code order area number) area number) (get_or hs number []) undefined
     (held.each number within)
 
 pub not_short : (version : Version) (order : Order) (area : List ℕ) (samples : List ℤ)
@@ -108,13 +108,13 @@ samples_fewer : (version : Version) (order : Order) (area : List ℕ) (xs ys : L
     → length c.groups ≤ length d.groups → xs ≡ ys
 samples_fewer version order area xs ys c d same few =
     let first = constant order area 1 in
-    let ds = differences c.groups in
-    let more = differences (drop (length c.groups) d.groups) in
-    let e : differences d.groups ≡ ds ++ more =
+    let ds = joined_groups c.groups in
+    let more = joined_groups (drop (length c.groups) d.groups) in
+    let e : joined_groups d.groups ≡ ds ++ more =
     more_differences version order area c.groups d.groups c.held d.held few in
     c.sums ∙ sym (samples_more first ds more (length xs) c.enough)
     ∙ ap (λ z. take (length xs) (samples_of first z)) (sym e)
-    ∙ ap (λ n. take n (samples_of first (differences d.groups))) same ∙ sym d.sums
+    ∙ ap (λ n. take n (samples_of first (joined_groups d.groups))) same ∙ sym d.sums
 
 pub carries_one : (version : Version) (order : Order) (area : List ℕ) (xs ys : List ℤ)
     → CarriesSteim version order area xs → CarriesSteim version order area ys → length xs ≡ length ys → xs ≡ ys

@@ -9,7 +9,7 @@ use Rattle.msr_base.specs.declared.order.Order.{Order}
 use Rattle.msr_steim.specs.declared.sums.Progress.{Progress}
 use Rattle.msr_kinds.specs.declared.storage.Version.{Version}
 use Rattle.msr_kinds.specs.declared.storage.Version.TheVariants.{One, Two}
-use Rattle.msr_steim.specs.Area.{CarriesSteim, IsUndefined, IsUndefinedBefore, WordHolds, arranged_word, code_of, constant, differences, samples_of, sums_after, whole_word, word_count}
+use Rattle.msr_steim.specs.Area.{CarriesSteim, IsUndefined, IsUndefinedBefore, WordHolds, arranged_word, constant, joined_groups, samples_of, sums_after, whole_word, word_code, word_count}
 use Rattle.msr_steim.specs.Sums.{IsWritten}
 use Rattle.msr_steim.specs.Word.{Holds, IsUndefinedWord, layout_of}
 use Rattle.msr_steim.proofs.Decoding.{AreReadBelow, differences_push, length-samples_of, one_more_held, read_enough, read_more}
@@ -114,14 +114,14 @@ pub record IsStart (version : Version) (code word : ℕ) (forward : ℤ) (at sta
       → samples_of forward group ≡ sums_after start.last group
 
 pub held_so : (version : Version) (order : Order) (area : List ℕ) (number code word : ℕ) (group : List ℤ)
-    → code ≡ code_of order area number → word ≡ arranged_word version order code area number
+    → code ≡ word_code order area number → word ≡ arranged_word version order code area number
     → Holds version code word group → WordHolds version order area number group
 held_so version order area number code word group e f holds =
     let P : ℕ → Type 0 = λ k. Holds version k (arranged_word version order k area number) group in
     subst P e (subst (λ w. Holds version code w group) f holds)
 
 pub undefined_so : (version : Version) (order : Order) (area : List ℕ) (number code word : ℕ)
-    → code ≡ code_of order area number → word ≡ arranged_word version order code area number
+    → code ≡ word_code order area number → word ≡ arranged_word version order code area number
     → IsUndefinedWord version code word → IsUndefined version order area number
 undefined_so version order area number code word e f undefined =
     let P : ℕ → Type 0 = λ k. IsUndefinedWord version k (arranged_word version order k area number) in
@@ -150,7 +150,7 @@ last_here version order area number code word at start next old new reached begi
 pub step_more : (version : Version) (order : Order) (area : List ℕ) (number code word : ℕ) (at start next : Progress)
     (old new : List ℤ) → IsReached version order area number at old
     → IsStart version code word (constant order area 1) at start
-    → IsWritten version code word start old new next → code ≡ code_of order area number
+    → IsWritten version code word start old new next → code ≡ word_code order area number
     → word ≡ arranged_word version order code area number → number < word_count area → length new ≡ length old
     → next.place ≢ length new → IsReached version order area (number + 1) next new
 step_more version order area number code word at start next old new reached begin written e f within same unlike =
@@ -176,7 +176,7 @@ step_more version order area number code word at start next old new reached begi
 pub step_enough : (version : Version) (order : Order) (area : List ℕ) (number code word : ℕ)
     (at start next : Progress) (old new : List ℤ) → IsReached version order area number at old
     → IsStart version code word (constant order area 1) at start
-    → IsWritten version code word start old new next → code ≡ code_of order area number
+    → IsWritten version code word start old new next → code ≡ word_code order area number
     → word ≡ arranged_word version order code area number → number < word_count area → length new ≡ length old
     → next.place ≡ length new → CarriesSteim version order area new
 step_enough version order area number code word at start next old new reached begin written e f within same full =
@@ -196,15 +196,15 @@ no_layout One top = refl
 no_layout Two top = refl
 
 skip_one : (version : Version) (order : Order) (area : List ℕ) (count n : ℕ) (first : ℤ) (samples : List ℤ)
-    → AreReadBelow version order area count n first samples → n < word_count area → code_of order area n ≡ 0
+    → AreReadBelow version order area count n first samples → n < word_count area → word_code order area n ≡ 0
     → AreReadBelow version order area count (n + 1) first samples
 skip_one version order area count n first samples read within none =
     let word = arranged_word version order 0 area n in
     let empty : WordHolds version order area n [] =
     held_so version order area n 0 word [] (sym none) refl
     (holds_none version 0 word (no_layout version (word / 2 ^ 30))) in
-    let same : differences (read.groups ++ [] ∷ []) ≡ differences read.groups = differences_push read.groups []
-    ∙ append-nil (differences read.groups) in
+    let same : joined_groups (read.groups ++ [] ∷ []) ≡ joined_groups read.groups = differences_push read.groups []
+    ∙ append-nil (joined_groups read.groups) in
     record {
       groups = read.groups ++ [] ∷ [];
       held = one_more_held version order area read.groups [] read.held (omega (arith, read.number_is, within))
@@ -215,7 +215,7 @@ skip_one version order area count n first samples read within none =
     }
 
 -- the first word of a frame has the codes
-code_first : (order : Order) (area : List ℕ) (frame : ℕ) → 0 < frame → code_of order area (16 * frame) ≡ 0
+code_first : (order : Order) (area : List ℕ) (frame : ℕ) → 0 < frame → word_code order area (16 * frame) ≡ 0
 code_first order area frame some =
     let rest : (16 * frame) % 16 ≡ 0 = omega arith in
     rw (le-ltb (16 * frame) 3 (omega (arith, some)), rest) refl
@@ -246,20 +246,20 @@ skip_first version order area count (suc frame) slot first samples zeroth others
 -- the code of a word with differences
 pub code_data : (order : Order) (area : List ℕ) (frame slot codes code : ℕ) → 1 ≤ slot → slot < 16
     → 3 ≤ 16 * frame + slot → codes ≡ whole_word order area (16 * frame) → code ≡ codes / 2 ^ (30 - 2 * slot) % 4
-    → code ≡ code_of order area (16 * frame + slot)
+    → code ≡ word_code order area (16 * frame + slot)
 code_data order area frame slot codes code some small late codes_is code_is =
     let number = 16 * frame + slot in
     let rest : number % 16 ≡ slot = omega (arith, small) in
     let whole : number / 16 * 16 ≡ 16 * frame = omega (arith, small) in
     let some_rest : slot ≡ suc (slot - 1) = omega (arith, some) in
-    let spread : code_of order area number ≡ whole_word order area (number / 16 * 16) / 2 ^
+    let spread : word_code order area number ≡ whole_word order area (number / 16 * 16) / 2 ^
     (30 - 2 * (number % 16)) % 4 = data_code order area number late (omega (arith, rest, some)) in
     code_is ∙ ap (λ n. n / 2 ^ (30 - 2 * slot) % 4) codes_is
     ∙ sym (spread ∙ ap (λ n. whole_word order area n / 2 ^ (30 - 2 * (number % 16)) % 4) whole
     ∙ ap (λ n. whole_word order area (16 * frame) / 2 ^ (30 - 2 * n) % 4) rest)
   where
     data_code : (order : Order) (area : List ℕ) (number : ℕ) → 3 ≤ number → 0 < number % 16
-        → code_of order area number ≡ whole_word order area (number / 16 * 16) / 2 ^ (30 - 2 * (number % 16)) % 4
+        → word_code order area number ≡ whole_word order area (number / 16 * 16) / 2 ^ (30 - 2 * (number % 16)) % 4
     data_code order area number late some =
         let other : (number % 16 == 0) ≡ false = ne_eqb (number % 16) 0 (λ e. omega (arith, some, e)) in
         rw (le-ltb number 3 late, other) refl

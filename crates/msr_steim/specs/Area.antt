@@ -22,8 +22,8 @@ whole_word Little area number = little_number 4 (drop (4 * number) area)
 -- the two-bit code of a word: the first word of its frame has the codes of all sixteen, the first in
 -- its highest bits. That word and the two constants of the first frame have no differences, as if their
 -- code was 0.
-abbrev pub code_of : Order → List ℕ → ℕ → ℕ
-code_of order area number =
+abbrev pub word_code : Order → List ℕ → ℕ → ℕ
+word_code order area number =
     if nat_lt number 3 || number % 16 == 0 then 0
     else whole_word order area (number / 16 * 16) / 2 ^ (30 - 2 * (number % 16)) % 4
 
@@ -42,13 +42,13 @@ arranged_word Two Little code area number =
 -- the word with this number holds these differences
 abbrev pub WordHolds : Version → Order → List ℕ → ℕ → List ℤ → Type 0
 WordHolds version order area number =
-    Holds version (code_of order area number) (arranged_word version order (code_of order area number) area number)
+    Holds version (word_code order area number) (arranged_word version order (word_code order area number) area number)
 
 -- the word with this number is undefined
 abbrev pub IsUndefined : Version → Order → List ℕ → ℕ → Type 0
 IsUndefined version order area number =
-    IsUndefinedWord version (code_of order area number)
-    (arranged_word version order (code_of order area number) area number)
+    IsUndefinedWord version (word_code order area number)
+    (arranged_word version order (word_code order area number) area number)
 
 -- the first words hold these groups, one each
 pub record FirstWordsHold (version : Version) (order : Order) (area : List ℕ) (groups : List (List ℤ)) : Type 0 where
@@ -57,8 +57,8 @@ pub record FirstWordsHold (version : Version) (order : Order) (area : List ℕ) 
       → WordHolds version order area number (slice_index_or groups number [])
 
 -- the differences of some groups, one group after the other
-abbrev pub differences : List (List ℤ) → List ℤ
-differences groups = flat_map (λ group. group) groups
+abbrev pub joined_groups : List (List ℤ) → List ℤ
+joined_groups groups = flat_map (λ group. group) groups
 
 -- a constant of the first frame: word 1 is the first sample, word 2 the last
 abbrev pub constant : Order → List ℕ → ℕ → ℤ
@@ -80,8 +80,8 @@ samples_of first (d ∷ ds) = first ∷ sums_after first ds
 pub record CarriesSteim (version : Version) (order : Order) (area : List ℕ) (samples : List ℤ) : Type 0 where
   pub groups : List (List ℤ)
   pub held : FirstWordsHold version order area groups
-  pub enough : length samples ≤ length (differences groups)
-  pub sums : samples ≡ take (length samples) (samples_of (constant order area 1) (differences groups))
+  pub enough : length samples ≤ length (joined_groups groups)
+  pub sums : samples ≡ take (length samples) (samples_of (constant order area 1) (joined_groups groups))
 
 -- the last of these samples is the reverse constant, word 2
 abbrev pub ReverseAgrees : Order → List ℕ → List ℤ → Type 0
@@ -92,7 +92,7 @@ pub record EndsBefore (version : Version) (order : Order) (area : List ℕ) (cou
   pub groups : List (List ℤ)
   pub held : FirstWordsHold version order area groups
   pub all : length groups ≡ word_count area
-  pub few : length (differences groups) < count
+  pub few : length (joined_groups groups) < count
 
 -- the word with this number is undefined, and those before it hold lists with fewer differences than this
 pub record IsUndefinedBefore (version : Version) (order : Order) (area : List ℕ) (count number : ℕ) : Type 0 where
@@ -100,7 +100,7 @@ pub record IsUndefinedBefore (version : Version) (order : Order) (area : List �
   pub held : FirstWordsHold version order area groups
   pub first : length groups ≡ number
   pub within : number < word_count area
-  pub few : length (differences groups) < count
+  pub few : length (joined_groups groups) < count
   pub undefined : IsUndefined version order area number
 
 -- why the area does not carry `count` samples: its words end first, or an undefined word comes first

@@ -5,7 +5,7 @@ use Rattle.msr_base.specs.declared.order.Order.{Order}
 use Rattle.msr_steim.specs.declared.borrowed.Fields.{Fields}
 use Rattle.msr_steim.specs.declared.word.WordLayout.{WordLayout}
 use Rattle.msr_kinds.specs.declared.storage.Version.{Version}
-use Rattle.msr_steim.specs.Area.{CarriesSteim, ReverseAgrees, arranged_word, code_of, constant, samples_of, sums_after, word_count}
+use Rattle.msr_steim.specs.Area.{CarriesSteim, ReverseAgrees, arranged_word, constant, samples_of, sums_after, word_code, word_count}
 use Rattle.msr_steim.specs.Word.{layout_of, numbers_in}
 
 -- the numbers in the fields of a word that is laid out so; an undefined word has none
@@ -16,14 +16,14 @@ numbers_of (Some layout) word = numbers_in word layout.width layout.count
 -- how the word with this number is laid out
 abbrev pub word_layout : Version → Order → List ℕ → ℕ → Option WordLayout
 word_layout version order area number =
-    layout_of version (code_of order area number)
-    (arranged_word version order (code_of order area number) area number / 2 ^ 30)
+    layout_of version (word_code order area number)
+    (arranged_word version order (word_code order area number) area number / 2 ^ 30)
 
 -- the differences of the word with this number
 unfoldable pub word_differences : Version → Order → List ℕ → ℕ → List ℤ
 word_differences version order area number =
     numbers_of (word_layout version order area number)
-    (arranged_word version order (code_of order area number) area number)
+    (arranged_word version order (word_code order area number) area number)
 
 -- the differences that the given number of words hold, from this word on
 abbrev pub differences_of : Version → Order → List ℕ → ℕ → ℕ → List ℤ
@@ -37,12 +37,12 @@ differences_from version order area number = differences_of version order area n
 
 -- the word with this number has these fields
 pub record HasFields (version : Version) (order : Order) (area : List ℕ) (number : ℕ) (fields : Fields) : Type 0 where
-  pub word_is : fields.word ≡ arranged_word version order (code_of order area number) area number
+  pub word_is : fields.word ≡ arranged_word version order (word_code order area number) area number
   pub layout_is : word_layout version order area number
       ≡ Some (record { count = fields.count; width = fields.width })
 
 -- The area carries `count` samples. `agrees` says whether the last of them is the reverse constant.
-pub record HasSamples (version : Version) (order : Order) (area : List ℕ) (count : ℕ) (agrees : Bool) : Type 0 where
+pub record CarriesCount (version : Version) (order : Order) (area : List ℕ) (count : ℕ) (agrees : Bool) : Type 0 where
   pub samples : List ℤ
   pub carried : CarriesSteim version order area samples
   pub count_is : length samples ≡ count

@@ -2,7 +2,7 @@
 
 ghost use Rattle.std.specs.Prelude.{◌≡◌, ◌<◌, ◌≤◌, ◌↔◌, ◌++◌, ◌-◌, ◌*◌, ◌/◌, ◌%◌, ◌^◌, ℤ, IfErr, IfOk, IfSome, IsNone, IsTrue, [], length};
 ghost use Rattle.std.specs.Iterator.{item_count};
-ghost use Rattle.msr_steim.specs.Area.{CarriesSteim, HasFault, IsUndefined, ReverseAgrees, code_of, word_count};
+ghost use Rattle.msr_steim.specs.Area.{CarriesSteim, HasFault, IsUndefined, ReverseAgrees, word_code, word_count};
 ghost use Rattle.msr_steim.specs.InOrder.{BeginsAfter, GivesFirst, HasFields, differences_from};
 ghost use Rattle.msr_steim.specs.Word.{numbers_in};
 
@@ -59,7 +59,7 @@ impl<'a> Model for SteimSamples<'a> {
 #[inline(always)]
 fn code_at(order: Order, area: &[u8], number: usize) -> u8
     requires { number < word_count area.now }
-    ensures value { result ≡ code_of order area.now number }
+    ensures value { result ≡ word_code order area.now number }
     ensures small { result < 4 }
 {
     if number < 3 || number % 16 == 0 {

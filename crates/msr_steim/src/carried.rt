@@ -3,7 +3,7 @@
 ghost use Rattle.std.specs.Prelude.{◌≡◌, ◌≤◌, IfErr, IfOk, IsTrue, length};
 ghost use Rattle.msr_base.specs.declared.order.Order.{Order};
 ghost use Rattle.msr_steim.specs.Area.{HasFault};
-ghost use Rattle.msr_steim.specs.InOrder.{HasSamples};
+ghost use Rattle.msr_steim.specs.InOrder.{CarriesCount};
 
 use crate::area::{
     Reading, SteimFault, arranged_word_at, by_reading, constant_at, first_slot, is_last,
@@ -25,7 +25,7 @@ fn check_words<const MIXED: bool, const FOURS: bool>(
     count: u16,
 ) -> Result<bool, SteimFault>
     requires { (1 ≤ count) × (length area.now ≤ 1048576) × (IsTrue FOURS → order ≡ Order.Big) }
-    ensures samples { IfOk result (HasSamples version order area.now count) }
+    ensures samples { IfOk result (CarriesCount version order area.now count) }
     ensures fault { IfErr result (HasFault version order area.now count) }
 {
     let frames = area.len() / 64;
@@ -77,7 +77,7 @@ pub(crate) fn check_area(
 ) -> Result<bool, SteimFault>
     requires some { 1 ≤ count }
     requires small { length area.now ≤ 1048576 }
-    ensures samples { IfOk result (HasSamples version order area.now count) }
+    ensures samples { IfOk result (CarriesCount version order area.now count) }
     ensures fault { IfErr result (HasFault version order area.now count) }
 {
     by_reading!(check_words, version, order, area, count)

@@ -4,7 +4,7 @@ ghost use Rattle.std.specs.Prelude.{◌≡◌, ◌<◌, ◌≤◌, ℕ, ℤ, Lis
 ghost use Rattle.std.specs.Int.{w32};
 ghost use Rattle.msr_base.specs.declared.order.Order.{Order};
 ghost use Rattle.msr_kinds.specs.declared.storage.Version.{Version};
-ghost use Rattle.msr_steim.specs.Area.{CarriesSteim, ReverseAgrees, constant, differences};
+ghost use Rattle.msr_steim.specs.Area.{CarriesSteim, ReverseAgrees, constant, joined_groups};
 ghost use Rattle.msr_steim.specs.Word.{AreGroups, group_word};
 ghost use Rattle.msr_steim.specs.Frames.{code_in, codes_word, differences_after, frame_bytes, frame_word, group_in};
 
@@ -92,7 +92,7 @@ pub fn fill_steim(version: Version, first: i32, last: i32, groups: &[Group], are
 pub fn filled_area_carries()
     ensures samples { (version : Version) (before last : ℤ) (groups : List (List ℤ)) (samples : List ℤ) (frames : ℕ)
         → AreGroups version groups → length groups + 2 ≤ 15 * frames
-        → differences groups ≡ differences_after before samples
+        → joined_groups groups ≡ differences_after before samples
         → All (FitsSigned w32) samples → FitsSigned w32 last
         → CarriesSteim version Order.Big (frame_bytes version
         (slice_index_or samples 0 (pos 0)) last groups frames) samples }

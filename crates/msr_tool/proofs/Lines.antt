@@ -12,7 +12,7 @@ use Rattle.msr_segments.specs.Spans.{Following, IsInBounds, JoinsSegment, SpanIs
 use Rattle.msr_segments.specs.Segments.{row_segment, row_span, segment_span}
 use Rattle.msr_devices.specs.Device.{Device, HasFailed, IsCalm, IsSteady}
 use Rattle.msr_report.specs.declared.report.SegmentLine.{SegmentLine}
-use Rattle.msr_report.specs.Proper.{IsProperLine, records_of}
+use Rattle.msr_report.specs.Proper.{IsProperLine, records_in}
 use Rattle.msr_input.specs.Reading.{IsWritable}
 use Rattle.msr_input.specs.Rows.{StepsTo}
 use Rattle.msr_input.specs.Steps.{CanJoin}
@@ -41,7 +41,7 @@ lines_snoc (one ∷ packed) (its ∷ lines) more line are is = (are.0, lines_sno
 
 -- as many records as the segments have runs
 pub records_of_lines : (packed : List Packed) (lines : List SegmentLine) → AreLinesOf packed lines
-    → records_of lines ≡ count_of_runs packed
+    → records_in lines ≡ count_of_runs packed
 records_of_lines [] lines are = rw are refl
 records_of_lines (one ∷ packed) [] are = absurd are
 records_of_lines (one ∷ packed) (its ∷ lines) are = omega (arith, are.0.records, records_of_lines packed lines are.1)

@@ -9,7 +9,7 @@ use Rattle.msr_segments.specs.declared.follow.Step.{Step}
 use Rattle.msr_segments.specs.declared.follow.Step.TheVariants.{Begins, Joins}
 use Rattle.msr_segments.specs.declared.joiner.Segment.{Segment}
 use Rattle.msr_segments.specs.declared.span.Span.{Span}
-use Rattle.msr_segments.specs.Spans.{Following, IsInBounds, IsStep}
+use Rattle.msr_segments.specs.Spans.{Following, IsInBounds, TakesStep}
 use Rattle.msr_segments.specs.Segments.{segment_span}
 use Rattle.msr_segments.specs.Joining.{Joining}
 use Rattle.msr_devices.specs.Device.{Device}
@@ -73,7 +73,7 @@ pub outline_more : {settings : Settings} {source0 source source' : Device} {read
     {given : List Segment} {joining : Joining} {next : NextOutline}
     (u : RowsSoFar settings source0 source reading given joining)
     (reads : ReadsOutline source0 source' reading' u.records u.answers next)
-    → IsStep reading.following (outline_span next.row) next.step reading'.following
+    → TakesStep reading.following (outline_span next.row) next.step reading'.following
     → row_settings reading' ≡ row_settings reading → IsInBounds reading'.following.current
     → RecordMore settings source0 source' reading' given joining
     (Some (record { step = next.step; row = reads.row }))

@@ -21,7 +21,7 @@ use Rattle.msr_input.specs.declared.fault.ReadFault.{ReadFault}
 use Rattle.msr_input.specs.declared.fault.ReadFault.TheVariants as read
 use Rattle.msr_output.specs.Output.{Packed, OutputKeepsSegments, OutputHasSize, segment_of_packed, count_of_runs}
 use Rattle.msr_output.specs.Decided.{IsEncoded}
-use Rattle.msr_options.specs.Choice.{Choice, form_chosen, size_of}
+use Rattle.msr_options.specs.Choice.{Choice, form_chosen, record_size}
 use Rattle.msr_tool.specs.Settings.{settings_of}
 use Rattle.msr_tool.specs.Writing.{Lined, GoesOn, HasLined, LinesAll}
 use Rattle.msr_tool.specs.Answer.{Answers, AreLinesOf}
@@ -73,7 +73,7 @@ pub done : (choice : Choice) (source0 sink0 sink : Device) (segments : List Segm
     (counts : Counts) (report : Report) →
     GaveReadable source0 (settings_of choice) segments counts → All IsWritable segments
     → LinesAll (form_chosen choice) sink0 sink segments lines →
-    1 ≤ choice.tolerance → choice.tolerance ≤ 1_000_000 → 256 ≤ size_of choice → OutputKeepsSegments → OutputHasSize →
+    1 ≤ choice.tolerance → choice.tolerance ≤ 1_000_000 → 256 ≤ record_size choice → OutputKeepsSegments → OutputHasSize →
     report.length ≡ choice.record_length → report.kinds ≡ choice.kinds → report.tolerance ≡ choice.tolerance
     → report.counts ≡ counts
     → report.segments.items ≡ lines → IsFirst (bytes_of report.length) report.tolerance report.counts

@@ -7,7 +7,7 @@ use Rattle.msr_rows.specs.declared.row.Row.{Row}
 use Rattle.msr_segments.specs.declared.follow.Step.{Step}
 use Rattle.msr_segments.specs.declared.follow.Step.TheVariants.{Begins, Joins}
 use Rattle.msr_segments.specs.declared.joiner.Segment.{Segment}
-use Rattle.msr_segments.specs.Spans.{Following, IsInBounds, IsStep}
+use Rattle.msr_segments.specs.Spans.{Following, IsInBounds, TakesStep}
 use Rattle.msr_segments.specs.Segments.{AreSegments, row_segment, row_span}
 use Rattle.msr_segments.specs.Joining.{Joining, HasJoined, IsPushTold, following_of}
 use Rattle.msr_segments.proofs.Histories.{joined_none}
@@ -76,7 +76,7 @@ module _ {settings : Settings} {source0 source : Device} {reading : RowReading} 
     {joining : Joining} (u : RowsSoFar settings source0 source reading given joining) where
   pub row_more : (source' : Device) (reading' : RowReading) (next : NextRow)
       → ReadsRow source0 source' reading' u.records u.answers next
-      → IsStep reading.following (row_span next.row) next.step reading'.following
+      → TakesStep reading.following (row_span next.row) next.step reading'.following
       → row_settings reading' ≡ row_settings reading → IsInBounds reading'.following.current
       → IsWritable (row_segment next.row) → RecordMore settings source0 source' reading' given joining (Some next)
   row_more source' reading' next reads step still bounds writable =

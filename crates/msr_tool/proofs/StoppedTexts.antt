@@ -13,7 +13,7 @@ use Rattle.msr_tool.specs.Answer.{Answers}
 use Rattle.msr_tool.specs.Checking.{CheckAnswers, IsChecked}
 use Rattle.msr_options.specs.Choice.{Choice}
 use Rattle.msr_tool.specs.Fault.{ReadsAndWrites, fault_of_writing}
-use Rattle.msr_tool.specs.Tasks.{IsReportedInPart, ReportAnswers, Reports, Tells, VerdictAnswers, verdict_line}
+use Rattle.msr_tool.specs.Tasks.{IsReportedInPart, ReportAnswers, Reports, TellsVerdict, VerdictAnswers, verdict_line}
 use Rattle.msr_tool.specs.declared.fault.ToolFault.{ToolFault}
 use Rattle.msr_tool.specs.declared.fault.ToolFault.TheVariants as fault
 
@@ -79,7 +79,7 @@ unspoken input text fault.Memory a = refl
 
 -- checking stops, and no call is made for the verdict
 pub check_stops : (packed report out : Device) (input text : List ℕ) (why : ToolFault) → HasLeft packed input →
-    HasLeft report text → CheckAnswers input text (Err why) → Tells packed report out out (Err why)
+    HasLeft report text → CheckAnswers input text (Err why) → TellsVerdict packed report out out (Err why)
 check_stops packed report out input text why left left_text a = record {
   input = input;
   text = text;
@@ -93,7 +93,7 @@ check_stops packed report out input text why left left_text a = record {
 -- the line of the verdict is not written whole
 pub line_cut : (packed report out0 out : Device) (input text line : List ℕ) (n : ℕ) (verdict : Verdict) →
     HasLeft packed input → HasLeft report text → IsChecked input text (Ok verdict) → line ≡ verdict_line verdict →
-    Takes out0 out (take n line) → Tells packed report out0 out (Err fault.Write)
+    Takes out0 out (take n line) → TellsVerdict packed report out0 out (Err fault.Write)
 line_cut packed report out0 out input text line n verdict left left_text checked is_line took = record {
   input = input;
   text = text;

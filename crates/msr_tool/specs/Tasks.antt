@@ -7,7 +7,7 @@ use Rattle.msr_report.specs.declared.report.Report.{Report}
 use Rattle.msr_report_reader.specs.Fault.{IsFaultLine}
 use Rattle.msr_input.specs.declared.fault.Fault.{Fault}
 use Rattle.msr_input.specs.declared.fault.ReadFault.TheVariants as read
-use Rattle.msr_verdict.specs.Texts.{text_of}
+use Rattle.msr_verdict.specs.Texts.{verdict_text}
 use Rattle.msr_verdict.specs.declared.verdict.Verdict.{Verdict}
 use Rattle.msr_tool.specs.Answer.{IsRepacked, IsRefusedAt, IsStopped}
 use Rattle.msr_tool.specs.Checking.{IsChecked}
@@ -68,7 +68,7 @@ pub record TellsFailures (untold : Type 0) (source0 source records0 records text
 
 -- the line that a check prints
 abbrev pub verdict_line : Verdict → List ℕ
-verdict_line verdict = text_of verdict ++ codes "\n"
+verdict_line verdict = verdict_text verdict ++ codes "\n"
 
 -- The records were checked, and what was told is a prefix of the line of the verdict.
 pub record IsToldInPart (input text told : List ℕ) : Type 0 where
@@ -87,7 +87,7 @@ VerdictAnswers input text told (Err fault.Write) = IsToldInPart input text told
 VerdictAnswers input text told (Err fault.Memory) = told ≡ []
 
 -- What a check did with its devices, the packed records, the report and the sink of the verdict, and what it answers.
-pub record Tells (packed report : Device) (out0 out : Device) (result : Result Verdict ToolFault) : Type 0 where
+pub record TellsVerdict (packed report : Device) (out0 out : Device) (result : Result Verdict ToolFault) : Type 0 where
   pub input : List ℕ
   pub text : List ℕ
   pub told : List ℕ

@@ -10,10 +10,10 @@ ghost use Rattle.msr_tool.specs.Settings.{settings_of};
 use crate::fault::ToolFault;
 use crate::list_writer::ListWriter;
 use crate::repacking::settings_of;
+use msr_base::Counts;
 use msr_devices::{Sink, Source};
 use msr_input::RowReader;
 use msr_options::{ListForm, Options};
-use msr_report::Counts;
 use std::alloc::Global;
 
 /// Reads all records of the source, and writes a line for each segment of their rows and a last line with the

@@ -4,12 +4,11 @@ ghost use Rattle.msr_tool.specs.Listing.{last_line};
 ghost use Rattle.msr_tool.specs.ListWriting.{IsLastLine, IsOpenInBounds, open_longer, open_row};
 
 use crate::fault::ToolFault;
+use msr_base::Counts;
 use msr_devices::{Sink, WriteBuffer};
 use msr_input::{NextOutline, RowOutline};
 use msr_options::ListForm;
-use msr_report::{
-    Counts, ListedSegment, push_counts, push_json_counts, push_json_line, push_list_line,
-};
+use msr_report::{ListedSegment, push_counts, push_json_counts, push_json_line, push_list_line};
 use msr_segments::Step;
 use std::alloc::{AllocError, Global};
 use std::marker::Model;

@@ -3,7 +3,7 @@ ghost use Rattle.std.specs.Prelude.{◌≡◌, ◌⊎◌, ◌↔◌, ℕ, IsErrO
 ghost use Rattle.msr_devices.specs.Device.{CanCountCall, CountsFew, HasFailed};
 ghost use Rattle.msr_tool.specs.Checking.{GivesReport};
 ghost use Rattle.msr_tool.specs.KeepingUp.{HasKeptUp};
-ghost use Rattle.msr_tool.specs.Tasks.{Reports, Tells, TellsFailures};
+ghost use Rattle.msr_tool.specs.Tasks.{Reports, TellsFailures, TellsVerdict};
 
 use crate::check::check_packed;
 use crate::fault::ToolFault;
@@ -74,7 +74,8 @@ pub fn check_and_tell<R: Source, Q: Source, T: Sink>(
     requires out { CanCountCall (T.device out.old) }
 
     // What was written and what is answered, for the bytes that the sources have.
-    ensures answer { Tells (R.device packed.old) (Q.device report.old) (T.device out.old) (T.device out.new) result }
+    ensures answer { TellsVerdict (R.device packed.old) (Q.device report.old)
+        (T.device out.old) (T.device out.new) result }
 
     // A failure of a device is answered as such, and nothing else is.
     ensures read { IsErrOf result ToolFault.Read ↔ (HasFailed (R.device packed.old) (R.device packed.new)

@@ -3,8 +3,9 @@
 use crate::settings::Settings;
 use crate::stage::Stage;
 use msr_arguments::read_words;
-use msr_command::{Errors, run};
-use msr_tool::{TestSink, TestSource};
+use msr_command::run;
+use msr_devices::{TestSink, TestSource};
+use msr_options::Errors;
 use std::fs::{File, OpenOptions};
 
 /// What came of a run: what it printed, unless a file keeps that, its complaint, and its status.

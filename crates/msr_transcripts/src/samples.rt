@@ -2,9 +2,10 @@
 
 use crate::stage::Stage;
 use msr_fixtures::{START, key_at};
+use msr_kinds::{Kind, Length};
 use msr_record::encode_record;
 use msr_time::{Rate, is_instant};
-use msr_words::{Fitting, Kind, Length};
+use msr_words::Fitting;
 
 /// How many numbers of 32 bits a record of 4096 bytes holds.
 const MOST: usize = 1008;

@@ -2,7 +2,7 @@
 
 use crate::odd_files::OddFiles;
 use crate::stage::Stage;
-use msr_tool::Behavior;
+use msr_devices::Behavior;
 
 /// A device that moves all that it is given, and never fails.
 const PLAIN: Behavior = Behavior {

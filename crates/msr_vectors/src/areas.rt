@@ -6,10 +6,11 @@ ghost use Rattle.msr_steim.specs.Word.{AreGroups};
 use crate::line::Line;
 use crate::lists::{Hexadecimal, gives};
 use msr_base::{Order, SampleVec};
-use msr_plain::{PlainFault, PlainSamples, Width, decode_plain, decode_plain_into, plain_samples};
+use msr_kinds::{Version, Width};
+use msr_plain::{PlainFault, PlainSamples, decode_plain, decode_plain_into, plain_samples};
 use msr_steim::{
-    Group, SteimFault, SteimSamples, Version, decode_steim, decode_steim_into, fill_steim,
-    group_width, is_group, read_word, steim_samples, write_word,
+    Group, SteimFault, SteimSamples, decode_steim, decode_steim_into, fill_steim, group_width,
+    is_group, read_word, steim_samples, write_word,
 };
 
 /// A list to which the first sample is pushed, and the others at once.

@@ -3,9 +3,10 @@
 ghost use Rattle.std.specs.Prelude.{◌≤◌, length};
 
 use crate::line::Line;
+use msr_kinds::{Kind, Length};
 use msr_words::{
-    Codec, Fitting, Int16, Int24, Int32, Kind, Length, Steim1, Steim2, Window, difference, groups,
-    longest_run, run_fits,
+    Codec, Fitting, Int16, Int24, Int32, Steim1, Steim2, Window, difference, groups, longest_run,
+    run_fits,
 };
 
 /// How many of these differences the tracker takes with that sample. After the first that it refuses it takes none.

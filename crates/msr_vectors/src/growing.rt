@@ -11,7 +11,7 @@ use crate::records::{append, part_of};
 use msr_base::SampleVec;
 use msr_folders::Totals;
 use msr_packer::{Piece, StreamPacker};
-use msr_record::Row;
+use msr_rows::Row;
 use msr_segments::{JoinFault, Joiner, Segment};
 use msr_time::is_instant;
 use std::alloc::AllocError;

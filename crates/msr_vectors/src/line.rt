@@ -1,9 +1,7 @@
 //! A row: its columns, one after another, and what is answered to it.
 
 use msr_base::Order;
-use msr_plain::Width;
-use msr_steim::Version;
-use msr_words::{Form, Kind, Kinds, Length};
+use msr_kinds::{Form, Kind, Kinds, Length, Version, Width};
 use std::alloc::Global;
 use std::fmt;
 use std::fmt::Write;

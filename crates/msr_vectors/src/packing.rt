@@ -5,8 +5,9 @@ ghost use Rattle.msr_packer.specs.Blocks.{pushed};
 
 use crate::line::Line;
 use msr_check::{separates, separates_in, shows_least, shows_least_in};
+use msr_kinds::{Form, Kinds};
 use msr_packer::{BlockPacker, Packing, Piece, StreamPacker, pack, pack_in};
-use msr_words::{Form, Kinds, Run, longest_run};
+use msr_words::{Run, longest_run};
 use std::alloc::{AllocError, Global};
 
 /// What a packer of a stream gives, and the samples that it shows with each piece and at the end.

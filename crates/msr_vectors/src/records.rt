@@ -7,11 +7,11 @@ use msr_fixtures::{
     START, edit_by_name, int32_record, key_at, little_record, record, steim_record,
 };
 use msr_header::{read_header, write_header};
-use msr_record::{
-    FaultKind, Record, RecordView, Row, decode_record, encode_record, reverse_in, view_record,
-};
+use msr_kinds::{Kind, Length};
+use msr_record::encode_record;
+use msr_rows::{FaultKind, Record, RecordView, Row, decode_record, reverse_in, view_record};
 use msr_time::{Rate, is_instant};
-use msr_words::{Fitting, Kind, Length};
+use msr_words::Fitting;
 
 /// The bytes from the place on that is the next word are all that is left.
 fn cut(line: &mut Line<'_>, record: &mut Vec<u8>) {

@@ -7,13 +7,15 @@ use crate::inputs::{TOLERANCE, behaviors, bytes_of};
 use crate::line::Line;
 use msr_devices::{Behavior, DeviceFault, Sink, Source, TestSink, TestSource};
 use msr_header::HeaderFault;
-use msr_input::ReadFault;
+use msr_input::{Fault, ReadFault};
+use msr_options::{ListForm, Options};
 use msr_plain::PlainFault;
 use msr_report_reader::ReportFault;
+use msr_rows::FaultKind;
 use msr_steim::SteimFault;
 use msr_tool::{
-    Fault, FaultKind, ListForm, Options, ToolFault, check_and_tell, check_packed, feed,
-    feed_and_report, list_segments, repack, repack_and_report,
+    ToolFault, check_and_tell, check_packed, feed, feed_and_report, list_segments, repack,
+    repack_and_report,
 };
 use std::alloc::Global;
 use std::fmt;

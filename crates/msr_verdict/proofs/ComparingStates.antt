@@ -22,7 +22,7 @@ use Rattle.msr_input.specs.declared.row_reader.NextRecord.{NextRecord}
 use Rattle.msr_input.specs.declared.row_reader.NextRow.{NextRow}
 use Rattle.msr_input.proofs.Records.{rows_snoc}
 use Rattle.msr_verdict.specs.Packed.{IsFull, AreShownBy, runs_of_part, runs_of_rows}
-use Rattle.msr_verdict.specs.Compared.{Compared, HasFullRow, IsLineAt, IsShownAt, ComparesSegment, ComparesEnded, EndsBy, AddsRow, TakesRow, separators_at}
+use Rattle.msr_verdict.specs.Compared.{Compared, HasFullRow, IsLineAt, IsShownAt, ComparesSegment, ComparesEnded, EndsBy, AddsRow, TakesRecord, separators_at}
 use Rattle.msr_verdict.proofs.Lines.{shown_snoc, shown_next, get_after, after_get}
 use Rattle.msr_verdict.proofs.Runs.{runs_grown, samples_grown, samples_of}
 use Rattle.msr_verdict.proofs.Parts.{HasParts, open_rows, part_with, parts_after, last_before, parts_with, last_with, parts_none, parts_more}
@@ -380,7 +380,7 @@ compare_more : (form : Form) (lines : List SegmentLine) (records : List Record) 
     → row_told next.row ≡ found.row
     → MatchOption row ((told : NextRow) → HasFullRow (bytes_of form.length) next told → ⊥)
     (HasFullRow (bytes_of form.length) next)
-    → TakesRow form lines before row after
+    → TakesRecord form lines before row after
     → IsCompared form lines (records ++ found ∷ []) (parts_with next.row parts last) (last_with next.row last) after
 compare_more form lines records parts last found next None before after h length_is row_is other takes =
     add_none form lines records (parts_with next.row parts last) (last_with next.row last) found after
@@ -398,7 +398,7 @@ pub follows_step : (form : Form) (lines : List SegmentLine) (old new : Following
     → StepsTo old next.row new
     → MatchOption row ((told : NextRow) → HasFullRow (bytes_of form.length) next told → ⊥)
     (HasFullRow (bytes_of form.length) next)
-    → TakesRow form lines before row after → Follows form lines new (records ++ found ∷ []) after
+    → TakesRecord form lines before row after → Follows form lines new (records ++ found ∷ []) after
 follows_step form lines old new records found next row before after h length_is row_is step is takes =
     let rows : rows_of_records records ++ option_to_list (row_told next.row)
     ≡ rows_of_records (records ++ found ∷ []) =

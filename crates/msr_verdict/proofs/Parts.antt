@@ -7,7 +7,7 @@ use Rattle.msr_rows.specs.declared.row.Row.{Row}
 use Rattle.msr_segments.specs.declared.span.Span.{Span}
 use Rattle.msr_segments.specs.declared.follow.Step.{Step}
 use Rattle.msr_segments.specs.declared.follow.Step.TheVariants.{Begins, Joins}
-use Rattle.msr_segments.specs.Spans.{Continues, Following, IsStep, JoinsSegment}
+use Rattle.msr_segments.specs.Spans.{Continues, Following, JoinsSegment, TakesStep}
 use Rattle.msr_segments.specs.Segments.{Part, rows_of, segment_of, part_span, row_span, segment_span, IsDivision}
 use Rattle.msr_segments.proofs.Divisions.{no_empty, cases_last, longer_part, ContinuesPart, division_none, division_breaks, division_joins, division_begins, segment_of_longer, segment_of_alone, span_with_row}
 use Rattle.msr_input.specs.Rows.{StepsTo, row_told}
@@ -83,7 +83,7 @@ parts_join old new rows parts (Some part) row has k =
 
 -- a row more
 pub parts_grow : (old new : Following) (rows : List Row) (parts : List Part) (last : Option Part) (row : Row)
-    (answer : Step) → HasParts old rows parts last → IsStep old (row_span row) answer new
+    (answer : Step) → HasParts old rows parts last → TakesStep old (row_span row) answer new
     → HasParts new (rows ++ row ∷ []) (parts_after answer parts last) (Some (part_with (last_before answer last) row))
 parts_grow old new rows parts last row Begins has k =
     let breaks : (segment : Span) → option_map part_span last ≡ Some segment

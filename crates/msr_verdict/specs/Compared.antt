@@ -23,12 +23,12 @@ pub record Compared : Type 0 where
   pub agrees : Bool
 
 -- the separators of the line at that place, none if there is no line
-abbrev pub separators_of : Option SegmentLine → List ℕ
-separators_of None = []
-separators_of (Some line) = line.separators.items
+abbrev pub separators_of_line : Option SegmentLine → List ℕ
+separators_of_line None = []
+separators_of_line (Some line) = line.separators.items
 
 abbrev pub separators_at : List SegmentLine → ℕ → List ℕ
-separators_at lines place = separators_of (slice_get lines place)
+separators_at lines place = separators_of_line (slice_get lines place)
 
 -- the record that was read has that length, and this row
 pub record HasFullRow (size : ℕ) (next : NextRecord) (row : NextRow) : Type 0 where
@@ -92,13 +92,13 @@ pub record AddsRow (form : Form) (lines : List SegmentLine) (old : Compared) (ro
       (separators_at lines before.place) new.judged
 
 -- a full record: its row ends the open segment if it begins one, and belongs to the one that is open then
-pub record TakesNext (form : Form) (lines : List SegmentLine) (old : Compared) (next : NextRow)
+pub record TakesFullRecord (form : Form) (lines : List SegmentLine) (old : Compared) (next : NextRow)
     (new : Compared) : Type 0 where
   pub ended : Compared
   pub ends : EndsBy form lines next.step old ended
   pub adds : AddsRow form lines ended next.row new
 
 -- a record that is not full agrees with no report
-abbrev pub TakesRow : Form → List SegmentLine → Compared → Option NextRow → Compared → Type 0
-TakesRow form lines old None new = new.agrees ≡ false
-TakesRow form lines old (Some next) new = TakesNext form lines old next new
+abbrev pub TakesRecord : Form → List SegmentLine → Compared → Option NextRow → Compared → Type 0
+TakesRecord form lines old None new = new.agrees ≡ false
+TakesRecord form lines old (Some next) new = TakesFullRecord form lines old next new

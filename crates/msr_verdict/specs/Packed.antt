@@ -11,9 +11,8 @@ use Rattle.msr_segments.specs.Segments.{Part, rows_of, segment_of, IsDivision}
 use Rattle.msr_segments.specs.declared.joiner.Segment.{Segment}
 use Rattle.msr_report.specs.declared.report.SegmentLine.{SegmentLine}
 use Rattle.msr_report.specs.declared.report.Report.{Report}
-use Rattle.msr_input.specs.Input.{AreRead, IsReadable, IsFirstFault, rows_of_records}
+use Rattle.msr_input.specs.Input.{AreRead, HasFirstFault, IsReadable, rows_of_records}
 use Rattle.msr_input.specs.declared.settings.Settings.{Settings}
-use Rattle.msr_input.specs.declared.fault.Fault.{Fault}
 use Rattle.msr_input.specs.declared.fault.ReadFault.{ReadFault}
 use Rattle.msr_input.specs.declared.fault.ReadFault.TheVariants.{Input, Read, Memory}
 use Rattle.msr_verdict.specs.declared.verdict.Verdict.{Verdict}
@@ -79,11 +78,6 @@ pub record DoesNotShow (report : Report) (input : List ℕ) : Type 0 where
   pub segments : List Segment
   pub readable : IsReadable (settings_by report) input records segments
   pub none : ShowsLeast report input → ⊥
-
--- The input has this first fault.
-pub record HasFirstFault (settings : Settings) (input : List ℕ) (fault : Fault) : Type 0 where
-  pub records : List Record
-  pub first : IsFirstFault settings input records fault
 
 -- Some first records of the input are read, none of them refused.
 pub record BeginsReadable (settings : Settings) (input : List ℕ) : Type 0 where

@@ -3,6 +3,6 @@ use Rattle.std.specs.Prelude.{ℕ, List, codes}
 use Rattle.msr_verdict.specs.declared.verdict.Verdict.{Verdict}
 use Rattle.msr_verdict.specs.declared.verdict.Verdict.TheVariants.{Least, NotShown}
 
-abbrev pub text_of : Verdict → List ℕ
-text_of Least = codes "least"
-text_of NotShown = codes "not shown"
+abbrev pub verdict_text : Verdict → List ℕ
+verdict_text Least = codes "least"
+verdict_text NotShown = codes "not shown"

@@ -67,7 +67,7 @@ impl Agreement {
     ghost use Rattle.msr_words.specs.declared.kinds.Run.{Run as WordRun};
     ghost use Rattle.msr_check.specs.Judged.{Judges};
     ghost use Rattle.msr_segments.specs.declared.joiner.Segment.{Segment};
-    ghost use Rattle.msr_verdict.specs.Compared.{AddsRow, ComparesEnded, IsLineAt, IsShownAt, OpensBy, TakesRow};
+    ghost use Rattle.msr_verdict.specs.Compared.{AddsRow, ComparesEnded, IsLineAt, IsShownAt, OpensBy, TakesRecord};
 
     /// The state before the first record.
     pub(crate) fn new(alloc: Global) -> Agreement
@@ -150,7 +150,7 @@ impl Agreement {
 
     /// Takes the row of the next record, `None` for a record that agrees with no report.
     pub(crate) fn take(&mut self, report: &Report, row: Option<NextRow>) -> Result<(), ReadFault>
-        ensures taken { OnOk result (TakesRow
+        ensures taken { OnOk result (TakesRecord
             (form_by report.now) report.now.segments.items self.old row self.new) }
         ensures memory { IfErr result (λ fault. fault ≡ ReadFault.Memory) }
     {

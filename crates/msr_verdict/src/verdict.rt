@@ -27,9 +27,9 @@ impl Verdict {
 
 impl fmt::Display for Verdict {
     ghost use Rattle.std.specs.Prelude.{Some};
-    ghost use Rattle.msr_verdict.specs.Texts.{text_of};
+    ghost use Rattle.msr_verdict.specs.Texts.{verdict_text};
 
-    ghost output = { λ verdict. Some (text_of verdict) };
+    ghost output = { λ verdict. Some (verdict_text verdict) };
 
     fn fmt<W: fmt::Write>(&self, f: &mut fmt::Formatter<W>) -> fmt::Result {
         f.write_str(match self {

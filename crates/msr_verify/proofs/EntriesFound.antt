@@ -1,95 +1,56 @@
 -- Walks put together from the entries that were told.
-use Rattle.std.proofs.Common.{◌≡◌, ◌↔◌, ℕ, List, ◌++◌, ◌∙◌, refl, ap, sym, append_assoc, take, drop, Ok, Err, IsErrOf}
+use Rattle.std.proofs.Common.{◌≡◌, ◌↔◌, ℕ, List, ◌++◌, refl, sym, take, drop, Ok, Err, IsErrOf}
 use Rattle.std.proofs.lemmas.List.{take-append-drop}
 use Rattle.msr_devices.specs.Device.{Device, HasFailed, Takes}
 use Rattle.msr_devices.specs.declared.fault.DeviceFault.{DeviceFault}
 use Rattle.msr_devices.specs.declared.fault.DeviceFault.TheVariants.{Failed, Memory}
 use Rattle.msr_devices.proofs.Chaining.{takes_append, calm_same, steady_sound}
 use Rattle.msr_folders.specs.Found.{Finds}
-use Rattle.msr_folders.specs.Visits.{StopsAt}
+use Rattle.msr_folders.specs.Visits.{StopsAt, StopsPrefix}
 use Rattle.msr_folders.specs.declared.found.WalkFound.{WalkFound}
 use Rattle.msr_folders.proofs.VisitLemmas as visits
-use Rattle.msr_folders.proofs.VisitLemmas.{part_none, stops_within}
+use Rattle.msr_folders.proofs.VisitLemmas.{part_none}
+use Rattle.msr_folders.proofs.WalkLemmas as walks
 use Rattle.msr_report.specs.Writing.{TakesPrefix}
 use Rattle.msr_tool.specs.Fault.{fault_of_writing}
 use Rattle.msr_tool.specs.declared.fault.ToolFault.TheVariants.{Write}
 use Rattle.msr_verify.specs.declared.judgement.Judgement.{Judgement}
 use Rattle.msr_verify.specs.declared.judgement.Judgement.TheVariants.{Refused, Skipped}
 use Rattle.msr_verify.specs.declared.judgement.Refusal.TheVariants.{FileUnopened, Listing, RecordsListing}
-use Rattle.msr_verify.specs.Entries.{Entry, IsDay, IsEntry, IsEntryLine, IsJudgementOf, IsJudgementOfDay, IsVerifyTally}
-use Rattle.msr_verify.specs.Walk.{IsWalkInPart, StopsPrefix, StopsTelling, Tells, TellsEnd, TellsInPart, Verifies, counts_line, summary}
+use Rattle.msr_verify.specs.Entries.{IsDay, IsJudgedEntry, IsJudgedEntryLine, IsJudgementOf, IsJudgementOfDay, IsVerifyTally, JudgedEntry}
+use Rattle.msr_verify.specs.Walk.{StopsTellingJudged, TellsJudged, TellsVerified, Verifies, judged_line, judged_summary}
 use Rattle.msr_verify.specs.declared.tally.VerifyTally.{VerifyTally}
 
 -- no entry more
-pub tells_none : (out : Device) (tally : VerifyTally) → Tells out out tally tally
-tells_none out tally = visits.tells_none IsEntry IsEntryLine IsVerifyTally out tally
+pub tells_none : (out : Device) (tally : VerifyTally) → TellsJudged out out tally tally
+tells_none out tally = visits.tells_none IsJudgedEntry IsJudgedEntryLine IsVerifyTally out tally
 
 pub tells_more : (out0 out1 out : Device) (tally0 tally1 tally : VerifyTally) →
-    Tells out0 out1 tally0 tally1 → Tells out1 out tally1 tally → Tells out0 out tally0 tally
+    TellsJudged out0 out1 tally0 tally1 → TellsJudged out1 out tally1 tally → TellsJudged out0 out tally0 tally
 tells_more out0 out1 out tally0 tally1 tally first second =
-    visits.tells_more IsEntry IsEntryLine IsVerifyTally out0 out1 out tally0 tally1 tally first second
+    visits.tells_more IsJudgedEntry IsJudgedEntryLine IsVerifyTally out0 out1 out tally0 tally1 tally first second
 
 -- nothing was printed
-pub none_told : (out : Device) → StopsTelling out out Memory
-none_told out = (part_none IsEntry IsEntryLine out, (calm_same out).steady)
+pub none_told : (out : Device) → StopsTellingJudged out out Memory
+none_told out = (part_none IsJudgedEntry IsJudgedEntryLine out, (calm_same out).steady)
 
 pub stops_more : (out0 out1 out : Device) (tally0 tally1 : VerifyTally) (fault : DeviceFault) →
-    Tells out0 out1 tally0 tally1 → StopsTelling out1 out fault → StopsTelling out0 out fault
+    TellsJudged out0 out1 tally0 tally1 → StopsTellingJudged out1 out fault → StopsTellingJudged out0 out fault
 stops_more out0 out1 out tally0 tally1 fault first second =
-    visits.stops_more IsEntry IsEntryLine IsVerifyTally out0 out1 out tally0 tally1 fault first second
+    visits.stops_more IsJudgedEntry IsJudgedEntryLine IsVerifyTally out0 out1 out tally0 tally1 fault first second
 
 -- a prefix of the text of a walk was printed
-pub record WalksInPart (out0 out : Device) : Type 0 where
-  pub printed : List ℕ
-  pub prints : Takes out0 out printed
-  pub walk : IsWalkInPart printed
+abbrev pub WalksInPart : Device → Device → Type 0
+WalksInPart out0 out = walks.WalksInPart IsJudgedEntry IsJudgedEntryLine judged_summary out0 out
 
--- up to an entry
-entries_in_part : (out0 out : Device) → TellsInPart out0 out → WalksInPart out0 out
-entries_in_part out0 out told = record {
-  printed = told.printed;
-  prints = told.prints;
-  walk = record {
-    entries = told.entries;
-    rest = told.rest ++ summary told.entries;
-    walk = record {
-      lines = told.printed ++ told.rest;
-      are_entries = told.are_entries;
-      are_lines = told.are_lines;
-      whole = sym (append_assoc told.printed told.rest (summary told.entries));
-    };
-  };
-}
+pub stops_entries : (out0 out : Device) (fault : DeviceFault) → StopsTellingJudged out0 out fault
+    → StopsAt (WalksInPart out0 out) out0 out fault
+stops_entries = walks.stops_entries IsJudgedEntry IsJudgedEntryLine judged_summary
 
--- all entries, and a prefix of the last lines
-summary_in_part : (out0 out1 out : Device) (tally0 tally : VerifyTally)
-    (told : Tells out0 out1 tally0 tally) →
-    TakesPrefix out1 out (summary told.entries) → WalksInPart out0 out
-summary_in_part out0 out1 out tally0 tally told front = record {
-  printed = told.lines ++ front.taken;
-  prints = takes_append out0 out1 out told.lines front.taken told.prints front.takes;
-  walk = record {
-    entries = told.entries;
-    rest = front.rest;
-    walk = record {
-      lines = told.lines;
-      are_entries = told.are_entries;
-      are_lines = told.are_lines;
-      whole = append_assoc told.lines front.taken front.rest ∙ ap (λ (t : List ℕ). told.lines ++ t) (sym front.whole);
-    };
-  };
-}
-
-pub stops_entries : (out0 out : Device) (fault : DeviceFault) → StopsTelling out0 out fault →
-    StopsAt (WalksInPart out0 out) out0 out fault
-stops_entries out0 out fault told = stops_within out0 out0 out fault (calm_same out0)
-    (entries_in_part out0 out) told
-
-pub stops_summary : (out0 out1 out : Device) (tally0 tally : VerifyTally) (fault : DeviceFault) →
-    (told : Tells out0 out1 tally0 tally) → StopsPrefix out1 out (summary told.entries) fault →
-    StopsAt (WalksInPart out0 out) out0 out fault
-stops_summary out0 out1 out tally0 tally fault told front =
-    stops_within out0 out1 out fault told.calm (summary_in_part out0 out1 out tally0 tally told) front
+pub stops_summary : (out0 out1 out : Device) (tally0 tally : VerifyTally) (fault : DeviceFault)
+    (told : TellsJudged out0 out1 tally0 tally) → StopsPrefix out1 out (judged_summary told.entries) fault
+    → StopsAt (WalksInPart out0 out) out0 out fault
+stops_summary = walks.stops_summary IsJudgedEntry IsJudgedEntryLine judged_summary IsVerifyTally
 
 pub walk_stops : (out0 out : Device) (fault : DeviceFault)
     → StopsAt (WalksInPart out0 out) out0 out fault → Verifies out0 out (Err (fault_of_writing fault))
@@ -103,17 +64,17 @@ stop_tells Part out0 out Failed h = ((λ e. h.1), (λ has_failed. refl))
 stop_tells Part out0 out Memory h = ((λ e. absurd cc), (λ has_failed. absurd (steady_sound out0 out h.1 has_failed)))
 
 -- what the counts find is what the entries tell
-pub tells_end : (entries : List Entry) (tally : VerifyTally) (found : WalkFound) → IsVerifyTally entries tally
-    → Finds tally.unverified tally.verified found → TellsEnd entries found
+pub tells_end : (entries : List JudgedEntry) (tally : VerifyTally) (found : WalkFound) → IsVerifyTally entries tally
+    → Finds tally.unverified tally.verified found → TellsVerified entries found
 tells_end entries tally found counts finds = rw (counts.unverified, counts.verified) at finds
 
 pub walk_ends : (out0 out1 out : Device) (tally0 tally : VerifyTally) (found : WalkFound) →
-    (told : Tells out0 out1 tally0 tally) → Takes out1 out (summary told.entries)
-    → TellsEnd told.entries found →
+    (told : TellsJudged out0 out1 tally0 tally) → Takes out1 out (judged_summary told.entries)
+    → TellsVerified told.entries found →
     Verifies out0 out (Ok found)
 walk_ends out0 out1 out tally0 tally found told prints end = record {
-  printed = told.lines ++ summary told.entries;
-  prints = takes_append out0 out1 out told.lines (summary told.entries) told.prints prints;
+  printed = told.lines ++ judged_summary told.entries;
+  prints = takes_append out0 out1 out told.lines (judged_summary told.entries) told.prints prints;
   ends = (
     told.entries,
     record {
@@ -127,7 +88,8 @@ walk_ends out0 out1 out tally0 tally found told prints end = record {
 }
 
 -- the last line, from the counts of the entries
-pub summary_is : (entries : List Entry) (tally : VerifyTally) → IsVerifyTally entries tally → counts_line tally ≡ summary entries
+pub summary_is : (entries : List JudgedEntry) (tally : VerifyTally) → IsVerifyTally entries tally
+    → judged_line tally ≡ judged_summary entries
 summary_is entries tally h =
     rw (h.verified, h.skipped, h.refused, h.missing, h.not_shown, h.differ, h.orphans) refl
 

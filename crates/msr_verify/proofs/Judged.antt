@@ -13,21 +13,21 @@ use Rattle.msr_input.specs.declared.fault.ReadFault.{ReadFault}
 use Rattle.msr_input.specs.declared.fault.ReadFault.TheVariants as stop
 use Rattle.msr_verdict.specs.Packed.{VerifyAnswers, settings_by}
 use Rattle.msr_verdict.specs.declared.verdict.Verdict.TheVariants as verdict
-use Rattle.msr_verify.specs.Day.{ComparesDay, DataAnswers, DayAnswers, IsShownLeast, VerifiesDay, fault_of_report}
+use Rattle.msr_verify.specs.Day.{ComparesData, DataAnswers, DayAnswers, IsShownLeast, VerifiesDay, verify_fault_of_report}
 use Rattle.msr_verify.specs.declared.judging.Finding.{Finding}
 use Rattle.msr_verify.specs.declared.judging.Finding.TheVariants.{Verified, NotShown, Differs}
 use Rattle.msr_verify.specs.declared.judging.VerifyFault.{VerifyFault}
 use Rattle.msr_verify.specs.declared.judging.VerifyFault.TheVariants.{File, Records, ReportLine, ReportRead, ReportMemory}
 
 fault_said : (first second third text : List ℕ) (why : ReportFault) → ReadsReport text (Err why)
-    → DayAnswers first second third text (Err (fault_of_report why))
+    → DayAnswers first second third text (Err (verify_fault_of_report why))
 fault_said first second third text (report_stop.Line line) reads = reads
 fault_said first second third text report_stop.Read reads = tt
 fault_said first second third text report_stop.Memory reads = tt
 
 -- a report that is at fault
 pub report_fails : (file records again report : Device) (text : List ℕ) (why : ReportFault) → HasLeft report text
-    → ReadsReport text (Err why) → VerifiesDay file records again report (Err (fault_of_report why))
+    → ReadsReport text (Err why) → VerifiesDay file records again report (Err (verify_fault_of_report why))
 report_fails file records again report text why left reads =
     let f = left_of file in
     let r = left_of records in
@@ -112,7 +112,7 @@ comparison_said first second third text found (Err ReportMemory) shown is said =
 -- records that are shown, compared with the day's own file
 pub data_compared : (file records again report : Device) (second text : List ℕ) (found : Report)
     (result : Result Finding VerifyFault) → HasLeft records second → HasLeft report text → ReadsReport text (Ok found)
-    → VerifyAnswers found second (Ok verdict.Least) → ComparesDay (settings_by found) file again result
+    → VerifyAnswers found second (Ok verdict.Least) → ComparesData (settings_by found) file again result
     → VerifiesDay file records again report result
 data_compared file records again report second text found result left_records left reads least compared = record {
   first = compared.first;

@@ -5,11 +5,12 @@ use Rattle.msr_report.specs.declared.report.Report.{Report}
 use Rattle.msr_report_reader.specs.Reading.{IsReadFrom, ReadsReport}
 use Rattle.msr_report_reader.specs.declared.fault.ReportFault.{ReportFault}
 use Rattle.msr_report_reader.specs.declared.fault.ReportFault.TheVariants as report_stop
+use Rattle.msr_input.specs.Input.{HasFirstFault}
 use Rattle.msr_input.specs.declared.settings.Settings.{Settings}
 use Rattle.msr_input.specs.declared.fault.Fault.{Fault}
 use Rattle.msr_input.specs.declared.fault.ReadFault.TheVariants as stop
 use Rattle.msr_verdict.specs.Packed.{ShowsLeast, DoesNotShow, VerifyAnswers, settings_by}
-use Rattle.msr_compare.specs.Answers.{DifferFirst, HasFirstFault, HaveSameSegments, OtherHasFault}
+use Rattle.msr_compare.specs.Answers.{DifferFirst, HaveSameSegments, OtherHasFault}
 use Rattle.msr_compare.specs.declared.comparison.Difference.{Difference}
 use Rattle.msr_verify.specs.declared.judging.Finding.{Finding}
 use Rattle.msr_verify.specs.declared.judging.Finding.TheVariants.{Verified, NotShown, Differs}
@@ -17,10 +18,10 @@ use Rattle.msr_verify.specs.declared.judging.VerifyFault.{VerifyFault}
 use Rattle.msr_verify.specs.declared.judging.VerifyFault.TheVariants.{File, Records, ReportLine, ReportRead, ReportMemory}
 
 -- where the report is at fault
-abbrev pub fault_of_report : ReportFault → VerifyFault
-fault_of_report (report_stop.Line line) = ReportLine line
-fault_of_report report_stop.Read = ReportRead
-fault_of_report report_stop.Memory = ReportMemory
+abbrev pub verify_fault_of_report : ReportFault → VerifyFault
+verify_fault_of_report (report_stop.Line line) = ReportLine line
+verify_fault_of_report report_stop.Read = ReportRead
+verify_fault_of_report report_stop.Memory = ReportMemory
 
 -- both are readable, and there is a first difference of their segments
 abbrev pub HaveDifference : Settings → (file records : List ℕ) → Type 0
@@ -42,7 +43,7 @@ DataAnswers settings file records (Err ReportRead) = ⊥
 DataAnswers settings file records (Err ReportMemory) = ⊥
 
 -- What comparing the day's own file with its records answers.
-pub record ComparesDay (settings : Settings) (file records : Device) (result : Result Finding VerifyFault) : Type 0 where
+pub record ComparesData (settings : Settings) (file records : Device) (result : Result Finding VerifyFault) : Type 0 where
   pub first : List ℕ
   pub second : List ℕ
   pub left_file : HasLeft file first
@@ -62,7 +63,7 @@ pub record IsVerified (file records again text : List ℕ) : Type 0 where
   pub same : HaveSameSegments (settings_by shown.report) file again
 
 -- The report shows it, and there is a first difference of the segments.
-pub record IsDifferent (file records again text : List ℕ) : Type 0 where
+pub record HasDifferentData (file records again text : List ℕ) : Type 0 where
   pub shown : IsShownLeast records text
   pub differ : HaveDifference (settings_by shown.report) file again
 
@@ -94,7 +95,7 @@ pub record IsAgainRefused (file records again text : List ℕ) (found : Fault) :
 abbrev pub DayAnswers : (file records again text : List ℕ) → Result Finding VerifyFault → Type 0
 DayAnswers file records again text (Ok Verified) = IsVerified file records again text
 DayAnswers file records again text (Ok NotShown) = IsUnshown records text
-DayAnswers file records again text (Ok Differs) = IsDifferent file records again text
+DayAnswers file records again text (Ok Differs) = HasDifferentData file records again text
 DayAnswers file records again text (Err (File (stop.Input found))) = IsFileRefused file records text found
 DayAnswers file records again text (Err (File stop.Read)) = Unit {0}
 DayAnswers file records again text (Err (File stop.Memory)) = Unit {0}

@@ -5,7 +5,7 @@ use Rattle.msr_sds.specs.SdsPath.{SdsPath, ReadsAsDay}
 use Rattle.msr_folders.specs.Totals.{saturated}
 use Rattle.msr_folders.specs.Days.{IsNoDay}
 use Rattle.msr_folders.specs.Paths.{shown_path}
-use Rattle.msr_folders.specs.Visits as visits
+use Rattle.msr_folders.specs.Visits.{IsLineWithReason}
 use Rattle.msr_verify.specs.Day.{DayAnswers}
 use Rattle.msr_verify.specs.declared.judging.Finding.{Finding}
 use Rattle.msr_verify.specs.declared.judging.Finding.TheVariants as finding
@@ -16,7 +16,7 @@ use Rattle.msr_verify.specs.declared.judgement.Refusal.TheVariants.{FileUnopened
 use Rattle.msr_verify.specs.declared.tally.VerifyTally.{VerifyTally}
 
 -- an entry: its path from the archive's folder, and what was found of it
-pub record Entry : Type 0 where
+pub record JudgedEntry : Type 0 where
   pub path : List ℕ
   pub judgement : Judgement
 
@@ -29,7 +29,7 @@ judgement_of (Err fault) = Refused (Day fault)
 
 -- Some files, the day's own, its records, twice, and its report, have this answer. Nothing is known of the files of the
 -- system but that they have some bytes.
-pub record HasAnswer (answer : Result Finding VerifyFault) : Type 0 where
+pub record HasDayAnswer (answer : Result Finding VerifyFault) : Type 0 where
   pub file : List ℕ
   pub records : List ℕ
   pub again : List ℕ
@@ -38,10 +38,10 @@ pub record HasAnswer (answer : Result Finding VerifyFault) : Type 0 where
 
 -- what a judgement says of a day
 abbrev pub IsJudgementOfDay : Judgement → Type 0
-IsJudgementOfDay Verified = HasAnswer (Ok finding.Verified)
-IsJudgementOfDay NotShown = HasAnswer (Ok finding.NotShown)
-IsJudgementOfDay Differs = HasAnswer (Ok finding.Differs)
-IsJudgementOfDay (Refused (Day fault)) = HasAnswer (Err fault)
+IsJudgementOfDay Verified = HasDayAnswer (Ok finding.Verified)
+IsJudgementOfDay NotShown = HasDayAnswer (Ok finding.NotShown)
+IsJudgementOfDay Differs = HasDayAnswer (Ok finding.Differs)
+IsJudgementOfDay (Refused (Day fault)) = HasDayAnswer (Err fault)
 IsJudgementOfDay (Refused Listing) = ⊥
 IsJudgementOfDay (Refused RecordsListing) = ⊥
 IsJudgementOfDay (Skipped fault) = ⊥
@@ -64,30 +64,21 @@ IsJudgementOf path (Refused RecordsListing) = ⊤
 IsJudgementOf path (Skipped fault) = IsNoDay path fault
 IsJudgementOf path judgement = IsFoundOfDay path judgement
 
-abbrev pub IsEntry : Entry → Type 0
-IsEntry entry = IsJudgementOf entry.path entry.judgement
-
--- a line that says why
-abbrev pub IsLineWithReason : (word path line : List ℕ) → Type 0
-IsLineWithReason word path line = (why : List ℕ)
-    × (line ≡ word ++ (shown_path path ++ (codes ": " ++ (why ++ codes "\n"))))
+abbrev pub IsJudgedEntry : JudgedEntry → Type 0
+IsJudgedEntry entry = IsJudgementOf entry.path entry.judgement
 
 -- The line of an entry. The texts of faults are shown by tests.
-abbrev pub IsLineOf : List ℕ → Judgement → List ℕ → Type 0
-IsLineOf path Verified line = line ≡ codes "verified " ++ (shown_path path ++ codes "\n")
-IsLineOf path Missing line = line ≡ codes "missing " ++ (shown_path path ++ codes "\n")
-IsLineOf path NotShown line = line ≡ codes "notshown " ++ (shown_path path ++ codes "\n")
-IsLineOf path Differs line = line ≡ codes "differs " ++ (shown_path path ++ codes "\n")
-IsLineOf path Orphan line = line ≡ codes "orphan " ++ (shown_path path ++ codes "\n")
-IsLineOf path (Skipped fault) line = IsLineWithReason (codes "skipped ") path line
-IsLineOf path (Refused refusal) line = IsLineWithReason (codes "refused ") path line
+abbrev pub IsJudgementLine : List ℕ → Judgement → List ℕ → Type 0
+IsJudgementLine path Verified line = line ≡ codes "verified " ++ (shown_path path ++ codes "\n")
+IsJudgementLine path Missing line = line ≡ codes "missing " ++ (shown_path path ++ codes "\n")
+IsJudgementLine path NotShown line = line ≡ codes "notshown " ++ (shown_path path ++ codes "\n")
+IsJudgementLine path Differs line = line ≡ codes "differs " ++ (shown_path path ++ codes "\n")
+IsJudgementLine path Orphan line = line ≡ codes "orphan " ++ (shown_path path ++ codes "\n")
+IsJudgementLine path (Skipped fault) line = IsLineWithReason (codes "skipped ") (shown_path path) line
+IsJudgementLine path (Refused refusal) line = IsLineWithReason (codes "refused ") (shown_path path) line
 
-abbrev pub IsEntryLine : Entry → List ℕ → Type 0
-IsEntryLine entry line = IsLineOf entry.path entry.judgement line
-
--- the lines of entries, one after another
-abbrev pub AreLines : List Entry → List ℕ → Type 0
-AreLines entries lines = visits.AreLines IsEntryLine entries lines
+abbrev pub IsJudgedEntryLine : JudgedEntry → List ℕ → Type 0
+IsJudgedEntryLine entry line = IsJudgementLine entry.path entry.judgement line
 
 abbrev pub is_verified : Judgement → Bool
 is_verified Verified = true
@@ -105,13 +96,13 @@ abbrev pub is_different : Judgement → Bool
 is_different Differs = true
 is_different _ = false
 
-abbrev pub is_refused : Judgement → Bool
-is_refused (Refused refusal) = true
-is_refused _ = false
+abbrev pub is_judged_refused : Judgement → Bool
+is_judged_refused (Refused refusal) = true
+is_judged_refused _ = false
 
-abbrev pub is_skipped : Judgement → Bool
-is_skipped (Skipped fault) = true
-is_skipped _ = false
+abbrev pub is_judged_skipped : Judgement → Bool
+is_judged_skipped (Skipped fault) = true
+is_judged_skipped _ = false
 
 abbrev pub is_orphan : Judgement → Bool
 is_orphan Orphan = true
@@ -124,29 +115,29 @@ is_unverified (Skipped fault) = false
 is_unverified _ = true
 
 -- how many entries have such a judgement, or 2^64 - 1 if they are more
-abbrev pub counted : (Judgement → Bool) → List Entry → ℕ
-counted of entries = saturated (count_by (λ entry. of entry.judgement) entries)
+abbrev pub judged_count : (Judgement → Bool) → List JudgedEntry → ℕ
+judged_count of entries = saturated (count_by (λ entry. of entry.judgement) entries)
 
 -- the counts of the entries
-abbrev pub tally_of : List Entry → VerifyTally
-tally_of entries = record {
-  verified = counted is_verified entries;
-  skipped = counted is_skipped entries;
-  refused = counted is_refused entries;
-  missing = counted is_missing entries;
-  not_shown = counted is_not_shown entries;
-  differ = counted is_different entries;
-  orphans = counted is_orphan entries;
-  unverified = counted is_unverified entries;
+abbrev pub verify_tally_of : List JudgedEntry → VerifyTally
+verify_tally_of entries = record {
+  verified = judged_count is_verified entries;
+  skipped = judged_count is_judged_skipped entries;
+  refused = judged_count is_judged_refused entries;
+  missing = judged_count is_missing entries;
+  not_shown = judged_count is_not_shown entries;
+  differ = judged_count is_different entries;
+  orphans = judged_count is_orphan entries;
+  unverified = judged_count is_unverified entries;
 }
 
 -- These are the counts of the entries.
-pub record IsVerifyTally (entries : List Entry) (tally : VerifyTally) : Type 0 where
-  pub verified : tally.verified ≡ counted is_verified entries
-  pub skipped : tally.skipped ≡ counted is_skipped entries
-  pub refused : tally.refused ≡ counted is_refused entries
-  pub missing : tally.missing ≡ counted is_missing entries
-  pub not_shown : tally.not_shown ≡ counted is_not_shown entries
-  pub differ : tally.differ ≡ counted is_different entries
-  pub orphans : tally.orphans ≡ counted is_orphan entries
-  pub unverified : tally.unverified ≡ counted is_unverified entries
+pub record IsVerifyTally (entries : List JudgedEntry) (tally : VerifyTally) : Type 0 where
+  pub verified : tally.verified ≡ judged_count is_verified entries
+  pub skipped : tally.skipped ≡ judged_count is_judged_skipped entries
+  pub refused : tally.refused ≡ judged_count is_judged_refused entries
+  pub missing : tally.missing ≡ judged_count is_missing entries
+  pub not_shown : tally.not_shown ≡ judged_count is_not_shown entries
+  pub differ : tally.differ ≡ judged_count is_different entries
+  pub orphans : tally.orphans ≡ judged_count is_orphan entries
+  pub unverified : tally.unverified ≡ judged_count is_unverified entries

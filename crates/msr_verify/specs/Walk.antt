@@ -1,17 +1,14 @@
 -- What a walk prints, and how it ends.
-use Rattle.std.specs.Prelude.{◌≡◌, ℕ, List, ◌++◌, codes, Result, Ok, Err}
+use Rattle.std.specs.Prelude.{ℕ, List, ◌++◌, codes, Result, Ok, Err}
 use Rattle.std.specs.Fmt.{decimal}
-use Rattle.std.specs.List.{AllByRecursion}
 use Rattle.msr_devices.specs.Device.{Device, Takes}
 use Rattle.msr_devices.specs.declared.fault.DeviceFault.{DeviceFault}
-use Rattle.msr_folders.specs.Visits as visits
-use Rattle.msr_folders.specs.Visits.{StopsAt}
+use Rattle.msr_folders.specs.Visits.{IsWalk, IsWalkInPart, StopsTelling, Tells}
 use Rattle.msr_folders.specs.Found.{Finds}
 use Rattle.msr_folders.specs.declared.found.WalkFound.{WalkFound}
-use Rattle.msr_report.specs.Writing.{TakesPrefix}
 use Rattle.msr_tool.specs.declared.fault.ToolFault.{ToolFault}
 use Rattle.msr_tool.specs.declared.fault.ToolFault.TheVariants.{Input, Report, Read, Write, Memory}
-use Rattle.msr_verify.specs.Entries.{Entry, IsEntry, IsEntryLine, AreLines, IsVerifyTally, counted, is_unverified, is_verified, tally_of}
+use Rattle.msr_verify.specs.Entries.{IsJudgedEntry, IsJudgedEntryLine, IsVerifyTally, JudgedEntry, is_unverified, is_verified, judged_count, verify_tally_of}
 use Rattle.msr_verify.specs.declared.tally.VerifyTally.{VerifyTally}
 
 -- the counts at the end of the last line
@@ -22,61 +19,41 @@ others_told tally =
     ++ (codes " orphan " ++ decimal tally.orphans))))))
 
 -- the last line
-abbrev pub counts_line : VerifyTally → List ℕ
-counts_line tally =
+abbrev pub judged_line : VerifyTally → List ℕ
+judged_line tally =
     codes "files " ++ (decimal tally.verified ++ (codes " skipped "
     ++ (decimal tally.skipped ++ (codes " refused " ++ (decimal tally.refused
     ++ (others_told tally ++ codes "\n"))))))
 
 -- the line after those of the entries
-abbrev pub summary : List Entry → List ℕ
-summary entries = counts_line (tally_of entries)
-
--- a prefix of a text was printed when the walk stops: the sink failed, or else memory was refused
-abbrev pub StopsPrefix : Device → Device → List ℕ → DeviceFault → Type 0
-StopsPrefix out0 out text fault = StopsAt (TakesPrefix out0 out text) out0 out fault
+abbrev pub judged_summary : List JudgedEntry → List ℕ
+judged_summary entries = judged_line (verify_tally_of entries)
 
 -- some more entries were told: their lines were printed, and they are counted
-abbrev pub Tells : Device → Device → VerifyTally → VerifyTally → Type 0
-Tells out0 out tally0 tally = visits.Tells IsEntry IsEntryLine IsVerifyTally out0 out tally0 tally
-
--- a prefix of the lines of some more entries was printed
-abbrev pub TellsInPart : Device → Device → Type 0
-TellsInPart out0 out = visits.TellsInPart IsEntry IsEntryLine out0 out
+abbrev pub TellsJudged : Device → Device → VerifyTally → VerifyTally → Type 0
+TellsJudged out0 out tally0 tally = Tells IsJudgedEntry IsJudgedEntryLine IsVerifyTally out0 out tally0 tally
 
 -- that was printed when the walk stopped
-abbrev pub StopsTelling : Device → Device → DeviceFault → Type 0
-StopsTelling out0 out fault = StopsAt (TellsInPart out0 out) out0 out fault
-
--- The text of a whole walk: a line for each of some entries, and then what these very entries sum up to.
-pub record IsWalk (text : List ℕ) (entries : List Entry) : Type 0 where
-  pub lines : List ℕ
-  pub are_entries : AllByRecursion IsEntry entries
-  pub are_lines : AreLines entries lines
-  pub whole : text ≡ lines ++ summary entries
+abbrev pub StopsTellingJudged : Device → Device → DeviceFault → Type 0
+StopsTellingJudged out0 out fault = StopsTelling IsJudgedEntry IsJudgedEntryLine out0 out fault
 
 -- a walk that came to its end tells whether one of its entries is neither verified nor skipped, and if none is, whether
 -- one is verified
-abbrev pub TellsEnd : List Entry → WalkFound → Type 0
-TellsEnd entries found = Finds (counted is_unverified entries) (counted is_verified entries) found
-
--- A prefix of the text of a whole walk.
-pub record IsWalkInPart (printed : List ℕ) : Type 0 where
-  pub entries : List Entry
-  pub rest : List ℕ
-  pub walk : IsWalk (printed ++ rest) entries
+abbrev pub TellsVerified : List JudgedEntry → WalkFound → Type 0
+TellsVerified entries found = Finds (judged_count is_unverified entries) (judged_count is_verified entries) found
 
 -- the whole text was printed, or a prefix of it when the walk stopped, which no input and no source can make it do
-abbrev pub WalkEnds : (printed : List ℕ) → Result WalkFound ToolFault → Type 0
-WalkEnds printed (Ok found) = (entries : List Entry) × IsWalk printed entries × TellsEnd entries found
-WalkEnds printed (Err (Input found)) = ⊥
-WalkEnds printed (Err (Report line)) = ⊥
-WalkEnds printed (Err Read) = ⊥
-WalkEnds printed (Err Write) = IsWalkInPart printed
-WalkEnds printed (Err Memory) = IsWalkInPart printed
+abbrev pub VerifyingEnds : (printed : List ℕ) → Result WalkFound ToolFault → Type 0
+VerifyingEnds printed (Ok found) = (entries : List JudgedEntry)
+    × IsWalk IsJudgedEntry IsJudgedEntryLine judged_summary printed entries × TellsVerified entries found
+VerifyingEnds printed (Err (Input found)) = ⊥
+VerifyingEnds printed (Err (Report line)) = ⊥
+VerifyingEnds printed (Err Read) = ⊥
+VerifyingEnds printed (Err Write) = IsWalkInPart IsJudgedEntry IsJudgedEntryLine judged_summary printed
+VerifyingEnds printed (Err Memory) = IsWalkInPart IsJudgedEntry IsJudgedEntryLine judged_summary printed
 
 -- What verifying an archive printed, and how it ended.
 pub record Verifies (out0 out : Device) (result : Result WalkFound ToolFault) : Type 0 where
   pub printed : List ℕ
   pub prints : Takes out0 out printed
-  pub ends : WalkEnds printed result
+  pub ends : VerifyingEnds printed result

@@ -4,9 +4,9 @@ ghost use Rattle.msr_verify.specs.Entries.{IsJudgementOfDay};
 
 use crate::judgement::{Judgement, Refusal, judgement_of};
 use crate::judging::verify_day;
+use msr_devices::FromRead;
 use msr_folders::{Look, ended, is_gone, join, open_regular};
 use msr_options::Folders;
-use msr_tool::FromRead;
 use std::alloc::{AllocError, Global};
 use std::rt::Files;
 

@@ -3,8 +3,8 @@ ghost use Rattle.std.specs.Prelude.{◌↔◌, IfErr, IsErrOf, OnOk};
 ghost use Rattle.msr_devices.specs.Device.{CanCountCall, HasFailed};
 ghost use Rattle.msr_sds.specs.SdsPath.{ReadsAsDay, SdsPath};
 ghost use Rattle.msr_folders.proofs.VisitLemmas.{visitor_laws};
-ghost use Rattle.msr_verify.specs.Entries.{IsEntry, IsEntryLine, IsJudgementOf, IsVerifyTally};
-ghost use Rattle.msr_verify.specs.Walk.{StopsTelling, Tells, Verifies};
+ghost use Rattle.msr_verify.specs.Entries.{IsJudgedEntry, IsJudgedEntryLine, IsJudgementOf, IsVerifyTally};
+ghost use Rattle.msr_verify.specs.Walk.{StopsTellingJudged, TellsJudged, Verifies};
 
 use crate::day::judge_day;
 use crate::judgement::{Judgement, Refusal};
@@ -45,9 +45,9 @@ fn tell<R: Files, O: Sink>(
 ) -> Result<(), DeviceFault>
     requires { CanCountCall (O.device out.old) }
     ensures told { IsJudgementOf path.now judgement →
-        OnOk result (Tells (O.device out.old) (O.device out.new) tally.old tally.new) }
+        OnOk result (TellsJudged (O.device out.old) (O.device out.new) tally.old tally.new) }
     ensures stops { IsJudgementOf path.now judgement →
-        IfErr result (StopsTelling (O.device out.old) (O.device out.new)) }
+        IfErr result (StopsTellingJudged (O.device out.old) (O.device out.new)) }
 {
     let line = judgement.line(verifier.alloc, path)?;
     write_all(out, line.as_bytes())?;
@@ -64,9 +64,9 @@ fn tell_day<R: Files, O: Sink>(
 ) -> Result<(), DeviceFault>
     requires count { CanCountCall (O.device out.old) }
     ensures told { (name : SdsPath) → ReadsAsDay path.now name →
-        OnOk result (Tells (O.device out.old) (O.device out.new) tally.old tally.new) }
+        OnOk result (TellsJudged (O.device out.old) (O.device out.new) tally.old tally.new) }
     ensures stops { (name : SdsPath) → ReadsAsDay path.now name →
-        IfErr result (StopsTelling (O.device out.old) (O.device out.new)) }
+        IfErr result (StopsTellingJudged (O.device out.old) (O.device out.new)) }
 {
     let folders = verifier.archive.folders;
     if verifier.tree == Tree::Root {
@@ -85,11 +85,11 @@ impl<R: Files> Visitor for Verifier<'_, R> {
 
     type Folder = ();
 
-    ghost tells = { λ _. Tells };
+    ghost tells = { λ _. TellsJudged };
 
-    ghost stops = { λ _. StopsTelling };
+    ghost stops = { λ _. StopsTellingJudged };
 
-    ghost laws = { visitor_laws (λ _. IsEntry) (λ _. IsEntryLine) IsVerifyTally };
+    ghost laws = { visitor_laws (λ _. IsJudgedEntry) (λ _. IsJudgedEntryLine) IsVerifyTally };
 
     fn enter_folder(&self, _folder: &str, _levels: u8) -> Result<(), AllocError> {
         Ok(())
@@ -141,8 +141,8 @@ fn walk_tree<R: Files, O: Sink>(
     tally: &mut VerifyTally,
 ) -> Result<(), DeviceFault>
     requires { CanCountCall (O.device out.old) }
-    ensures told { OnOk result (Tells (O.device out.old) (O.device out.new) tally.old tally.new) }
-    ensures stops { IfErr result (StopsTelling (O.device out.old) (O.device out.new)) }
+    ensures told { OnOk result (TellsJudged (O.device out.old) (O.device out.new) tally.old tally.new) }
+    ensures stops { IfErr result (StopsTellingJudged (O.device out.old) (O.device out.new)) }
 {
     let root = match tree {
         Tree::Root => archive.folders.root,

@@ -1,7 +1,7 @@
 //! What is found of an entry of a folder, and its line.
 ghost use Rattle.std.specs.Prelude.{◌≡◌, IfOk};
 ghost use Rattle.std.specs.String.{string_bytes};
-ghost use Rattle.msr_verify.specs.Entries.{IsLineOf, judgement_of};
+ghost use Rattle.msr_verify.specs.Entries.{IsJudgementLine, judgement_of};
 
 use crate::judging::{Finding, VerifyFault};
 use msr_folders::shown_path;
@@ -67,7 +67,7 @@ pub(crate) fn judgement_of(answer: Result<Finding, VerifyFault>) -> Judgement
 impl Judgement {
     /// The line that tells it of the entry with this path.
     pub(crate) fn line(self, alloc: Global, path: &str) -> Result<String, AllocError>
-        ensures { IfOk result (λ line. IsLineOf path.now self (string_bytes line)) }
+        ensures { IfOk result (λ line. IsJudgementLine path.now self (string_bytes line)) }
     {
         let path = shown_path(alloc, path)?;
         let word = match self {

@@ -2,7 +2,7 @@
 ghost use Rattle.std.specs.Prelude.{◌≡◌, ◌↔◌, ◌⊎◌, ℕ, List, IsErrOf};
 ghost use Rattle.msr_devices.specs.Device.{CanCountCall, CountsFew, HasFailed, HasLeft};
 ghost use Rattle.msr_report.specs.Proper.{IsProper};
-ghost use Rattle.msr_verify.specs.Day.{ComparesDay, VerifiesDay, fault_of_report};
+ghost use Rattle.msr_verify.specs.Day.{ComparesData, VerifiesDay, verify_fault_of_report};
 ghost use Rattle.msr_verdict.specs.Packed.{settings_by};
 
 use msr_compare::{CompareFault, Comparison, compare};
@@ -46,7 +46,7 @@ pub enum VerifyFault {
 }
 
 fn report_fault(fault: ReportFault) -> VerifyFault
-    ensures { result ≡ fault_of_report fault }
+    ensures { result ≡ verify_fault_of_report fault }
 {
     match fault {
         ReportFault::Line(line) => VerifyFault::ReportLine(line),
@@ -65,7 +65,7 @@ fn compare_day<F: Source, P: Source>(
     requires file { CanCountCall (F.device file.old) }
     requires records { CanCountCall (P.device records.old) }
     requires report { IsProper report.now }
-    ensures answer { ComparesDay (settings_by report.now) (F.device file.old) (P.device records.old) result }
+    ensures answer { ComparesData (settings_by report.now) (F.device file.old) (P.device records.old) result }
     ensures read_file { IsErrOf result (VerifyFault.File ReadFault.Read)
         ↔ HasFailed (F.device file.old) (F.device file.new) }
     ensures read_records { IsErrOf result (VerifyFault.Records ReadFault.Read)

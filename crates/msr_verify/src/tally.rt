@@ -2,8 +2,9 @@
 ghost use Rattle.std.specs.Prelude.{◌≡◌, ◌++◌, ◌∷◌, [], List, IfErr, IfOk, OnOk};
 ghost use Rattle.std.specs.String.{string_bytes};
 ghost use Rattle.msr_devices.specs.Device.{CanCountCall, IsCalm, Takes};
-ghost use Rattle.msr_verify.specs.Entries.{Entry, IsVerifyTally};
-ghost use Rattle.msr_verify.specs.Walk.{StopsPrefix, counts_line, others_told};
+ghost use Rattle.msr_folders.specs.Visits.{StopsPrefix};
+ghost use Rattle.msr_verify.specs.Entries.{IsVerifyTally, JudgedEntry};
+ghost use Rattle.msr_verify.specs.Walk.{judged_line, others_told};
 
 use crate::judgement::Judgement;
 use msr_devices::{DeviceFault, Sink, write_all};
@@ -32,8 +33,8 @@ impl VerifyTally {
 
     /// Counts one entry more.
     pub(crate) fn add(&mut self, judgement: Judgement)
-        ensures { (before : List Entry) (entry : Entry) → IsVerifyTally before self.old → entry.judgement ≡ judgement
-            → IsVerifyTally (before ++ entry ∷ []) self.new }
+        ensures { (before : List JudgedEntry) (entry : JudgedEntry) → IsVerifyTally before self.old
+            → entry.judgement ≡ judgement → IsVerifyTally (before ++ entry ∷ []) self.new }
     {
         match judgement {
             Judgement::Verified => {
@@ -64,7 +65,7 @@ impl VerifyTally {
 
     /// The last line.
     fn line(self, alloc: Global) -> Result<String, AllocError>
-        ensures { IfOk result (λ line. string_bytes line ≡ counts_line self) }
+        ensures { IfOk result (λ line. string_bytes line ≡ judged_line self) }
     {
         let (files, skipped, refused) = (self.verified, self.skipped, self.refused);
         let others = self.others(alloc)?;
@@ -74,9 +75,9 @@ impl VerifyTally {
     /// Writes the last line.
     pub(crate) fn write<O: Sink>(self, alloc: Global, out: &mut O) -> Result<(), DeviceFault>
         requires { CanCountCall (O.device out.old) }
-        ensures all { OnOk result (Takes (O.device out.old) (O.device out.new) (counts_line self)) }
+        ensures all { OnOk result (Takes (O.device out.old) (O.device out.new) (judged_line self)) }
         ensures calm { OnOk result (IsCalm (O.device out.old) (O.device out.new)) }
-        ensures stops { IfErr result (StopsPrefix (O.device out.old) (O.device out.new) (counts_line self)) }
+        ensures stops { IfErr result (StopsPrefix (O.device out.old) (O.device out.new) (judged_line self)) }
     {
         let line = self.line(alloc)?;
         write_all(out, line.as_bytes())?;

@@ -13,7 +13,7 @@ use Rattle.msr_tool.specs.declared.fault.ToolFault.{ToolFault}
 use Rattle.msr_tool.specs.declared.fault.ToolFault.TheVariants as fault
 use Rattle.msr_options.specs.declared.days.DayOptions.{DayOptions}
 use Rattle.msr_options.specs.declared.hint.Unopened.{Unopened}
-use Rattle.msr_walk.specs.Day.{RepacksDay, HasAnswer, IsComparedIfAsked, IsDayOutcome, IsOutcomeOfDay, IsRepackedDay, IsShownIfAsked, IsUnread, fault_of_checking}
+use Rattle.msr_walk.specs.Day.{RepacksDay, HasAnswer, IsComparedIfAsked, IsDayOutcome, IsOutcomeOfDay, IsRepackedDay, IsShownIfAsked, IsReadOrMemory, fault_of_checking}
 use Rattle.msr_walk.specs.Entries.{IsDayOf, IsOutcomeOf}
 use Rattle.msr_walk.specs.declared.outcome.Outcome.{Outcome}
 use Rattle.msr_walk.specs.declared.outcome.Outcome.TheVariants.{Skipped, Refused}
@@ -59,7 +59,8 @@ stopped_after choice input written report r = record {
   };
 }
 
-day_unread : (choice : Choice) (repacked : Repacked) (why : ToolFault) → HasAnswer choice (Ok repacked) → IsUnread why
+day_unread : (choice : Choice) (repacked : Repacked) (why : ToolFault) → HasAnswer choice (Ok repacked)
+    → IsReadOrMemory why
     → HasAnswer choice (Err why)
 day_unread choice repacked why does (inl is) = rw is (record {
   input = does.input;

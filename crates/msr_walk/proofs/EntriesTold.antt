@@ -1,79 +1,39 @@
 -- Walks put together from the entries that were told.
-use Rattle.std.proofs.Common.{◌≡◌, ◌↔◌, ℕ, ◌+◌, ◌-◌, ◌^◌, min, List, ◌++◌, ◌∙◌, arith, refl, ap, sym, append_assoc, Ok, Err, IsErrOf}
+use Rattle.std.proofs.Common.{◌≡◌, ◌↔◌, ◌+◌, ◌-◌, ◌^◌, min, List, ◌++◌, arith, refl, Ok, Err, IsErrOf}
 use Rattle.msr_devices.specs.Device.{Device, HasFailed, Takes}
 use Rattle.msr_devices.specs.declared.fault.DeviceFault.{DeviceFault}
 use Rattle.msr_devices.specs.declared.fault.DeviceFault.TheVariants.{Failed, Memory}
 use Rattle.msr_devices.proofs.Chaining.{takes_append, calm_same, steady_sound}
 use Rattle.msr_folders.specs.Found.{Finds}
-use Rattle.msr_folders.specs.Visits.{StopsAt}
+use Rattle.msr_folders.specs.Visits.{StopsAt, StopsPrefix}
 use Rattle.msr_folders.specs.declared.found.WalkFound.{WalkFound}
 use Rattle.msr_folders.specs.declared.found.WalkFound.TheVariants.{Well, Unwell, NoDay}
-use Rattle.msr_folders.proofs.VisitLemmas.{part_none, stops_within}
-use Rattle.msr_report.specs.Writing.{TakesPrefix}
+use Rattle.msr_folders.proofs.VisitLemmas.{part_none}
+use Rattle.msr_folders.proofs.WalkLemmas as walks
 use Rattle.msr_tool.specs.Fault.{fault_of_writing}
 use Rattle.msr_tool.specs.declared.fault.ToolFault.TheVariants.{Write}
 use Rattle.msr_options.specs.declared.days.DayOptions.{DayOptions}
 use Rattle.msr_walk.specs.Entries.{Entry, IsEntry, IsEntryLine, IsTally, first_unopened}
-use Rattle.msr_walk.specs.Walk.{IsWalkInPart, StopsPrefix, StopsTelling, Tells, TellsEnd, TellsInPart, Walks, summary}
+use Rattle.msr_walk.specs.Walk.{StopsTellingOutcomes, TellsEnd, TellsOutcomes, Walks, summary}
 use Rattle.msr_walk.specs.declared.folders.Walked.{Walked}
 use Rattle.msr_walk.specs.declared.tally.Tally.{Tally}
 
 -- nothing was printed
-pub none_told : (asked : DayOptions) (out : Device) → StopsTelling asked out out Memory
+pub none_told : (asked : DayOptions) (out : Device) → StopsTellingOutcomes asked out out Memory
 none_told asked out = (part_none (IsEntry asked) (IsEntryLine asked.bytes) out, (calm_same out).steady)
 
 -- a prefix of the text of a walk was printed
-pub record WalksInPart (asked : DayOptions) (out0 out : Device) : Type 0 where
-  pub printed : List ℕ
-  pub prints : Takes out0 out printed
-  pub walk : IsWalkInPart asked printed
+abbrev pub WalksInPart : DayOptions → Device → Device → Type 0
+WalksInPart asked out0 out = walks.WalksInPart (IsEntry asked) (IsEntryLine asked.bytes) (summary asked) out0 out
 
--- up to an entry
-entries_in_part : (asked : DayOptions) (out0 out : Device) → TellsInPart asked out0 out → WalksInPart asked out0 out
-entries_in_part asked out0 out told = record {
-  printed = told.printed;
-  prints = told.prints;
-  walk = record {
-    entries = told.entries;
-    rest = told.rest ++ summary asked told.entries;
-    walk = record {
-      lines = told.printed ++ told.rest;
-      are_entries = told.are_entries;
-      are_lines = told.are_lines;
-      whole = sym (append_assoc told.printed told.rest (summary asked told.entries));
-    };
-  };
-}
+pub stops_entries : (asked : DayOptions) (out0 out : Device) (fault : DeviceFault)
+    → StopsTellingOutcomes asked out0 out fault → StopsAt (WalksInPart asked out0 out) out0 out fault
+stops_entries asked = walks.stops_entries (IsEntry asked) (IsEntryLine asked.bytes) (summary asked)
 
--- all entries, and a prefix of the last lines
-summary_in_part : (asked : DayOptions) (out0 out1 out : Device) (tally0 tally : Tally)
-    (told : Tells asked out0 out1 tally0 tally) →
-    TakesPrefix out1 out (summary asked told.entries) → WalksInPart asked out0 out
-summary_in_part asked out0 out1 out tally0 tally told front = record {
-  printed = told.lines ++ front.taken;
-  prints = takes_append out0 out1 out told.lines front.taken told.prints front.takes;
-  walk = record {
-    entries = told.entries;
-    rest = front.rest;
-    walk = record {
-      lines = told.lines;
-      are_entries = told.are_entries;
-      are_lines = told.are_lines;
-      whole = append_assoc told.lines front.taken front.rest ∙ ap (λ (t : List ℕ). told.lines ++ t) (sym front.whole);
-    };
-  };
-}
-
-pub stops_entries : (asked : DayOptions) (out0 out : Device) (fault : DeviceFault) → StopsTelling asked out0 out fault →
-    StopsAt (WalksInPart asked out0 out) out0 out fault
-stops_entries asked out0 out fault told = stops_within out0 out0 out fault (calm_same out0)
-    (entries_in_part asked out0 out) told
-
-pub stops_summary : (asked : DayOptions) (out0 out1 out : Device) (tally0 tally : Tally) (fault : DeviceFault) →
-    (told : Tells asked out0 out1 tally0 tally) → StopsPrefix out1 out (summary asked told.entries) fault →
-    StopsAt (WalksInPart asked out0 out) out0 out fault
-stops_summary asked out0 out1 out tally0 tally fault told front =
-    stops_within out0 out1 out fault told.calm (summary_in_part asked out0 out1 out tally0 tally told) front
+pub stops_summary : (asked : DayOptions) (out0 out1 out : Device) (tally0 tally : Tally) (fault : DeviceFault)
+    (told : TellsOutcomes asked out0 out1 tally0 tally) → StopsPrefix out1 out (summary asked told.entries) fault
+    → StopsAt (WalksInPart asked out0 out) out0 out fault
+stops_summary asked = walks.stops_summary (IsEntry asked) (IsEntryLine asked.bytes) (summary asked) IsTally
 
 pub walk_stops : (asked : DayOptions) (out0 out : Device) (fault : DeviceFault)
     → StopsAt (WalksInPart asked out0 out) out0 out fault → Walks asked out0 out (Err (fault_of_writing fault))
@@ -96,7 +56,7 @@ tells_end entries tally NoDay counts finds = rw (← counts.refused, ← counts.
     (finds.0, omega (arith, finds.1), omega (arith, finds.1))
 
 pub walk_ends : (asked : DayOptions) (out0 out1 out : Device) (tally0 tally : Tally) (walked : Walked) →
-    (told : Tells asked out0 out1 tally0 tally) → Takes out1 out (summary asked told.entries)
+    (told : TellsOutcomes asked out0 out1 tally0 tally) → Takes out1 out (summary asked told.entries)
     → TellsEnd told.entries walked.found → walked.unopened ≡ first_unopened told.entries →
     Walks asked out0 out (Ok walked)
 walk_ends asked out0 out1 out tally0 tally walked told prints end first = record {

@@ -2,14 +2,14 @@
 use Rattle.std.specs.Prelude.{◌≡◌, ◌≢◌, ◌↔◌, ◌⊎◌, ◌<◌, ◌*◌, ℕ, ⊤, Bool, false, IsTrue, List, Result, Ok, Err, IsErrOf}
 use Rattle.msr_devices.specs.Device.{Device, HasFailed, HasLeft, Takes}
 use Rattle.msr_report_reader.specs.Reading.{IsReadFrom}
-use Rattle.msr_report.specs.Proper.{records_of}
+use Rattle.msr_report.specs.Proper.{records_in}
 use Rattle.msr_report.specs.declared.report.Report.{Report}
 use Rattle.msr_input.specs.declared.fault.ReadFault.{ReadFault}
 use Rattle.msr_input.specs.declared.fault.ReadFault.TheVariants as read
 use Rattle.msr_compare.specs.Answers.{HaveSameSegments}
 use Rattle.msr_tool.specs.Checking.{CheckAnswers, IsChecked}
 use Rattle.msr_tool.specs.Settings.{settings_of}
-use Rattle.msr_options.specs.Choice.{Choice, as_strict, size_of}
+use Rattle.msr_options.specs.Choice.{Choice, as_strict, record_size}
 use Rattle.msr_options.specs.Days.{in_length}
 use Rattle.msr_options.specs.declared.days.DayOptions.{DayOptions}
 use Rattle.msr_tool.specs.Tasks.{IsReported, ReportAnswers}
@@ -35,7 +35,7 @@ pub record IsForDay (days asked : DayOptions) : Type 0 where
 
 -- the bytes that were written are those of the records that were, or the greatest number of 64 bits if they are more
 abbrev pub HasBytesWritten : Choice → Repacked → Type 0
-HasBytesWritten choice repacked = repacked.bytes_written ≡ saturated (repacked.written * size_of choice)
+HasBytesWritten choice repacked = repacked.bytes_written ≡ saturated (repacked.written * record_size choice)
 
 -- The input was repacked, what was told is the text of its report, and the counts are those of this report: the
 -- records that were read, and those that were written, and their bytes. How many bytes were read is what the source
@@ -44,7 +44,7 @@ pub record IsCounted (choice : Choice) (input records told : List ℕ) (repacked
   pub report : Report
   pub reported : IsReported choice input records told report
   pub read : repacked.read ≡ report.counts.read
-  pub written : repacked.written ≡ records_of report.segments.items
+  pub written : repacked.written ≡ records_in report.segments.items
   pub bytes : HasBytesWritten choice repacked
 
 -- what an answer says of the input, of the records that were written, and of the text of the report
@@ -77,7 +77,7 @@ pub record WasShown : Type 0 where
   pub shown : IsChecked input text (Ok Least)
 
 -- Some bytes and some text were checked, with another answer that is one about them.
-pub record IsUnshown : Type 0 where
+pub record WasNotShown : Type 0 where
   pub input : List ℕ
   pub text : List ℕ
   pub answer : Result Verdict ToolFault
@@ -87,8 +87,8 @@ pub record IsUnshown : Type 0 where
   pub had_memory : answer ≢ Err Memory
 
 -- reading one of two files failed, or memory was refused
-abbrev pub IsUnread : ToolFault → Type 0
-IsUnread fault = (fault ≡ Read) ⊎ (fault ≡ Memory)
+abbrev pub IsReadOrMemory : ToolFault → Type 0
+IsReadOrMemory fault = (fault ≡ Read) ⊎ (fault ≡ Memory)
 
 -- What is told of a day if holding its records against their report stops so. Both were just written, so if one of them
 -- is at fault, nothing is shown.
@@ -100,14 +100,14 @@ fault_of_checking _ = NotShown
 -- why records that were written are not kept
 abbrev pub IsUnkept : DayFault → Type 0
 IsUnkept (CannotOpen unopened) = ⊤
-IsUnkept NotShown = IsUnshown
-IsUnkept (Tool fault) = IsUnread fault
+IsUnkept NotShown = WasNotShown
+IsUnkept (Tool fault) = IsReadOrMemory fault
 IsUnkept _ = ⊥
 
 -- what holding records against their report answers
-abbrev pub IsShown : Result (Unit {0}) DayFault → Type 0
-IsShown (Ok done) = WasShown
-IsShown (Err refusal) = IsUnkept refusal
+abbrev pub ShownAnswers : Result (Unit {0}) DayFault → Type 0
+ShownAnswers (Ok done) = WasShown
+ShownAnswers (Err refusal) = IsUnkept refusal
 
 -- what holding records against their report answers, if it is asked for
 abbrev pub IsShownIfAsked : Bool → Result (Unit {0}) DayFault → Type 0
@@ -129,7 +129,7 @@ fault_of_comparing read.Memory = Tool Memory
 abbrev pub SameAnswers : Choice → (file records : List ℕ) → Result (Unit {0}) DayFault → Type 0
 SameAnswers choice file records (Ok done) = HaveSameData choice file records
 SameAnswers choice file records (Err Differs) = ¬ (HaveSameData choice file records)
-SameAnswers choice file records (Err (Tool fault)) = IsUnread fault
+SameAnswers choice file records (Err (Tool fault)) = IsReadOrMemory fault
 SameAnswers choice file records (Err _) = ⊥
 
 -- What comparing a day's file with its records did with both sources, and what it answers. A failure of a source is
@@ -160,7 +160,7 @@ abbrev pub IsComparedIfAsked : DayOptions → Result (Unit {0}) DayFault → Typ
 IsComparedIfAsked asked (Ok done) = IsTrue asked.check → WasCompared asked.options
 IsComparedIfAsked asked (Err (CannotOpen unopened)) = IsTrue asked.check
 IsComparedIfAsked asked (Err Differs) = IsTrue asked.check × WasDifferent asked.options
-IsComparedIfAsked asked (Err (Tool fault)) = IsTrue asked.check × IsUnread fault
+IsComparedIfAsked asked (Err (Tool fault)) = IsTrue asked.check × IsReadOrMemory fault
 IsComparedIfAsked asked (Err _) = ⊥
 
 -- the bytes that were written are fewer than those that were read
@@ -184,7 +184,7 @@ pub record IsLarger (asked : DayOptions) (repacked : Repacked) : Type 0 where
 -- It was asked for that what is written is shown, and it was not.
 pub record IsNotShown (asked : DayOptions) : Type 0 where
   pub check : IsTrue asked.check
-  pub unshown : IsUnshown
+  pub unshown : WasNotShown
 
 -- It was asked for that what is written is compared with the day's file, and it was not the same.
 pub record IsDifferent (asked : DayOptions) : Type 0 where
@@ -209,12 +209,12 @@ pub record IsReportKept (choice : Choice) (repacked : Repacked) : Type 0 where
   pub text : List ℕ
   pub report : Report
   pub reads : IsReadFrom report text
-  pub record_length : bytes_of report.length ≡ size_of choice
+  pub record_length : bytes_of report.length ≡ record_size choice
   pub kinds : report.kinds ≡ choice.kinds
   pub tolerance : report.tolerance ≡ choice.tolerance
   pub agree : IsTrue choice.strict → report.counts.mismatched ≡ 0
   pub read : repacked.read ≡ report.counts.read
-  pub written : repacked.written ≡ records_of report.segments.items
+  pub written : repacked.written ≡ records_in report.segments.items
   pub bytes : HasBytesWritten choice repacked
 
 -- What an earlier walk left is of these options, and smaller than what was read if that is asked for.

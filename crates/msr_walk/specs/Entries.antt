@@ -11,7 +11,7 @@ use Rattle.msr_options.specs.declared.hint.Unopened.{Unopened}
 use Rattle.msr_walk.specs.Day.{IsOutcomeOfDay}
 use Rattle.msr_folders.specs.Days.{IsNoDay}
 use Rattle.msr_folders.specs.Paths.{shown_path}
-use Rattle.msr_folders.specs.Visits as visits
+use Rattle.msr_folders.specs.Visits.{IsLineWithReason}
 use Rattle.msr_walk.specs.declared.outcome.Outcome.{Outcome}
 use Rattle.msr_walk.specs.declared.outcome.Outcome.TheVariants.{Done, Same, Skipped, Refused}
 use Rattle.msr_walk.specs.declared.outcome.DayFault.{DayFault}
@@ -71,31 +71,22 @@ counts_told bytes repacked =
     codes " read " ++ (decimal repacked.read ++ (codes " written " ++ (decimal repacked.written
     ++ (bytes_told bytes repacked.bytes_read repacked.bytes_written ++ codes "\n"))))
 
--- The line of an entry that is refused, whose path is shown so. The texts of faults are shown by tests.
-abbrev pub IsRefused : (shown line : List ℕ) → Type 0
-IsRefused shown line = (why : List ℕ) × (line ≡ codes "refused " ++ (shown ++ (codes ": " ++ (why ++ codes "\n"))))
-
--- The line of an entry that is refused or not kept, whose path is shown so.
+-- The line of an entry that is refused or not kept, whose path is shown so. The texts of faults are shown by tests.
 abbrev pub IsRefusedLine : (bytes : Bool) → List ℕ → DayFault → List ℕ → Type 0
 IsRefusedLine bytes shown NotShown line = line ≡ codes "notshown " ++ (shown ++ codes "\n")
 IsRefusedLine bytes shown Differs line = line ≡ codes "differs " ++ (shown ++ codes "\n")
 IsRefusedLine bytes shown (Larger repacked) line = line ≡ codes "larger " ++ (shown ++ counts_told bytes repacked)
-IsRefusedLine bytes shown _ line = IsRefused shown line
+IsRefusedLine bytes shown _ line = IsLineWithReason (codes "refused ") shown line
 
 -- The line of an entry, with bytes or without.
-abbrev pub IsLineOf : (bytes : Bool) → List ℕ → Outcome → List ℕ → Type 0
-IsLineOf bytes path (Done repacked) line = line ≡ codes "done " ++ (shown_path path ++ counts_told bytes repacked)
-IsLineOf bytes path (Same repacked) line = line ≡ codes "same " ++ (shown_path path ++ counts_told bytes repacked)
-IsLineOf bytes path (Skipped fault) line = (why : List ℕ)
-    × (line ≡ codes "skipped " ++ (shown_path path ++ (codes ": " ++ (why ++ codes "\n"))))
-IsLineOf bytes path (Refused why) line = IsRefusedLine bytes (shown_path path) why line
+abbrev pub IsOutcomeLine : (bytes : Bool) → List ℕ → Outcome → List ℕ → Type 0
+IsOutcomeLine bytes path (Done repacked) line = line ≡ codes "done " ++ (shown_path path ++ counts_told bytes repacked)
+IsOutcomeLine bytes path (Same repacked) line = line ≡ codes "same " ++ (shown_path path ++ counts_told bytes repacked)
+IsOutcomeLine bytes path (Skipped fault) line = IsLineWithReason (codes "skipped ") (shown_path path) line
+IsOutcomeLine bytes path (Refused why) line = IsRefusedLine bytes (shown_path path) why line
 
 abbrev pub IsEntryLine : (bytes : Bool) → Entry → List ℕ → Type 0
-IsEntryLine bytes entry line = IsLineOf bytes entry.path entry.outcome line
-
--- a line for each entry, in order
-abbrev pub AreLines : (bytes : Bool) → List Entry → List ℕ → Type 0
-AreLines bytes entries lines = visits.AreLines (IsEntryLine bytes) entries lines
+IsEntryLine bytes entry line = IsOutcomeLine bytes entry.path entry.outcome line
 
 -- done in this walk or an earlier one
 abbrev pub is_done : Outcome → Bool
@@ -133,8 +124,8 @@ add_of_bytes channel repacked =
     record { name = channel; read = repacked.bytes_read; written = repacked.bytes_written }
 
 -- what an entry adds to the totals of the channels
-abbrev pub adds_of : Entry → List Add
-adds_of entry = map (add_of entry.channel) (dones_of entry.outcome)
+abbrev pub adds_of_entry : Entry → List Add
+adds_of_entry entry = map (add_of entry.channel) (dones_of entry.outcome)
 
 abbrev pub adds_of_bytes : Entry → List Add
 adds_of_bytes entry = map (add_of_bytes entry.channel) (dones_of entry.outcome)
@@ -145,7 +136,7 @@ counted of entries = saturated (count_by (λ entry. of entry.outcome) entries)
 
 -- the totals of the channels, in the order of their first files that were done
 abbrev pub channels_of : List Entry → List (List ℕ × Total)
-channels_of entries = totals_of (flat_map adds_of entries)
+channels_of entries = totals_of (flat_map adds_of_entry entries)
 
 -- those of their bytes, in the same order
 abbrev pub bytes_of_channels : List Entry → List (List ℕ × Total)

@@ -1,19 +1,17 @@
 -- What a walk prints, and how it ends.
 use Rattle.std.specs.Prelude.{◌≡◌, ◌⊎◌, ℕ, ◌<◌, Bool, false, true, List, [], ◌++◌, map, codes, Result, Ok, Err}
 use Rattle.std.specs.Fmt.{decimal}
-use Rattle.std.specs.List.{AllByRecursion, flat_map, zip}
+use Rattle.std.specs.List.{flat_map, zip}
 use Rattle.msr_devices.specs.Device.{Device, Takes}
 use Rattle.msr_devices.specs.declared.fault.DeviceFault.{DeviceFault}
-use Rattle.msr_folders.specs.Visits as visits
-use Rattle.msr_folders.specs.Visits.{StopsAt}
-use Rattle.msr_report.specs.Writing.{TakesPrefix}
+use Rattle.msr_folders.specs.Visits.{IsWalk, IsWalkInPart, StopsTelling, Tells}
 use Rattle.msr_folders.specs.declared.totals.Total.{Total}
 use Rattle.msr_folders.specs.declared.found.WalkFound.{WalkFound}
 use Rattle.msr_folders.specs.declared.found.WalkFound.TheVariants.{Well, Unwell, NoDay}
 use Rattle.msr_tool.specs.declared.fault.ToolFault.{ToolFault}
 use Rattle.msr_tool.specs.declared.fault.ToolFault.TheVariants.{Write, Memory}
 use Rattle.msr_options.specs.declared.days.DayOptions.{DayOptions}
-use Rattle.msr_walk.specs.Entries.{Entry, IsEntry, IsEntryLine, AreLines, IsTally, bytes_of_channels, bytes_told, channels_of, counted, first_unopened, is_done, is_larger, is_refused, is_skipped, summed}
+use Rattle.msr_walk.specs.Entries.{Entry, IsEntry, IsEntryLine, IsTally, bytes_of_channels, bytes_told, channels_of, counted, first_unopened, is_done, is_larger, is_refused, is_skipped, summed}
 use Rattle.msr_walk.specs.declared.folders.Walked.{Walked}
 use Rattle.msr_walk.specs.declared.tally.Tally.{Tally}
 
@@ -35,8 +33,8 @@ larger_told false larger = []
 larger_told true larger = codes " larger " ++ decimal larger
 
 -- the last line
-abbrev pub counts_line : DayOptions → Tally → List ℕ
-counts_line asked tally =
+abbrev pub files_line : DayOptions → Tally → List ℕ
+files_line asked tally =
     codes "files " ++ (decimal tally.done ++ (codes " skipped "
     ++ (decimal tally.skipped ++ (codes " refused " ++ (decimal tally.refused
     ++ (larger_told asked.only_smaller tally.larger
@@ -45,7 +43,7 @@ counts_line asked tally =
 -- the lines after those of the entries, from what is counted of these
 abbrev pub tally_lines : DayOptions → Tally → List ℕ
 tally_lines asked tally = flat_map (channel_line asked.bytes) (with_bytes tally.channels tally.bytes)
-    ++ counts_line asked tally
+    ++ files_line asked tally
 
 -- the counts and totals of the entries
 abbrev pub tally_of : List Entry → Tally
@@ -65,29 +63,14 @@ tally_of entries = record {
 abbrev pub summary : DayOptions → List Entry → List ℕ
 summary asked entries = tally_lines asked (tally_of entries)
 
--- a prefix of a text was printed when the walk stops: the sink failed, or else memory was refused
-abbrev pub StopsPrefix : Device → Device → List ℕ → DeviceFault → Type 0
-StopsPrefix out0 out text fault = StopsAt (TakesPrefix out0 out text) out0 out fault
-
 -- some more entries were told: their lines were printed, and they are counted
-abbrev pub Tells : DayOptions → Device → Device → Tally → Tally → Type 0
-Tells asked out0 out tally0 tally =
-    visits.Tells (IsEntry asked) (IsEntryLine asked.bytes) IsTally out0 out tally0 tally
-
--- a prefix of the lines of some more entries was printed
-abbrev pub TellsInPart : DayOptions → Device → Device → Type 0
-TellsInPart asked out0 out = visits.TellsInPart (IsEntry asked) (IsEntryLine asked.bytes) out0 out
+abbrev pub TellsOutcomes : DayOptions → Device → Device → Tally → Tally → Type 0
+TellsOutcomes asked out0 out tally0 tally =
+    Tells (IsEntry asked) (IsEntryLine asked.bytes) IsTally out0 out tally0 tally
 
 -- that was printed when the walk stopped
-abbrev pub StopsTelling : DayOptions → Device → Device → DeviceFault → Type 0
-StopsTelling asked out0 out fault = StopsAt (TellsInPart asked out0 out) out0 out fault
-
--- The text of a whole walk: a line for each of some entries, and then what these very entries sum up to.
-pub record IsWalk (asked : DayOptions) (text : List ℕ) (entries : List Entry) : Type 0 where
-  pub lines : List ℕ
-  pub are_entries : AllByRecursion (IsEntry asked) entries
-  pub are_lines : AreLines asked.bytes entries lines
-  pub whole : text ≡ lines ++ summary asked entries
+abbrev pub StopsTellingOutcomes : DayOptions → Device → Device → DeviceFault → Type 0
+StopsTellingOutcomes asked out0 out fault = StopsTelling (IsEntry asked) (IsEntryLine asked.bytes) out0 out fault
 
 -- a walk that came to its end tells whether an entry was refused, and if none was, whether there was a day
 abbrev pub TellsEnd : List Entry → WalkFound → Type 0
@@ -97,12 +80,6 @@ TellsEnd entries Unwell = 0 < counted is_refused entries
 TellsEnd entries NoDay = (counted is_refused entries ≡ 0) × (counted is_done entries ≡ 0)
     × (counted is_larger entries ≡ 0)
 
--- A prefix of the text of a whole walk.
-pub record IsWalkInPart (asked : DayOptions) (printed : List ℕ) : Type 0 where
-  pub entries : List Entry
-  pub rest : List ℕ
-  pub walk : IsWalk asked (printed ++ rest) entries
-
 -- It tells too what could not be opened of the first day that was refused for that.
 pub record TellsWalk (entries : List Entry) (walked : Walked) : Type 0 where
   pub end : TellsEnd entries walked.found
@@ -110,10 +87,10 @@ pub record TellsWalk (entries : List Entry) (walked : Walked) : Type 0 where
 
 -- the whole text was printed, or a prefix of it when the walk stopped, which no input and no source can make it do
 abbrev pub WalkEnds : DayOptions → (printed : List ℕ) → Result Walked ToolFault → Type 0
-WalkEnds asked printed (Ok walked) = (entries : List Entry) × IsWalk asked printed entries
-    × TellsWalk entries walked
-WalkEnds asked printed (Err Write) = IsWalkInPart asked printed
-WalkEnds asked printed (Err Memory) = IsWalkInPart asked printed
+WalkEnds asked printed (Ok walked) = (entries : List Entry)
+    × IsWalk (IsEntry asked) (IsEntryLine asked.bytes) (summary asked) printed entries × TellsWalk entries walked
+WalkEnds asked printed (Err Write) = IsWalkInPart (IsEntry asked) (IsEntryLine asked.bytes) (summary asked) printed
+WalkEnds asked printed (Err Memory) = IsWalkInPart (IsEntry asked) (IsEntryLine asked.bytes) (summary asked) printed
 WalkEnds asked printed (Err _) = ⊥
 
 -- What a walk printed, and how it ended.

@@ -10,9 +10,11 @@ use crate::repacking::{
     Counting, counts_kept, first_length, repack_day_of, require_same, require_shown,
 };
 use crate::stamp::Stamp;
+use msr_devices::{FromRead, FromWrite};
 use msr_folders::{Look, ended, is_gone, join, open_regular, settle_regular};
+use msr_kinds::Length;
 use msr_options::{DayOptions, Folders, Options, Side, Unopened};
-use msr_tool::{FromRead, FromWrite, Length, ToolFault};
+use msr_tool::ToolFault;
 use std::alloc::{AllocError, Global};
 use std::fs;
 use std::io::{Read, Write};

@@ -6,7 +6,7 @@ ghost use Rattle.msr_sds.specs.SdsPath.{ReadsAsDay};
 ghost use Rattle.msr_folders.proofs.VisitLemmas.{visitor_laws};
 ghost use Rattle.msr_walk.specs.Day.{IsOutcomeOfDay};
 ghost use Rattle.msr_walk.specs.Entries.{Entry, IsEntry, IsEntryLine, IsOutcomeOf, IsTally, channel_of};
-ghost use Rattle.msr_walk.specs.Walk.{StopsTelling, Tells, Walks};
+ghost use Rattle.msr_walk.specs.Walk.{StopsTellingOutcomes, TellsOutcomes, Walks};
 
 use crate::claim::LockFile;
 use crate::day::Day;
@@ -51,9 +51,10 @@ fn tell<R: Files, O: Sink>(
 ) -> Result<(), DeviceFault>
     requires { CanCountCall (O.device out.old) }
     ensures told { IsOutcomeOf walker.now.archive.now.days path.now channel.now outcome →
-        OnOk result (Tells walker.now.archive.now.days (O.device out.old) (O.device out.new) tally.old tally.new) }
+        OnOk result (TellsOutcomes walker.now.archive.now.days
+        (O.device out.old) (O.device out.new) tally.old tally.new) }
     ensures stops { IsOutcomeOf walker.now.archive.now.days path.now channel.now outcome →
-        IfErr result (StopsTelling walker.now.archive.now.days (O.device out.old) (O.device out.new)) }
+        IfErr result (StopsTellingOutcomes walker.now.archive.now.days (O.device out.old) (O.device out.new)) }
 {
     let line = outcome.line(walker.alloc, path, walker.archive.days.bytes)?;
     write_all(out, line.as_bytes())?;
@@ -123,9 +124,9 @@ where
     ) -> Result<(), DeviceFault>
         requires day { ReadsAsDay path.now name.now }
         requires count { CanCountCall (O.device out.old) }
-        ensures told { OnOk result (Tells self.now.archive.now.days (O.device out.old)
+        ensures told { OnOk result (TellsOutcomes self.now.archive.now.days (O.device out.old)
             (O.device out.new) tally.old tally.new) }
-        ensures stops { IfErr result (StopsTelling self.now.archive.now.days (O.device out.old)
+        ensures stops { IfErr result (StopsTellingOutcomes self.now.archive.now.days (O.device out.old)
             (O.device out.new)) }
     {
         let channel = channel_text(self.alloc, name)?;
@@ -167,9 +168,9 @@ where
     /// Whether what is made of the days of the folder stands outside the archive.
     type Folder = bool;
 
-    ghost tells = { λ walker. Tells walker.archive.now.days };
+    ghost tells = { λ walker. TellsOutcomes walker.archive.now.days };
 
-    ghost stops = { λ walker. StopsTelling walker.archive.now.days };
+    ghost stops = { λ walker. StopsTellingOutcomes walker.archive.now.days };
 
     ghost laws = { visitor_laws (λ walker. IsEntry walker.archive.now.days)
         (λ walker. IsEntryLine walker.archive.now.days.bytes) IsTally };

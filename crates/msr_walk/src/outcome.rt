@@ -1,7 +1,8 @@
 //! What becomes of an entry of a folder, and its line.
-ghost use Rattle.std.specs.Prelude.{◌≡◌, ◌++◌, IfOk};
+ghost use Rattle.std.specs.Prelude.{◌≡◌, ◌++◌, IfOk, codes};
 ghost use Rattle.std.specs.String.{string_bytes};
-ghost use Rattle.msr_walk.specs.Entries.{IsLineOf, IsRefused, IsRefusedLine, bytes_told, counts_told};
+ghost use Rattle.msr_folders.specs.Visits.{IsLineWithReason};
+ghost use Rattle.msr_walk.specs.Entries.{IsOutcomeLine, IsRefusedLine, bytes_told, counts_told};
 
 use msr_folders::shown_path;
 use msr_options::Unopened;
@@ -64,7 +65,7 @@ pub(crate) struct Repacked {
 
 /// The line of an entry whose path is shown so, and that is refused for that.
 fn refused_line(alloc: Global, path: &str, why: &str) -> Result<String, AllocError>
-    ensures { IfOk result (λ line. IsRefused path.now (string_bytes line)) }
+    ensures { IfOk result (λ line. IsLineWithReason (codes "refused ") path.now (string_bytes line)) }
 {
     format!(in alloc; "refused {path}: {why}\n")
 }
@@ -129,7 +130,7 @@ impl Repacked {
 impl Outcome {
     /// The line that tells it of the entry with this path, with bytes or without.
     pub(crate) fn line(self, alloc: Global, path: &str, bytes: bool) -> Result<String, AllocError>
-        ensures { IfOk result (λ line. IsLineOf bytes path.now self (string_bytes line)) }
+        ensures { IfOk result (λ line. IsOutcomeLine bytes path.now self (string_bytes line)) }
     {
         let path = shown_path(alloc, path)?;
         match self {

@@ -1,20 +1,22 @@
 //! The part of a day file that is under contract: from a source to two sinks.
 ghost use Rattle.std.specs.Prelude.{◌≡◌, ◌↔◌, ◌⊎◌, ◌+◌, ◌*◌, IfSome, IsErrOf};
 ghost use Rattle.msr_devices.specs.Device.{CanCountCall, HasFailed};
-ghost use Rattle.msr_options.specs.Choice.{size_of};
-ghost use Rattle.msr_report.specs.Proper.{IsProper, records_of};
+ghost use Rattle.msr_options.specs.Choice.{record_size};
+ghost use Rattle.msr_report.specs.Proper.{IsProper, records_in};
 ghost use Rattle.msr_folders.specs.Totals.{saturated};
-ghost use Rattle.msr_walk.specs.Day.{ComparesDay, IsReportKept, IsShown, RepacksDay, fault_of_checking, fault_of_comparing};
+ghost use Rattle.msr_walk.specs.Day.{ComparesDay, IsReportKept, RepacksDay, ShownAnswers, fault_of_checking, fault_of_comparing};
 
 use crate::outcome::{DayFault, Repacked};
 use msr_compare::{CompareFault, compare};
-use msr_devices::{DeviceFault, ReadBuffer};
+use msr_devices::{DeviceFault, ReadBuffer, Sink, Source};
 use msr_header::{read_header, record_length};
 use msr_input::{ReadFault, Settings};
+use msr_kinds::Length;
+use msr_options::Options;
 use msr_report::Report;
-use msr_tool::{
-    Length, Options, Sink, Source, ToolFault, Verdict, check_packed, read_report, repack_and_report,
-};
+use msr_report_reader::read_report;
+use msr_tool::{ToolFault, check_packed, repack_and_report};
+use msr_verdict::Verdict;
 use std::alloc::{AllocError, Global};
 use std::io;
 
@@ -23,7 +25,7 @@ const LONGEST: usize = 65_536;
 
 fn records_written(report: &Report) -> u64
     requires { IsProper report.now }
-    ensures { result ≡ records_of report.now.segments.items }
+    ensures { result ≡ records_in report.now.segments.items }
 {
     let mut records = 0;
     for line in &report.segments {
@@ -34,7 +36,7 @@ fn records_written(report: &Report) -> u64
 
 /// The bytes of so many records, or the greatest number of 64 bits if they are more.
 pub(crate) fn bytes_of_records(records: u64, options: Options) -> u64
-    ensures { result ≡ saturated (records * size_of options) }
+    ensures { result ≡ saturated (records * record_size options) }
 {
     records.saturating_mul(u64::from(options.length().bytes()))
 }
@@ -163,7 +165,7 @@ pub(crate) fn require_shown<P: Source, Q: Source>(
 ) -> Result<(), DayFault>
     requires packed { CanCountCall (P.device packed.old) }
     requires report { CanCountCall (Q.device report.old) }
-    ensures answer { IsShown result }
+    ensures answer { ShownAnswers result }
 
     // A failure of a source is answered as such, and nothing else is.
     ensures read { IsErrOf result (DayFault.Tool ToolFault.Read)

@@ -2,13 +2,12 @@
 ghost use Rattle.std.specs.Prelude.{◌≡◌, IfErr, IfOk, OnOk};
 ghost use Rattle.std.specs.String.{string_bytes};
 ghost use Rattle.msr_devices.specs.Device.{CanCountCall, Takes};
+ghost use Rattle.msr_folders.specs.Visits.{StopsPrefix};
 ghost use Rattle.msr_walk.specs.Stamp.{stamp_text};
-ghost use Rattle.msr_walk.specs.Walk.{StopsPrefix};
 
 use crate::files::NewFile;
-use msr_devices::{DeviceFault, Sink, write_all};
+use msr_devices::{DeviceFault, FromWrite, Sink, write_all};
 use msr_folders::{Look, settle_regular};
-use msr_tool::FromWrite;
 use std::alloc::{AllocError, Global};
 use std::fs;
 use std::os::unix::fs::MetadataExt;

@@ -3,8 +3,9 @@ ghost use Rattle.std.specs.Prelude.{◌≡◌, List, IfErr, IfOk, OnOk};
 ghost use Rattle.std.specs.List.{flat_map};
 ghost use Rattle.std.specs.String.{string_bytes};
 ghost use Rattle.msr_devices.specs.Device.{CanCountCall, IsCalm, Takes};
+ghost use Rattle.msr_folders.specs.Visits.{StopsPrefix};
 ghost use Rattle.msr_walk.specs.Entries.{Entry, IsTally, bytes_told};
-ghost use Rattle.msr_walk.specs.Walk.{StopsPrefix, channel_line, counts_line, larger_told, summary, with_bytes};
+ghost use Rattle.msr_walk.specs.Walk.{channel_line, files_line, larger_told, summary, with_bytes};
 
 use crate::outcome::bytes_told;
 use crate::tally::Tally;
@@ -67,7 +68,7 @@ fn larger_told(alloc: Global, told: bool, larger: u64) -> Result<String, AllocEr
 }
 
 fn counts_line(alloc: Global, asked: &DayOptions, tally: &Tally) -> Result<String, AllocError>
-    ensures { IfOk result (λ line. string_bytes line ≡ counts_line asked.now tally.now) }
+    ensures { IfOk result (λ line. string_bytes line ≡ files_line asked.now tally.now) }
 {
     let (files, skipped, refused) = (tally.done, tally.skipped, tally.refused);
     let larger = larger_told(alloc, asked.only_smaller, tally.larger)?;

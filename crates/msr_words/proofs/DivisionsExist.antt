@@ -11,7 +11,7 @@ use Rattle.msr_kinds.specs.declared.storage.Storage.TheVariants.{Integers, Frame
 use Rattle.msr_kinds.specs.declared.storage.Width.{Width}
 use Rattle.msr_kinds.specs.declared.storage.Width.TheVariants.{Two as TwoBytes, Three as ThreeBytes, Four as FourBytes}
 use Rattle.msr_kinds.specs.Storage.{size_of, storage_of}
-use Rattle.msr_steim.specs.Area.{differences}
+use Rattle.msr_steim.specs.Area.{joined_groups}
 use Rattle.msr_steim.specs.Word.{AreGroups, FitsBits, IsGroup, IsGroupAt, group_width}
 use Rattle.msr_kinds.specs.declared.kinds.Kind.{Kind}
 use Rattle.msr_kinds.specs.declared.kinds.Kind.TheVariants.{Int16, Int24, Int32, Steim1, Steim2}
@@ -71,7 +71,7 @@ module _ (version : Version) where
       → (size : ℕ) × (size ≤ 7) × DividesFrom version n size ds
   first_size n ds some can = go can.groups can.are_groups can.join can.few
     where
-      go : (gs : List (List ℤ)) → AreGroups version gs → differences gs ≡ ds → length gs ≤ n
+      go : (gs : List (List ℤ)) → AreGroups version gs → joined_groups gs ≡ ds → length gs ≤ n
           → (size : ℕ) × (size ≤ 7) × DividesFrom version n size ds
       go [] are join few = let e : 0 ≡ length ds = ap length join in absurd (omega arith)
       go (g ∷ gs) are join few = (
@@ -164,7 +164,7 @@ module _ (version : Version) where
 
     one_more : HasDivision (drop l.place ds) → HasDivision ds
     one_more rest =
-        let joined : differences (take l.place ds ∷ rest.groups) ≡ ds =
+        let joined : joined_groups (take l.place ds ∷ rest.groups) ≡ ds =
         ap (λ x. take l.place ds ++ x) rest.canonical.join ∙ take-append-drop l.place ds in
         let few : length rest.groups ≤ n = let f =
         rest.canonical.fewest behind.groups behind.are_groups behind.join in let b = behind.few in omega arith in

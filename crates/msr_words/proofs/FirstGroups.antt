@@ -4,7 +4,7 @@ use Rattle.std.specs.List.{AllByRecursion}
 use Rattle.std.proofs.lemmas.Bool.{cases_lt, eq-eqb, ne_eqb}
 use Rattle.std.proofs.lemmas.List.{append-nil, nil_from_length, take-append-drop, drop_all, drop-drop, length-drop, length-take-le}
 use Rattle.msr_kinds.specs.declared.storage.Version.TheVariants.{One}
-use Rattle.msr_steim.specs.Area.{differences}
+use Rattle.msr_steim.specs.Area.{joined_groups}
 use Rattle.msr_steim.specs.Word.{AreGroups, FitsBits, IsGroup, IsGroupAt}
 use Rattle.msr_words.specs.Division.{CanDivide}
 use Rattle.msr_words.specs.Canonical.{IsCanonicalDivision}
@@ -159,7 +159,7 @@ module _ (ds : List ℤ) (size after : ℕ) (first : IsFirstGroup ds size after)
         can = subst (λ n. CanDivide One n (drop size ds)) same first.left.can;
       }
 
-  fewest : (n : ℕ) (gs : List (List ℤ)) → AreGroups One gs → differences gs ≡ ds → length gs ≤ n → after + 1 ≤ n
+  fewest : (n : ℕ) (gs : List (List ℤ)) → AreGroups One gs → joined_groups gs ≡ ds → length gs ≤ n → after + 1 ≤ n
   fewest n [] are join few =
       let e : 0 ≡ length ds = ap length join in
       let s = first_some in
@@ -182,7 +182,7 @@ module _ (ds : List ℤ) (size after : ℕ) (first : IsFirstGroup ds size after)
       let few : length gs ≤ after =
       (let a = rest.fewest first.left.can.groups first.left.can.are_groups first.left.can.join in
       let b = first.left.can.few in omega arith) in
-      let joined : differences (take size ds ∷ gs) ≡ ds = ap (λ x. take size ds ++ x) rest.join
+      let joined : joined_groups (take size ds ∷ gs) ≡ ds = ap (λ x. take size ds ++ x) rest.join
       ∙ take-append-drop size ds in
       let long : length (take size ds) ≡ size = length-take-le size ds first.within in
       record {
@@ -315,9 +315,9 @@ pub all_joined : {X : Type 0} (P : X → Type 0) (xs ys : List X) → AllByRecur
 all_joined P [] ys front back = back
 all_joined P (x ∷ xs) ys front back = (front.0, all_joined P xs ys front.1 back)
 
-groups_fit : (gs : List (List ℤ)) → AreGroups One gs → AllByRecursion (FitsBits 32) (differences gs)
+groups_fit : (gs : List (List ℤ)) → AreGroups One gs → AllByRecursion (FitsBits 32) (joined_groups gs)
 groups_fit [] are = tt
-groups_fit (g ∷ gs) are = all_joined (FitsBits 32) g (differences gs) (group_fits One g (head_group One g gs are))
+groups_fit (g ∷ gs) are = all_joined (FitsBits 32) g (joined_groups gs) (group_fits One g (head_group One g gs are))
     (groups_fit gs (tail_groups One g gs are))
 
 pub divided_fit : (words : ℕ) (ds : List ℤ) → CanDivide One words ds → AllByRecursion (FitsBits 32) ds

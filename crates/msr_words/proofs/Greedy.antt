@@ -5,7 +5,7 @@ use Rattle.std.proofs.lemmas.Bool.{cases_lt}
 use Rattle.std.proofs.lemmas.List.{append-nil, nil_from_length, take_at}
 use Rattle.std.proofs.lemmas.List.Elements.{All-cons, All-contains, All-nil, All-push, All-take, Contains-push}
 use Rattle.msr_kinds.specs.declared.storage.Version.TheVariants.{Two}
-use Rattle.msr_steim.specs.Area.{differences}
+use Rattle.msr_steim.specs.Area.{joined_groups}
 use Rattle.msr_steim.specs.Word.{AreGroups, FitsBits}
 use Rattle.msr_words.specs.Division.{CanDivide}
 use Rattle.msr_words.specs.Canonical.{IsCanonicalDivision}
@@ -23,7 +23,7 @@ pub record IsFull (group rest : List ℤ) : Type 0 where
   pub apart : (y : ℤ) (ys : List ℤ) → rest ≡ y ∷ ys → IsSteim2Group (group ++ y ∷ []) → ⊥
 
 fewest_with : (g rest : List ℤ) (gs : List (List ℤ)) → IsFull g rest → IsCanonicalDivision Two gs rest
-    → (others : List (List ℤ)) → AreGroups Two others → differences others ≡ g ++ rest → suc (length gs) ≤ length others
+    → (others : List (List ℤ)) → AreGroups Two others → joined_groups others ≡ g ++ rest → suc (length gs) ≤ length others
 fewest_with g rest gs full chosen [] are join =
     let some = full.group_is.some in
     let size : 0 ≡ length g + length rest = ap length join ∙ length-append g rest in absurd (omega arith)
@@ -53,13 +53,13 @@ longest_with g rest full other more is join = elim (cut other more g rest join) 
 pub full_first : (g rest : List ℤ) (gs : List (List ℤ)) → IsFull g rest → IsCanonicalDivision Two gs rest
     → IsCanonicalDivision Two (g ∷ gs) (g ++ rest)
 full_first g rest gs full chosen =
-    let joined : differences (g ∷ gs) ≡ g ++ rest = ap (λ x. g ++ x) chosen.join in
+    let joined : joined_groups (g ∷ gs) ≡ g ++ rest = ap (λ x. g ++ x) chosen.join in
     record {
       are_groups = inner_first Two g gs (group_from g full.group_is) chosen.are_groups;
       join = joined;
       fewest = λ others are join. fewest_with g rest gs full chosen others are join;
       longest = (
-        λ other others are join short. longest_with g rest full other (differences others)
+        λ other others are join short. longest_with g rest full other (joined_groups others)
             (group_to other (head_group Two other others are)) (join ∙ joined),
         chosen.longest,
       );

@@ -7,7 +7,7 @@ use Rattle.std.proofs.lemmas.List.{take-append-drop, take_all, take_at, drop_at,
 use Rattle.arrayvec.specs.ArrayVec.{ArrayVec}
 use Rattle.msr_kinds.specs.declared.storage.Version.{Version}
 use Rattle.msr_kinds.specs.declared.storage.Version.TheVariants.{One, Two}
-use Rattle.msr_steim.specs.Area.{differences}
+use Rattle.msr_steim.specs.Area.{joined_groups}
 use Rattle.msr_steim.specs.Word.{AreGroups, FitsBits, IsGroup, IsGroupAt, IsInnerGroup, group_width}
 use Rattle.msr_words.specs.Division.{CanDivide}
 use Rattle.msr_words.specs.Canonical.{IsCanonicalDivision}
@@ -25,11 +25,12 @@ pub record DividesFrom (version : Version) (n size : ℕ) (ds : List ℤ) : Type
   pub can : CanDivide version (n - 1) (drop size ds)
 
 -- nothing is divided into nothing
-pub no_groups : (version : Version) (gs : List (List ℤ)) → AreGroups version gs → length (differences gs) ≡ 0 → gs ≡ []
+pub no_groups : (version : Version) (gs : List (List ℤ)) → AreGroups version gs → length (joined_groups gs) ≡ 0 → gs ≡ []
 no_groups version [] are none = refl
 no_groups version (g ∷ gs) are none =
     let some = (a_group_has_few version true g (head_group version g gs are)).0 in
-    let size : length (differences (g ∷ gs)) ≡ length g + length (differences gs) = length-append g (differences gs) in
+    let size : length (joined_groups (g ∷ gs)) ≡ length g + length (joined_groups gs) =
+    length-append g (joined_groups gs) in
     absurd (omega arith)
 
 pub inner_first : (version : Version) (g : List ℤ) (gs : List (List ℤ)) → IsInnerGroup version g
@@ -39,7 +40,7 @@ inner_first version g (h ∷ gs) is are = (is, are)
 
 -- a first group of this size, and groups of the rest
 pub with_first : (version : Version) (size : ℕ) (ds : List ℤ) (gs : List (List ℤ)) → size ≤ length ds
-    → IsGroupAt version (eqb size (length ds)) (take size ds) → AreGroups version gs → differences gs ≡ drop size ds
+    → IsGroupAt version (eqb size (length ds)) (take size ds) → AreGroups version gs → joined_groups gs ≡ drop size ds
     → AreGroups version (take size ds ∷ gs)
 with_first version size ds gs within is are join = go (eqb size (length ds)) refl is
   where
@@ -47,7 +48,7 @@ with_first version size ds gs within is are join = go (eqb size (length ds)) ref
         → AreGroups version (take size ds ∷ gs)
     go true e is =
         let all : size ≡ length ds = grind (arith, nat_tests) in
-        let none : length (differences gs) ≡ 0 = ap length join ∙ length-drop size ds ∙ omega arith in
+        let none : length (joined_groups gs) ≡ 0 = ap length join ∙ length-drop size ds ∙ omega arith in
         subst (λ hs. AreGroups version (take size ds ∷ hs)) (sym (no_groups version gs are none)) is
     go false e is = inner_first version (take size ds) gs is are
 
@@ -62,13 +63,13 @@ divides_can version n size ds d = record {
 
 -- a division by its first group
 pub starts_with : (version : Version) (g : List ℤ) (gs : List (List ℤ)) (ds : List ℤ) → AreGroups version (g ∷ gs)
-    → differences (g ∷ gs) ≡ ds → DividesFrom version (suc (length gs)) (length g) ds
+    → joined_groups (g ∷ gs) ≡ ds → DividesFrom version (suc (length gs)) (length g) ds
 starts_with version g gs ds are join =
-    let size : length ds ≡ length g + length (differences gs) = ap length (sym join)
-    ∙ length-append g (differences gs) in
-    let front : take (length g) ds ≡ g = ap (take (length g)) (sym join) ∙ take_at g (differences gs) (length g) refl in
-    let back : drop (length g) ds ≡ differences gs = ap (drop (length g)) (sym join)
-    ∙ drop_at g (differences gs) (length g) refl in
+    let size : length ds ≡ length g + length (joined_groups gs) = ap length (sym join)
+    ∙ length-append g (joined_groups gs) in
+    let front : take (length g) ds ≡ g = ap (take (length g)) (sym join) ∙ take_at g (joined_groups gs) (length g) refl in
+    let back : drop (length g) ds ≡ joined_groups gs = ap (drop (length g)) (sym join)
+    ∙ drop_at g (joined_groups gs) (length g) refl in
     let one : suc (length gs) - 1 ≡ length gs = omega arith in
     record {
       within = omega arith;
@@ -77,7 +78,7 @@ starts_with version g gs ds are join =
       can = record { groups = gs; are_groups = tail_groups version g gs are; join = sym back; few = omega arith };
     }
   where
-    at_place : (hs : List (List ℤ)) → AreGroups version (g ∷ hs) → length ds ≡ length g + length (differences hs)
+    at_place : (hs : List (List ℤ)) → AreGroups version (g ∷ hs) → length ds ≡ length g + length (joined_groups hs)
         → IsGroupAt version (eqb (length g) (length ds)) g
     at_place [] are size =
         let e : eqb (length g) (length ds) ≡ true = let same : length g ≡ length ds = omega arith in
@@ -85,8 +86,8 @@ starts_with version g gs ds are join =
         subst (λ b. IsGroupAt version b g) (sym e) are
     at_place (h ∷ hs) are size =
         let some = (a_group_has_few version true h (head_group version h hs are.1)).0 in
-        let more : length (differences (h ∷ hs)) ≡ length h + length (differences hs) =
-        length-append h (differences hs) in
+        let more : length (joined_groups (h ∷ hs)) ≡ length h + length (joined_groups hs) =
+        length-append h (joined_groups hs) in
         let less : length g < length ds = omega arith in
         let e : eqb (length g) (length ds) ≡ false = grind (arith, nat_tests) in
         subst (λ b. IsGroupAt version b g) (sym e) are.0
@@ -109,7 +110,7 @@ items_push old g = map-append (λ (v : ArrayVec ℤ). v.items) old (g ∷ [])
 
 -- what is chosen after a group is chosen
 pub tail_chosen : (version : Version) (g : List ℤ) (gs : List (List ℤ)) (ds : List ℤ)
-    → IsCanonicalDivision version (g ∷ gs) ds → IsCanonicalDivision version gs (differences gs)
+    → IsCanonicalDivision version (g ∷ gs) ds → IsCanonicalDivision version gs (joined_groups gs)
 tail_chosen version g [] ds c = record {
   are_groups = tt;
   join = refl;
@@ -133,15 +134,15 @@ one_chosen version (g ∷ gs) [] ds a b = no_groups version (g ∷ gs) a.are_gro
 one_chosen version (g ∷ gs) (h ∷ hs) ds a b =
     let few = a.fewest (h ∷ hs) b.are_groups b.join in
     let more = b.fewest (g ∷ gs) a.are_groups a.join in
-    let joined : g ++ differences gs ≡ h ++ differences hs = a.join ∙ sym b.join in
+    let joined : g ++ joined_groups gs ≡ h ++ joined_groups hs = a.join ∙ sym b.join in
     let short : length h ≤ length g = a.longest.0 h hs b.are_groups (sym joined) (omega arith) in
     let long : length g ≤ length h = b.longest.0 g gs a.are_groups joined (omega arith) in
     let same : length h ≡ length g = omega arith in
-    let first : g ≡ h = sym (take_at g (differences gs) (length g) refl) ∙ ap (take (length g)) joined
-    ∙ take_at h (differences hs) (length g) same in
-    let rest : differences gs ≡ differences hs = sym (drop_at g (differences gs) (length g) refl)
-    ∙ ap (drop (length g)) joined ∙ drop_at h (differences hs) (length g) same in
-    let tails : gs ≡ hs = one_chosen version gs hs (differences gs) (tail_chosen version g gs ds a)
+    let first : g ≡ h = sym (take_at g (joined_groups gs) (length g) refl) ∙ ap (take (length g)) joined
+    ∙ take_at h (joined_groups hs) (length g) same in
+    let rest : joined_groups gs ≡ joined_groups hs = sym (drop_at g (joined_groups gs) (length g) refl)
+    ∙ ap (drop (length g)) joined ∙ drop_at h (joined_groups hs) (length g) same in
+    let tails : gs ≡ hs = one_chosen version gs hs (joined_groups gs) (tail_chosen version g gs ds a)
     (subst (IsCanonicalDivision version hs) (sym rest) (tail_chosen version h hs ds b)) in
     ap (λ x. x ∷ gs) first ∙ ap (λ xs. h ∷ xs) tails
 

@@ -17,8 +17,8 @@ ghost use Rattle.msr_words.specs.FirstGroup.{AreSizes};
 use crate::counts::steim2_capacity;
 use crate::first_group::sizes_of;
 use crate::kinds::MOST_COUNTED;
-use msr_kinds::Length;
-use msr_steim::{Group, Version, all_fit_bits};
+use msr_kinds::{Length, Version};
+use msr_steim::{Group, all_fit_bits};
 use std::alloc::{AllocError, Global};
 
 /// For each difference the size of the group that begins there in the division that is written.

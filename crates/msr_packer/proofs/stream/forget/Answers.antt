@@ -1,5 +1,5 @@
 use Rattle.std.proofs.Common.{◌∙◌, ◌-◌, ap, arith, length, length-drop, refl}
-use Rattle.msr_packer.specs.HeldSamples.{frontier_of, start_of}
+use Rattle.msr_packer.specs.HeldSamples.{first_ungiven, frontier_of}
 use Rattle.msr_packer.proofs.Streaming.{growing_few, growing_forgets, may_forget}
 use Rattle.msr_words.specs.Fit.{records_of}
 use Rattle.msr_packer.proofs.stream.forget.Goals as goal
@@ -8,7 +8,7 @@ pub returns-clause-streaming : goal.returns-clause-streaming
 returns-clause-streaming c =
     let held = c.args.held.now in
     let s = c.requires in
-    let count = start_of held.current - 1 in
+    let count = first_ungiven held.current - 1 in
     let value = c.unneeded.ensures in
     let f = c.forget.ensures in
     let may = may_forget (records_of held.form)
@@ -28,7 +28,7 @@ returns-clause-streaming c =
 pub returns-clause-behind : goal.returns-clause-behind
 returns-clause-behind c =
     let held = c.args.held.now in
-    let count = start_of held.current - 1 in
+    let count = first_ungiven held.current - 1 in
     let f = c.forget.ensures in
     let long = ap length f.samples ∙ length-drop count held.samples.items in
     let few = growing_few (records_of held.form) held.samples.items

@@ -1,6 +1,6 @@
 use Rattle.std.proofs.Common.{◌≡◌, ℕ, ◌+◌, ◌^◌, ◌≤◌, List, ◌++◌, [], ◌-◌, arith, Ok, refl, sym, ap, ◌∙◌, rules, length, FitsSigned, w64, to_z-of_z}
 use Rattle.msr_header.specs.Reading.{header_of}
-use Rattle.msr_header.specs.Writing.{header_bytes, IsWritable, as_read}
+use Rattle.msr_header.specs.Writing.{IsWritableHeader, header_as_read, header_bytes}
 use Rattle.msr_header.specs.declared.header.Header.{Header}
 use Rattle.msr_kinds.specs.Lengths.{bytes_of}
 use Rattle.msr_record.specs.Written.{header_for}
@@ -16,14 +16,14 @@ overflow_cast-count c =
 
 -- what is said of a header holds of one that is the same
 read_by : (g h : Header) (front : List ℕ) (size : ℕ) → g ≡ h → size ≡ g.exponent
-    → ((rest : List ℕ) → IsWritable g → 2 ^ g.exponent ≤ 64 + length rest
+    → ((rest : List ℕ) → IsWritableHeader g → 2 ^ g.exponent ≤ 64 + length rest
     → header_of (front ++ rest)
-    ≡ Ok (as_read g)) → (rest : List ℕ) → IsWritable h → 2 ^ size ≤ 64 + length rest → header_of (front
-    ++ rest) ≡ Ok (as_read h)
+    ≡ Ok (header_as_read g)) → (rest : List ℕ) → IsWritableHeader h → 2 ^ size ≤ 64 + length rest → header_of (front
+    ++ rest) ≡ Ok (header_as_read h)
 read_by g h front size e s back = λ rest w l.
-    let writable : IsWritable g = rw e w in
+    let writable : IsWritableHeader g = rw e w in
     let long : 2 ^ g.exponent ≤ 64 + length rest = rw (← s) l in
-    back rest writable long ∙ ap (λ (h : Header). Ok (as_read h)) e
+    back rest writable long ∙ ap (λ (h : Header). Ok (header_as_read h)) e
 
 pub fill_area-requires-clause-fits : goal.fill_area-requires-clause-fits
 fill_area-requires-clause-fits c = rw c.storage.ensures c.requires.can.fits.1

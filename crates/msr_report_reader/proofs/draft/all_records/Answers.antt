@@ -1,5 +1,5 @@
 use Rattle.std.proofs.Common.{◌∙◌, ap, sym, arith, ◌+◌, ◌<◌, ◌^◌, take_all}
-use Rattle.msr_report.specs.Proper.{records_of}
+use Rattle.msr_report.specs.Proper.{records_in}
 use Rattle.msr_report.proofs.Written.{records_next, records_take}
 use Rattle.msr_report_reader.proofs.draft.all_records.Goals as goal
 
@@ -8,7 +8,7 @@ returns-in_err-records c =
     let more = records_next c.args.segments.now c.loop-segment.segment-index c.segment-item.result
     (omega arith) c.segment-item.is in
     let all = records_take (c.loop-segment.segment-index + 1) c.args.segments.now in
-    let large : records_of c.args.segments.now < 2 ^ 64
+    let large : records_in c.args.segments.now < 2 ^ 64
     → ⊥ = λ small. c.in_err-records.ensures (omega (arith, more, all, c.loop-segment.invariant.0)) in
     rw c.from_residual.ensures large
 
@@ -23,6 +23,6 @@ loop-segment-preserved c =
 
 pub returns : goal.returns
 returns c =
-    let whole = c.loop-segment.invariant.0 ∙ ap records_of
+    let whole = c.loop-segment.invariant.0 ∙ ap records_in
     (take_all c.loop-segment.segment-index c.args.segments.now (omega arith)) in
     (omega (arith, whole, c.loop-segment.invariant.1), whole)

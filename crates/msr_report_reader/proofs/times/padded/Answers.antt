@@ -1,7 +1,7 @@
 use Rattle.std.proofs.Common.{◌≡◌, ◌∙◌, ◌++◌, ap, sym, ℕ, List, arith, take-append-drop}
 use Rattle.std.proofs.lemmas.Str.Parse.{digits_value_short}
 use Rattle.msr_report.specs.Text.{padded_decimal}
-use Rattle.msr_report_reader.specs.Fields.{number_after}
+use Rattle.msr_report_reader.specs.Fields.{with_digits}
 use Rattle.msr_report_reader.proofs.Digits.{own}
 use Rattle.msr_report_reader.proofs.Padded.{reads_padded, padded_parts, pow_small, pads}
 use Rattle.msr_report_reader.proofs.times.padded.Goals as goal
@@ -37,4 +37,4 @@ returns-clause-only c n rest fits is =
     let parts = padded_parts c.in_ok-text.text.now rest c.split_at.result.0.now c.split_at.result.1.now
     (padded_decimal c.args.width n) c.args.width c.split_at.ensures.front c.split_at.ensures.back
     (c.in_ok-text.ensures.only (padded_decimal c.args.width n ++ rest) is) word.long in
-    (c.in_ok-value.ensures.1 ∙ ap (number_after 0) parts.0 ∙ word.is, parts.1)
+    (c.in_ok-value.ensures.1 ∙ ap (with_digits 0) parts.0 ∙ word.is, parts.1)

@@ -2,7 +2,7 @@
 use Rattle.std.proofs.Common.{◌≡◌, ◌≢◌, ◌<◌, ◌+◌, ◌*◌, ◌/◌, ◌%◌, ◌^◌, length, take, arith, ap, refl, subst, ◌∙◌}
 use Rattle.std.proofs.lemmas.Bool.{ne_eqb}
 use mathlib.Core.Bool.{not}
-use Rattle.msr_steim.specs.Area.{IsUndefined, IsUndefinedBefore, arranged_word, code_of, constant}
+use Rattle.msr_steim.specs.Area.{IsUndefined, IsUndefinedBefore, arranged_word, constant, word_code}
 use Rattle.msr_steim.specs.Sums.{IsWritten, ReachesEnd}
 use Rattle.msr_steim.proofs.Beginning.{begins_on, code_here, codes_by, codes_on, end_reached, starts_here}
 use Rattle.msr_steim.proofs.FourWords.{AreOnes, four_place, four_reached, ones_within}
@@ -101,7 +101,7 @@ returns-in-None-clause-fault g c =
     let held = c.loop-slot.invariant in
     let small : slot < 16 = c.loop-slot-test.true in
     let within : number < length area / 64 * 16 = omega (arith, small, c.loop-frame-test.true) in
-    let code_is : code ≡ code_of order area number =
+    let code_is : code ≡ word_code order area number =
     code_here order area frame slot c.loop-slot.codes held.some small held.late held.codes in
     let word_is : word ≡ arranged_word c.args.version order code area number = c.arranged_word_at-word.ensures in
     let undefined : IsUndefined c.args.version order area number =
@@ -123,7 +123,7 @@ returns-in-Some-write_last_word-clause-samples g c =
     let held = c.loop-slot.invariant in
     let small : slot < 16 = c.loop-slot-test.true in
     let within : number < length area / 64 * 16 = omega (arith, small, c.loop-frame-test.true) in
-    let code_is : code ≡ code_of order area number =
+    let code_is : code ≡ word_code order area number =
     code_here order area frame slot c.loop-slot.codes held.some small held.late held.codes in
     let word_is : word ≡ arranged_word c.args.version order code area number = c.arranged_word_at-word.ensures in
     let begin : IsStart c.args.version code word (constant order area 1) at at =
@@ -153,7 +153,7 @@ loop-slot-preserved g c =
     let held = c.loop-slot.invariant in
     let small : slot < 16 = c.loop-slot-test.true in
     let within : number < length area / 64 * 16 = omega (arith, small, c.loop-frame-test.true) in
-    let code_is : code ≡ code_of order area number =
+    let code_is : code ≡ word_code order area number =
     code_here order area frame slot c.loop-slot.codes held.some small held.late held.codes in
     let word_is : word ≡ arranged_word c.args.version order code area number = c.arranged_word_at-word.ensures in
     let begin : IsStart c.args.version code word (constant order area 1) at at =

@@ -4,7 +4,7 @@ use Rattle.std.proofs.lemmas.Bool.{ne_eqb}
 use Rattle.std.proofs.lemmas.Int.{to_z-of_z}
 use mathlib.Core.Bool.{not}
 use Rattle.msr_steim.specs.declared.sums.Progress.{Progress}
-use Rattle.msr_steim.specs.Area.{IsUndefined, code_of, constant}
+use Rattle.msr_steim.specs.Area.{IsUndefined, constant, word_code}
 use Rattle.msr_steim.proofs.Beginning.{code_here, codes_by, codes_on}
 use Rattle.msr_steim.proofs.Checking.{ArePassed, looked_at, none_passed, passed_enough, passed_on, undefined_alone}
 use Rattle.msr_steim.proofs.FourWords.{AreOnes, four_passed, ones_within}
@@ -115,7 +115,7 @@ returns-in_default-clause-fault g c =
     let held = c.loop-slot.invariant in
     let small : slot < 16 = c.loop-slot-test.true in
     let within : number < length area / 64 * 16 = omega (arith, small, c.loop-frame-test.true) in
-    let code_is : code ≡ code_of order area number =
+    let code_is : code ≡ word_code order area number =
     code_here order area frame slot c.loop-slot.codes held.some small held.late held.codes in
     let undefined : IsUndefined c.args.version order area number =
     undefined_so c.args.version order area number code word code_is c.arranged_word_at-word.ensures

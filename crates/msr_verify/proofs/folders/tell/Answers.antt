@@ -1,7 +1,7 @@
 use Rattle.std.proofs.lemmas.Result.{err_from_is_err_and}
 use Rattle.std.proofs.Common.{refl}
 use Rattle.msr_folders.proofs.VisitLemmas.{part_line, tells_one}
-use Rattle.msr_verify.specs.Entries.{Entry, IsEntry, IsEntryLine, IsVerifyTally}
+use Rattle.msr_verify.specs.Entries.{IsJudgedEntry, IsJudgedEntryLine, IsVerifyTally, JudgedEntry}
 use Rattle.msr_verify.proofs.EntriesFound.{none_told}
 use Rattle.msr_verify.proofs.folders.tell.Goals as goal
 
@@ -14,16 +14,16 @@ pub returns-in_err-write_all-clause-stops : goal.returns-in_err-write_all-clause
 returns-in_err-write_all-clause-stops g c =
     let p = err_from_is_err_and c.from_residual-in_err-write_all.result c.from_residual-in_err-write_all.ensures.1 in
     let part = c.in_err-write_all.ensures.part in
-    let entry : Entry = record { path = c.args.path.now; judgement = c.args.judgement } in
+    let entry : JudgedEntry = record { path = c.args.path.now; judgement = c.args.judgement } in
     λ is. rw (p.1, p.2) (
-      part_line IsEntry IsEntryLine _ _ part.0 entry c.as_bytes.result.now is
+      part_line IsJudgedEntry IsJudgedEntryLine _ _ part.0 entry c.as_bytes.result.now is
           (rw c.as_bytes.ensures.value c.in_ok-line.ensures) part.1,
       c.in_err-write_all.ensures.failed,
     )
 
 pub returns-clause-told : goal.returns-clause-told
 returns-clause-told g c =
-    let entry : Entry = record { path = c.args.path.now; judgement = c.args.judgement } in
-    λ is. tells_one IsEntry IsEntryLine IsVerifyTally _ _ _ _ entry c.as_bytes.result.now is
+    let entry : JudgedEntry = record { path = c.args.path.now; judgement = c.args.judgement } in
+    λ is. tells_one IsJudgedEntry IsJudgedEntryLine IsVerifyTally _ _ _ _ entry c.as_bytes.result.now is
     (rw c.as_bytes.ensures.value c.in_ok-line.ensures) c.in_ok-write_all.ensures.all c.in_ok-write_all.ensures.calm
     (λ before h. c.add.ensures before entry h refl)

@@ -1,7 +1,7 @@
 use Rattle.std.proofs.Common.{rules, ◌≡◌}
 use Rattle.std.proofs.lemmas.Result.{err_from_is_err_and}
 use Rattle.msr_devices.proofs.Chaining.{calm_calm, calm_failed, calm_same, takes_append}
-use Rattle.msr_walk.specs.Walk.{counts_line}
+use Rattle.msr_walk.specs.Walk.{files_line}
 use Rattle.msr_walk.proofs.ChannelLines.{front_after, front_all, front_before, summary_is}
 use Rattle.msr_folders.proofs.VisitLemmas.{stops_within}
 use Rattle.msr_walk.proofs.summary.write_summary.Goals as goal
@@ -15,7 +15,7 @@ returns-in_err-write_channels-clause-stops g c =
     λ entries h. rw (p.1, p.2, ← summary_is c.args.asked.now entries tally h)
     (stops_within out0 out0 out c.in_err-write_channels.field-0.0 (calm_same out0)
     (front_before out0 out _
-    (counts_line c.args.asked.now tally)) c.in_err-write_channels.ensures.stops)
+    (files_line c.args.asked.now tally)) c.in_err-write_channels.ensures.stops)
 
 pub returns-in_err-line-clause-stops : goal.returns-in_err-line-clause-stops
 returns-in_err-line-clause-stops g c =
@@ -29,7 +29,7 @@ returns-in_err-write_all-clause-stops g c =
     let p = err_from_is_err_and c.from_residual-in_err-write_all.result c.from_residual-in_err-write_all.ensures.1 in
     let part = c.in_err-write_all.ensures.part in
     let tally = c.args.tally.now in
-    let line : c.as_bytes.result.now ≡ counts_line c.args.asked.now tally = search rules in
+    let line : c.as_bytes.result.now ≡ files_line c.args.asked.now tally = search rules in
     let failed = calm_failed (g.O.Sink.device c.args.out.now) (g.O.Sink.device c.write_channels.new.out)
     (g.O.Sink.device c.write_all.new.sink) c.in_ok-write_channels.ensures.calm c.in_err-write_all.ensures.failed in
     λ entries h. rw (p.1, p.2, ← summary_is c.args.asked.now entries tally h, ← line)
@@ -38,7 +38,7 @@ returns-in_err-write_all-clause-stops g c =
 pub returns-clause-all : goal.returns-clause-all
 returns-clause-all g c =
     let tally = c.args.tally.now in
-    let line : c.as_bytes.result.now ≡ counts_line c.args.asked.now tally = search rules in
+    let line : c.as_bytes.result.now ≡ files_line c.args.asked.now tally = search rules in
     λ entries h. rw (← summary_is c.args.asked.now entries tally h, ← line)
     (takes_append _ _ _ _ _ c.in_ok-write_channels.ensures.all c.in_ok-write_all.ensures.all)
 

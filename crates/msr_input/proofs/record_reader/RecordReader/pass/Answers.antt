@@ -4,7 +4,7 @@ use Rattle.msr_rows.specs.Records.{IsRecordOf}
 use Rattle.msr_rows.proofs.UnseenBytes.{record_fits}
 use Rattle.msr_devices.specs.ReadBuffer.{Window}
 use Rattle.msr_input.specs.Records.{CountsOneMore, HaveCome}
-use Rattle.msr_input.specs.Steps.{IsNext}
+use Rattle.msr_input.specs.Steps.{IsRecordAhead}
 use Rattle.msr_input.specs.declared.outline.Outline.{Outline}
 use Rattle.msr_input.proofs.RecordsThatCame.{Passes, at_window, come_passed}
 use Rattle.msr_input.proofs.record_reader.RecordReader.pass.Goals as goal
@@ -25,7 +25,7 @@ returns-clause-passed c start now records found has given =
     let old = at_window at.strict at.buffer at.counts at.offset in
     let new = at_window at.strict c.consume.new.self c.counted-self-inside.result c.saturating_add-self-inside.result in
     let come : HaveCome start now old records = rw (← c.self.view_is) at has in
-    let next : IsNext old c.args.outline.now found = rw (← c.self.view_is) at given in
+    let next : IsRecordAhead old c.args.outline.now found = rw (← c.self.view_is) at given in
     let size : c.args.outline.now.length ≡ found.length = ap (λ (o : Outline). o.length) next.outline_is in
     let counted : CountsOneMore old.counts c.counted-self-inside.result found =
     c.counted-self-inside.ensures found next.outline_is in

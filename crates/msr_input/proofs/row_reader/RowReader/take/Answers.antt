@@ -2,7 +2,7 @@ use Rattle.std.proofs.Common.{◌≡◌, ap, subst}
 use Rattle.std.proofs.lemmas.Result.{err_from_is_err_and}
 use Rattle.std.specs.Prelude.{option_map, Option}
 use Rattle.msr_input.specs.Outlines.{row_outline}
-use Rattle.msr_input.specs.Steps.{Follows, StopsFollowing}
+use Rattle.msr_input.specs.Steps.{FollowsIfAny, StopsFollowing}
 use Rattle.msr_input.specs.declared.outline.Outline.{Outline}
 use Rattle.msr_input.specs.declared.outline.RowOutline.{RowOutline}
 use Rattle.msr_input.proofs.Rows.{follow_stops, rows_passed}
@@ -32,5 +32,5 @@ returns-clause-read c =
     let come = c.pass.ensures.passed start now records found has.came next in
     rows_passed start now old c.pass.new.self c.self.inside.follow c.follow.new.follow records answers found step
     has next.is_record
-    (subst (λ (r : Option RowOutline). Follows c.self.inside.follow r step c.follow.new.follow) row
+    (subst (λ (r : Option RowOutline). FollowsIfAny c.self.inside.follow r step c.follow.new.follow) row
     c.in_ok-step.ensures.followed) come)

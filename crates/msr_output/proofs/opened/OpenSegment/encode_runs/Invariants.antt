@@ -1,6 +1,6 @@
 use Rattle.std.proofs.Common.{◌≡◌, ◌≤◌, List}
 use Rattle.msr_words.specs.declared.kinds.Run.{Run}
-use Rattle.msr_packer.specs.Blocks.{left_of, pushed}
+use Rattle.msr_packer.specs.Blocks.{pushed, steps_left}
 use Rattle.msr_segments.specs.declared.joiner.Segment.{Segment}
 use Rattle.msr_output.specs.Opened.{AppendsSome, CanGoOn, IsOpen}
 use Rattle.msr_output.proofs.opened.OpenSegment.encode_runs.Given as goal
@@ -20,4 +20,4 @@ invariant-loop-number l = record {
 }
 
 abbrev pub decreases-loop-number : goal.decreases-loop-number
-decreases-loop-number l = left_of l.self.packer
+decreases-loop-number l = steps_left l.self.packer

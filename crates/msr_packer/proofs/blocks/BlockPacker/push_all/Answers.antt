@@ -1,7 +1,7 @@
 use Rattle.std.proofs.lemmas.Result.{err_from_is_err_and}
 use Rattle.std.proofs.Common.{refl, arith, ap, ◌∙◌, ◌≤◌, length, length-append, subst}
 use Rattle.msr_words.specs.Fit.{records_of}
-use Rattle.msr_packer.specs.HeldSamples.{frontier_of, start_of}
+use Rattle.msr_packer.specs.HeldSamples.{first_ungiven, frontier_of}
 use Rattle.msr_packer.specs.declared.held.HeldSamples.{HeldSamples}
 use Rattle.msr_packer.proofs.Holding.{sound_more}
 use Rattle.msr_packer.proofs.InBlocks.{packs_held, packs_more, packs_same}
@@ -64,7 +64,7 @@ invariant_of-self-2 c =
       sound_more room new c.args.samples.now s refl refl refl refl items (omega arith),
       record {
         next = record {
-          next = rw items (more (start_of room.current) (frontier_of room.current) _ _ _
+          next = rw items (more (first_ungiven room.current) (frontier_of room.current) _ _ _
               (start_within (records_of room.form) room.current (length room.samples.items) s.inside)
               (frontier_within (records_of room.form) room.current (length room.samples.items) s.inside)
               knows.next.next);

@@ -1,5 +1,5 @@
 use Rattle.std.proofs.Common.{◌≡◌, ◌<◌, ◌-◌, ap, arith, length, length-drop, refl}
-use Rattle.msr_packer.specs.HeldSamples.{HoldsNeeded, IsSound, frontier_of, start_of}
+use Rattle.msr_packer.specs.HeldSamples.{HoldsNeeded, IsSound, first_ungiven, frontier_of}
 use Rattle.msr_packer.specs.declared.held.HeldSamples.{HeldSamples}
 use Rattle.msr_packer.proofs.Holding.{window_less}
 use Rattle.msr_packer.proofs.ToldSizes.{none_sized, sized_less}
@@ -34,7 +34,7 @@ returns-clause-needed c =
     let fourth = inside.short in
     let counted = c.requires.number in
     let value = c.unneeded-count.ensures in
-    let start : start_of c.args.self.now.current ≡ c.in-Some.current.start = ap start_of c.in-Some.is in
+    let start : first_ungiven c.args.self.now.current ≡ c.in-Some.current.start = ap first_ungiven c.in-Some.is in
     let end : frontier_of c.args.self.now.current ≡ c.in-Some.current.end = ap frontier_of c.in-Some.is in
     let some : 0 < c.unneeded-count.result = let never = c.if-count-eq0.false in grind arith in
     let items = ap length c.remove_front.ensures in
@@ -60,7 +60,7 @@ returns-clause-needed c =
       sizes = λ knows. record {
         next = record {
           next = rw c.remove_front.ensures (sized_less held.samples.items c.unneeded-count.result
-              (start_of held.current) (frontier_of held.current) _ _ held.sizes.next.count held.sizes.next.places.items
+              (first_ungiven held.current) (frontier_of held.current) _ _ held.sizes.next.count held.sizes.next.places.items
               held.sizes.next.words.items (omega arith) (omega arith) (omega arith) knows.next.next);
         };
         shown = none_sized _ 0 0 0 held.sizes.shown.places.items held.sizes.shown.words.items refl;

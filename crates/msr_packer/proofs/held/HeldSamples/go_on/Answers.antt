@@ -1,6 +1,6 @@
 use Rattle.std.proofs.Common.{◌≡◌, ◌≤◌, ℕ, ℤ, List, [], Option, Some, None, IsNone, arith, length, refl}
 use Rattle.std.specs.Prelude.{slice_range}
-use Rattle.msr_packer.specs.HeldSamples.{frontier_of, piece_of, start_of}
+use Rattle.msr_packer.specs.HeldSamples.{first_ungiven, frontier_of, piece_of}
 use Rattle.msr_packer.specs.declared.held.RunToCut.{RunToCut}
 use Rattle.msr_packer.proofs.Holding.{next_stepped, shows_next, start_before, window_next}
 use Rattle.msr_packer.proofs.ToldSizes.{sized_cut}
@@ -36,7 +36,7 @@ returns-clause-given c =
     let within = next.step.reached.1 in
     let reached = next.step.reached.0 in
     let from = c.start_of-self.ensures in
-    let later : start_of c.args.self.now.current ≤ step.start =
+    let later : first_ungiven c.args.self.now.current ≤ step.start =
     start_before form (length held) c.args.self.now.current step.start c.requires.sound.inside s.near in
     record {
       sound = record {
@@ -66,13 +66,13 @@ returns-clause-sizes c = λ next step.
     record {
       next = record { next = rw (g.next_places, g.next_words, g.next_count) step };
       shown = rw (g.shown_places, g.shown_words, c.start_of-self.ensures)
-          (sized_cut held.samples.items (start_of held.current) (frontier_of held.current) c.args.step.start
+          (sized_cut held.samples.items (first_ungiven held.current) (frontier_of held.current) c.args.step.start
           held.sizes.next.count _ held.sizes.next.places.items held.sizes.next.words.items _
           (rw c.frontier_of.ensures refl) g.whole g.cut next.next);
     }
 
 none_shown : (items : List ℤ) (offset next : ℕ) (current : Option RunToCut) → next ≤ frontier_of current
-    → IsNone (piece_of offset current next) → slice_range items (start_of current) next ≡ []
+    → IsNone (piece_of offset current next) → slice_range items (first_ungiven current) next ≡ []
 none_shown items offset next None within none = let zero : next ≡ 0 = omega arith in rw zero refl
 none_shown items offset next (Some run) within none = cc
 

@@ -1,5 +1,5 @@
 use Rattle.std.proofs.Common.{◌≡◌, ◌∙◌, arith, length, refl, subst}
-use Rattle.msr_packer.specs.HeldSamples.{frontier_of, start_of}
+use Rattle.msr_packer.specs.HeldSamples.{first_ungiven, frontier_of}
 use Rattle.msr_packer.specs.Steps.{HaveSizes}
 use Rattle.msr_packer.proofs.ToldSizes.{frontier_within, none_sized}
 use Rattle.msr_packer.proofs.Holding.{ends_with, shows_next}
@@ -40,9 +40,9 @@ returns-clause-sizes c = λ knows.
     let least = c.requires.end in omega arith) in
     record {
       next = record {
-        next = none_sized held.samples.items (start_of held.current) (frontier_of held.current) _ _ _ g.next_count;
+        next = none_sized held.samples.items (first_ungiven held.current) (frontier_of held.current) _ _ _ g.next_count;
       };
       shown = rw (g.shown_places, g.shown_words, g.whole refl, c.start_of-self.ensures)
-          (subst (λ n. HaveSizes held.samples.items (start_of held.current) n held.sizes.next.count
+          (subst (λ n. HaveSizes held.samples.items (first_ungiven held.current) n held.sizes.next.count
           held.sizes.next.places.items held.sizes.next.words.items) last knows.next.next);
     }

@@ -1,7 +1,7 @@
 use Rattle.std.proofs.Common.{◌+◌, ◌++◌, ◌≤◌, ap, append_assoc, arith, inl, inr, length}
 use Rattle.std.proofs.lemmas.Bool.{cases_lt}
 use Rattle.std.proofs.lemmas.List.{map-append}
-use Rattle.msr_packer.specs.HeldSamples.{frontier_of, pieces_of, runs_of, separators_of, start_of}
+use Rattle.msr_packer.specs.HeldSamples.{first_ungiven, frontier_of, pieces_of, runs_of, separators_of}
 use Rattle.msr_packer.specs.declared.held.Piece.{Piece}
 use Rattle.msr_packer.proofs.Holding.{leaves}
 use Rattle.msr_packer.proofs.InBlocks.{holds_in}
@@ -47,7 +47,7 @@ returns c = λ records samples runs separators s.
         ← append_assoc separators (separators_of first) (separators_of last),
       )
           (rw (g.form, q.of_form) at canonical);
-      given = held.offset + start_of held.current;
+      given = held.offset + first_ungiven held.current;
       joined = l.joined;
       from_there = rw (c.remove_front.ensures, c.last_piece-last.ensures.same.held, g.held, c.start_of-start.ensures)
           l.from_there;

@@ -2,7 +2,7 @@
 use Rattle.std.proofs.Common.{rules, ◌≡◌, ◌<◌, ◌∷◌, ◌-◌, [], length, take, drop, w32, SFits, sym, ap, ◌∙◌, arith}
 use Rattle.std.proofs.lemmas.Int.{to_z-of_z}
 use Rattle.msr_base.proofs.IteratorLemmas.{first_given}
-use Rattle.msr_plain.specs.Plain.{numbers_in}
+use Rattle.msr_plain.specs.Plain.{numbers_in_area}
 use Rattle.msr_plain.proofs.InOrder.{first_number}
 use Rattle.msr_plain.proofs.borrowed.PlainSamplesIterator.next.Goals as goal
 
@@ -10,7 +10,7 @@ pub returns-then-self-eq0-clause-steps : goal.returns-then-self-eq0-clause-steps
 returns-then-self-eq0-clause-steps c =
     let old = c.self.inside in
     let none : c.args.self.now ≡ [] = sym c.self.view_is
-    ∙ ap (numbers_in old.width old.order old.bytes.now) c.if-self-eq0.true in
+    ∙ ap (numbers_in_area old.width old.order old.bytes.now) c.if-self-eq0.true in
     (none, none)
 
 pub returns-clause-steps : goal.returns-clause-steps
@@ -20,7 +20,7 @@ returns-clause-steps c =
     let fits : SFits w32 given = search rules in
     let some : 0 < old.left = omega (arith, c.if-self-eq0.false) in
     sym c.self.view_is ∙ first_number old.width old.order old.bytes.now old.left c.bytes.result some c.bytes.ensures
-    ∙ ap (λ x. x ∷ numbers_in old.width old.order
+    ∙ ap (λ x. x ∷ numbers_in_area old.width old.order
     (take (length old.bytes.now - c.bytes.result) (drop c.bytes.result old.bytes.now)) (old.left - 1)) (sym
     (to_z-of_z w32 given fits ∙ c.read_number-sample.ensures))
 

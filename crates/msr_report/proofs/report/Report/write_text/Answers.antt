@@ -2,7 +2,7 @@ use Rattle.std.proofs.Common.{◌≡◌, ◌+◌, refl, ap, ◌∙◌, arith, le
 use Rattle.std.proofs.lemmas.List.{take_all}
 use Rattle.std.proofs.lemmas.Result.{err_from_is_err_and}
 use Rattle.msr_devices.proofs.Chaining.{calm_calm, calm_failed}
-use Rattle.msr_report.specs.Proper.{records_of}
+use Rattle.msr_report.specs.Proper.{records_in}
 use Rattle.msr_report.proofs.Written.{nothing_taken, written_next, written_front_of, written_end, end_front, end_whole, records_next, records_take}
 use Rattle.msr_report.proofs.report.Report.write_text.Goals as goal
 
@@ -85,7 +85,7 @@ returns-in_err-flush-clause-text g c =
     rw p.1 (end_front _ _ c.args.self.now _
     (written_end _ _ _ c.args.self.now _ _ _ _ c.len-segments.result c.loop-line.records all count
     (c.loop-line.invariant.records
-    ∙ ap records_of all) c.loop-line.invariant.written c.in_ok-push_end_line.ensures c.in_err-flush.ensures.passes))
+    ∙ ap records_in all) c.loop-line.invariant.written c.in_ok-push_end_line.ensures c.in_err-flush.ensures.passes))
 
 pub returns-clause-text : goal.returns-clause-text
 returns-clause-text g c =
@@ -95,4 +95,4 @@ returns-clause-text g c =
     end_whole _ _ c.args.self.now _ c.in_ok-flush.ensures.empty
     (written_end _ _ _ c.args.self.now _ _ _ _ c.len-segments.result c.loop-line.records all count
     (c.loop-line.invariant.records
-    ∙ ap records_of all) c.loop-line.invariant.written c.in_ok-push_end_line.ensures c.in_ok-flush.ensures.passes)
+    ∙ ap records_in all) c.loop-line.invariant.written c.in_ok-push_end_line.ensures c.in_ok-flush.ensures.passes)

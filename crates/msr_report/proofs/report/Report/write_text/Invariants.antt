@@ -1,6 +1,6 @@
 use Rattle.std.proofs.Common.{◌≡◌, take}
 use Rattle.msr_devices.specs.Device.{IsCalm}
-use Rattle.msr_report.specs.Proper.{records_of}
+use Rattle.msr_report.specs.Proper.{records_in}
 use Rattle.msr_report.proofs.Written.{IsWrittenReport}
 use Rattle.msr_report.proofs.report.Report.write_text.Given as goal
 
@@ -10,5 +10,5 @@ invariant-loop-line g l = record {
   written : IsWrittenReport (g.W.Sink.device l.fn.sink) (g.W.Sink.device l.sink) l.self
       (take l.line-index l.self.segments.items) l.buffer.bytes.items;
   calm : IsCalm (g.W.Sink.device l.fn.sink) (g.W.Sink.device l.sink);
-  records : l.records ≡ records_of (take l.line-index l.self.segments.items);
+  records : l.records ≡ records_in (take l.line-index l.self.segments.items);
 }

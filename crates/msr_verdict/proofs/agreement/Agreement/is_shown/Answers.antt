@@ -4,7 +4,7 @@ use Rattle.std.proofs.lemmas.Option.{slice_get-get_or}
 use Rattle.msr_words.specs.Fit.{records_of}
 use Rattle.msr_check.specs.Judged.{Judges}
 use Rattle.msr_report.specs.declared.report.SegmentLine.{SegmentLine}
-use Rattle.msr_verdict.specs.Compared.{separators_of}
+use Rattle.msr_verdict.specs.Compared.{separators_of_line}
 use Rattle.msr_verdict.specs.Packed.{form_by}
 use Rattle.msr_verdict.proofs.Lines.{shown_at}
 use Rattle.msr_verdict.proofs.agreement.Agreement.is_shown.Goals as goal
@@ -20,4 +20,4 @@ returns-clause-shown c segment runs =
     (form_by c.args.report.now) c.self.inside.place c.args.report.now.segments.items segment runs c.in-Some.line.now
     c.shows_least.result at is
     (exact (subst (λ (line : Option SegmentLine). Judges (records_of (form_by c.args.report.now)) segment.samples runs
-    (separators_of line) c.self.inside.judge) at judges)))
+    (separators_of_line line) c.self.inside.judge) at judges)))
