@@ -4,15 +4,13 @@
 usage: feed_live.py PROGRAM
 
 After each record, and before the next is sent, all has to have come out but the last samples of a segment that goes on, at
-most twice as many as a record of the length can hold. What came out in the end has to be the segments of the input. Both
-are counted by model.py and the headers of the records, not by the program. The last line is `N passed, N failed`.
+most twice as many as a record of the length can hold; and in the end the records of model.py. The last line is
+`N passed, N failed`.
 """
 import contextlib
-import itertools
 import os
 import random
 import select
-import struct
 import subprocess
 import sys
 import tempfile
@@ -32,14 +30,8 @@ PATIENCE = 20
 AT_RANDOM = (0, 1, 2, 4)
 EXAMPLE = os.path.join(ROOT, "examples", "two-segments.mseed")
 
-# How much was sent, and how many samples have to be out by then.
-Sent = namedtuple("Sent", "end samples")
-
-
-def most_samples(size):
-    """How many samples a record of that length can hold: seven differences in each word of Steim-2."""
-    words = 15 * (size // 64 - 1) - 2
-    return min(model.MOST_SAMPLES, words * model.WORDS[model.STEIM2][0][0])
+# Where a record of the input ends, and how many bytes have to be out when it has been sent.
+Sent = namedtuple("Sent", "end out")
 
 
 def key_of(channel):
@@ -52,8 +44,8 @@ def made(channels, samples, each):
     for first in range(0, len(samples), each):
         some = samples[first : first + each]
         for channel in channels:
-            time_of = start + first * model.SECOND // 100
-            records.append(model.record(key_of(channel), time_of, 1, some, [], model.INT32, 64 + 4 * each))
+            begins = start + first * model.SECOND // 100
+            records.append(model.record(key_of(channel), begins, 1, some, [], model.INT32, 64 + 4 * each))
     return b"".join(records)
 
 
@@ -64,33 +56,36 @@ def inputs():
         yield "two segments", file.read()
     for number in AT_RANDOM:
         yield f"file {number} made at random", compare.make(number).content
-    yield "a long segment", made([b"HHZ"], compare.signal(dice, 40_000), 240)
-    yield "a long segment of zeros", made([b"HHZ"], [0] * 40_000, 240)
+    yield "a long segment", made([b"HHZ"], compare.signal(dice, 16_000), 240)
+    yield "a long segment of zeros", made([b"HHZ"], [0] * 24_000, 240)
     yield "channels in turns", made([b"HHN", b"HHZ"], compare.signal(dice, 2_400), 48)
 
 
-def sends(read, size):
-    """The records in turn, each with what has to be out after it."""
-    segments = iter(read.segments)
-    end, ended, current, whole = 0, 0, 0, 0
+def most_samples(size):
+    """How many samples a record of that length can hold: seven differences in each word of Steim-2."""
+    return min(model.MOST_SAMPLES, 7 * (15 * (size // 64 - 1) - 2))
+
+
+def sends(read, records, size):
+    """The records of the input in turn. Of a segment that has ended all records have to be out. Of one that goes on all
+    samples have to be, but for the last ones, at most twice as many as a record of the length can hold."""
+    segments, counts = iter(read.segments), [int.from_bytes(record[30:32], "big") for record in records]
+    end, count, whole, out, first = 0, 0, 0, 0, 0
     for length, row in read.rows:
         end += length
-        if row and current == whole:
-            ended, current, whole = ended + whole, 0, len(next(segments).samples)
-        current += len(row.samples) if row else 0
-        yield Sent(end, ended + max(0, current - 2 * most_samples(size)))
+        if row and count == whole:
+            first, count, whole = first + whole, 0, len(next(segments).samples)
+        count += len(row.samples) if row else 0
+        least = first + max(0, count - 2 * most_samples(size))
+        while sum(counts[:out]) < least:
+            out += 1
+        yield Sent(end, size * out)
 
 
-def samples_in(written, size):
-    """How many samples the whole records hold, by their headers."""
-    places = range(0, len(written) // size * size, size)
-    return sum(struct.unpack_from(">H", written, place + 30)[0] for place in places)
-
-
-def come(out, written, size, wanted):
-    """What was written, read until it has so many samples, or for too long."""
+def come(out, written, wanted):
+    """What was written, read until there are so many bytes, or for too long."""
     until = time.monotonic() + PATIENCE
-    while samples_in(written, size) < wanted or select.select([out], [], [], 0)[0]:
+    while len(written) < wanted or select.select([out], [], [], 0)[0]:
         ready, _, _ = select.select([out], [], [], max(0, until - time.monotonic()))
         some = os.read(out, 1 << 16) if ready else b""
         if not some:
@@ -99,43 +94,39 @@ def come(out, written, size, wanted):
     return written
 
 
-def live(words, content, records, size):
-    """What the program writes, and what it did not write in time."""
-    written, begin, late = b"", 0, None
+def live(words, content, sent):
+    """What the program writes, and what is wrong with when it does."""
+    written, begin, wrong = b"", 0, None
     with subprocess.Popen(words, stdin=subprocess.PIPE, stdout=subprocess.PIPE, stderr=subprocess.PIPE, bufsize=0) as feed:
         with contextlib.suppress(BrokenPipeError):
-            for number, sent in enumerate(records, 1):
-                feed.stdin.write(content[begin : sent.end])
-                begin = sent.end
-                written = come(feed.stdout.fileno(), written, size, sent.samples)
-                there = samples_in(written, size)
-                if there < sent.samples:
-                    late = f"after record {number} {there} samples are out, and not {sent.samples}"
+            for number, (end, wanted) in enumerate(sent, 1):
+                feed.stdin.write(content[begin:end])
+                begin, written = end, come(feed.stdout.fileno(), written, wanted)
+                if len(written) < wanted:
+                    wrong = f"after record {number} {len(written)} bytes are out, and not {wanted}"
                     break
         rest, said = feed.communicate()
-    return written + rest, late or (f"status {feed.returncode}: {said.decode(errors='replace')}" if feed.returncode else None)
+    status = f"status {feed.returncode}: {said.decode(errors='replace')}" if feed.returncode else None
+    return written + rest, wrong or status
 
 
-def wrong_of(program, folder, content, size, options):
+def wrong_of(program, folder, content, size):
     """What is wrong with a feed of that input, or None."""
     read = model.read_all(content, TOLERANCE)
-    words = [program, "feed", *options, "--length", str(size), "--tolerance", str(TOLERANCE), os.path.join(folder, "report")]
-    written, wrong = live(words, content, sends(read, size), size)
-    if wrong is None and model.read_all(written, TOLERANCE).segments != read.segments:
-        return "other segments came out"
-    return wrong
+    records, _ = model.packed(read.segments, size)
+    words = [program, "feed", "--length", str(size), "--tolerance", str(TOLERANCE), os.path.join(folder, "report")]
+    written, wrong = live(words, content, sends(read, records, size))
+    return wrong or (None if written == b"".join(records) else "other records came out")
 
 
 def feed(program, name, content):
-    """The input, at each length and with each choice of kinds, until one is wrong."""
-    passed = 0
+    """The input at each length, until one is wrong."""
     with tempfile.TemporaryDirectory() as folder:
-        for size, options in itertools.product(LENGTHS, ([], ["--no-int24"])):
-            wrong = wrong_of(program, folder, content, size, options)
+        for number, size in enumerate(LENGTHS):
+            wrong = wrong_of(program, folder, content, size)
             if wrong:
-                return Result(passed, 1, told=f"{' '.join(['feed', name, str(size), *options])}: {wrong}\n")
-            passed += 1
-    return Result(passed)
+                return Result(number, 1, told=f"feed --length {size}, {name}: {wrong}\n")
+    return Result(len(LENGTHS))
 
 
 def main():
