@@ -1,5 +1,5 @@
 -- Clap answers with help or the version only if a word asks for it.
-use Rattle.std.proofs.Common.{◌∙◌, ◌≡◌, ◌≢◌, ◌⊎◌, ◌&&◌, ◌||◌, ℕ, Bool, ◌+◌, arith, cond, true, false, true≢false, not, is_some, List, [], ◌∷◌, ◌++◌, ap, sym, refl, subst, inl, inr, length, map, fold, drop, codes, Option, None, Some, zero, suc}
+use Rattle.std.proofs.Common.{◌∙◌, ◌≡◌, ◌≢◌, ◌⊎◌, ◌&&◌, ◌||◌, ℕ, Bool, ◌+◌, arith, cond, true, false, true≢false, not, is_some, List, [], ◌∷◌, ap, sym, refl, subst, inl, inr, length, map, fold, drop, codes, Option, None, Some, zero, suc}
 use Rattle.std.specs.Prelude.{⊤, ◌==◌, nat_lt, option_and_then, slice_get}
 use Rattle.std.specs.List.{before_first, find, list_all, list_any, prefix_len, starts_with}
 use Rattle.std.specs.Option.{option_map_or}

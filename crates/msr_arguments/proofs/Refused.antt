@@ -219,7 +219,8 @@ program_quiet name word rest other unasked =
     (λ is. true≢false (sym ((bytes_eq-Decides word (codes "help")).1 is) ∙ no_help)) nothing in
     by_test _ (bytes_eq word (codes "--"))
     (λ is. subst (λ w. Quiet (fault_of program_app (name ∷ w ∷ rest)))
-    (sym ((bytes_eq-Decides word (codes "--")).0 is)) (dashes_quiet name rest))
+    (sym ((bytes_eq-Decides word (codes "--")).0 is))
+    (dashes_quiet name rest))
     (λ is.
         let some : turn_fault top (names_of (built program_app)) (walk_from nothing_held) word ≢ [] =
         λ none. true≢false (sym ((bytes_eq-Decides word (codes "--")).1 (first_word word other none)) ∙ is) in
