@@ -271,16 +271,16 @@ word_is (x ∷ y ∷ []) name is = by_test _ (x == 45)
 word_is (x ∷ y ∷ z ∷ zs) name is = by_test _ (x == 45)
     (λ one. by_test _ (y == 45)
     (λ two.
-        let at : Some (name_and_value (z ∷ zs)) ≡ Some (name, None) = rw (one, two) at is in
-        by_test _ (has_byte 61 (z ∷ zs))
-        (λ split. let bad : Some (name_and_value (z ∷ zs)) ≡ Some (name, None) = at in
-            let parts : name_and_value (z ∷ zs) ≡ (name, None) = cc in
-            let value : (name_and_value (z ∷ zs)).1 ≡ None = ap (λ p. p.1) parts in
-            absurd (some_none _ (rw split at value)))
-        (λ whole.
-            let parts : name_and_value (z ∷ zs) ≡ (name, None) = cc in
-            let named : z ∷ zs ≡ name = sym (whole_before (z ∷ zs) whole) ∙ ap (λ p. p.0) parts in
-            rw (same_number x 45 one, same_number y 45 two, named) refl))
+    let at : Some (name_and_value (z ∷ zs)) ≡ Some (name, None) = rw (one, two) at is in
+    by_test _ (has_byte 61 (z ∷ zs))
+    (λ split. let bad : Some (name_and_value (z ∷ zs)) ≡ Some (name, None) = at in
+    let parts : name_and_value (z ∷ zs) ≡ (name, None) = cc in
+    let value : (name_and_value (z ∷ zs)).1 ≡ None = ap (λ p. p.1) parts in
+    absurd (some_none _ (rw split at value)))
+    (λ whole.
+    let parts : name_and_value (z ∷ zs) ≡ (name, None) = cc in
+    let named : z ∷ zs ≡ name = sym (whole_before (z ∷ zs) whole) ∙ ap (λ p. p.0) parts in
+    rw (same_number x 45 one, same_number y 45 two, named) refl))
     (λ none. let bad : None ≡ Some (name, None) = rw (one, none) at is in cc))
     (λ none. let bad : None ≡ Some (name, None) = rw none at is in cc)
   where
@@ -414,9 +414,9 @@ module _ (s : Shape) (version : Bool) (tame : list_all (is_tame s.rules version)
                   absurd (other can (letter_is (codes "version") 86 a x named has))
             ])
             (λ rest.
-                let (short, more) = both _ _ (cond_false _ _ _ all rest) in
-                let bad : false ≡ true = rw (no_text a.short short, is_nil a.short_aliases (both _ _ more).0) at has in
-                absurd (true≢false (sym bad)))
+            let (short, more) = both _ _ (cond_false _ _ _ all rest) in
+            let bad : false ≡ true = rw (no_text a.short short, is_nil a.short_aliases (both _ _ more).0) at has in
+            absurd (true≢false (sym bad)))
       ] refl
 
   abbrev NoFlag : (letters : Text) → Type 0
@@ -491,10 +491,10 @@ module _ (s : Shape) (version : Bool) (tame : list_all (is_tame s.rules version)
       × (is_calm_waiting s.rules (option_word o id word h).1 ≡ true)) [
         | None ↦ (calm, is)
         | Some a ↦ (
-            pushed_calm id word h is calm,
-            elim (nat_lt (pending_count a (pushed id word h).pending) (most_values a)) as (λ b.
-            is_calm_waiting s.rules (cond b (option id) idle) ≡ true) [ true ↦ is | false ↦ refl ],
-          )
+          pushed_calm id word h is calm,
+          elim (nat_lt (pending_count a (pushed id word h).pending) (most_values a)) as (λ b.
+              is_calm_waiting s.rules (cond b (option id) idle) ≡ true) [ true ↦ is | false ↦ refl ],
+        )
       ]
 
   option_calm : (a : Rule) (given : Option Text) (waiting : Waiting) (word : Text) (h : Held) →
@@ -564,7 +564,7 @@ module _ (s : Shape) (version : Bool) (tame : list_all (is_tame s.rules version)
       let (all, test) = found _ a at in
       by_test _ (is_request (action_of a))
       (λ request.
-          let bad : false ≡ true = rw (asking_parts a (asking a all request)).1 at test in absurd (true≢false (sym bad)))
+      let bad : false ≡ true = rw (asking_parts a (asking a all request)).1 at test in absurd (true≢false (sym bad)))
       (λ other. calm_rule a all other)
 
   positional_calm : (a : Rule) (word : Text) (h : Held) → is_calm s.rules a.id ≡ true → Calm s.rules h →
@@ -656,9 +656,9 @@ module _ (s : Shape) (version : Bool) (tame : list_all (is_tame s.rules version)
   default_quiet : (a : Rule) (rows : List Row) → is_tame s.rules version a ≡ true → Quiet (default_fault rows a)
   default_quiet a rows all = by_test _ (is_request (action_of a))
       (λ request.
-          rw (also (has_row a.id rows) (is_empty a.defaults) (asking_parts a (asking a all request)).2) (none_shown refl))
+      rw (also (has_row a.id rows) (is_empty a.defaults) (asking_parts a (asking a all request)).2) (none_shown refl))
       (λ other. quiet_cond (has_row a.id rows || is_empty a.defaults) _ _ (none_shown refl)
-          (quiet_else _ _ (no_request (action_of a) other) (values_quiet a.ignore_case (parser_of_value a.parser) a.defaults)))
+      (quiet_else _ _ (no_request (action_of a) other) (values_quiet a.ignore_case (parser_of_value a.parser) a.defaults)))
 
   defaults_quiet : (rules : List Rule) (rows : List Row) → list_all (is_tame s.rules version) rules ≡ true →
       Quiet (defaults_fault rows rules)

@@ -222,9 +222,9 @@ program_quiet name word rest other unasked =
     (sym ((bytes_eq-Decides word (codes "--")).0 is))
     (dashes_quiet name rest))
     (λ is.
-        let some : turn_fault top (names_of (built program_app)) (walk_from nothing_held) word ≢ [] =
-        λ none. true≢false (sym ((bytes_eq-Decides word (codes "--")).1 (first_word word other none)) ∙ is) in
-        quiet_first _ _ (quiet_first _ _ turn some) (λ none. some (first_none _ _ none)))
+    let some : turn_fault top (names_of (built program_app)) (walk_from nothing_held) word ≢ [] =
+    λ none. true≢false (sym ((bytes_eq-Decides word (codes "--")).1 (first_word word other none)) ∙ is) in
+    quiet_first _ _ (quiet_first _ _ turn some) (λ none. some (first_none _ _ none)))
 
 pub program_told : (app : App) (words : List (Bor Text)) (error : Error) (why : NoTask) → app ≡ program_app →
     (is_simple_and_free app ≡ true → HasKind (fault_of app (map (λ word. word.now) words)) error) →
