@@ -7,6 +7,7 @@ import sys
 from collections import Counter
 
 import compare
+import feed_live
 import pages
 import play
 import same_segments
@@ -85,6 +86,8 @@ def jobs(program):
     for name in sorted(os.listdir(PACKAGE)):
         if name.startswith("test_"):
             yield Job("the Python package", package, (program, name[: -len(".py")]))
+    for name, content in feed_live.inputs():
+        yield Job("feed through a live pipe", feed_live.feed, (program, name, content))
     for number in range(FILES_OF_PAIRS):
         yield Job("pairs of files", pairs, (program, same_segments.pairs_at_random, number))
     for name in same_segments.files():

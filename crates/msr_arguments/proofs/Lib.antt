@@ -1,5 +1,6 @@
 pub mod Adding
 pub mod Apart
+pub mod Asked
 pub mod Named
 pub mod Parsed
 pub mod Refused

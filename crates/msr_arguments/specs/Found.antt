@@ -158,11 +158,11 @@ EndsFor kind (Ending ending) =
 EndsFor kind NotALength = ⊥
 EndsFor kind Memory = ⊤
 
--- one or the other
-abbrev pub IsToldByClap : NoTask → Type 0
-IsToldByClap (Ending ending) = (ending.status ≡ 0) ⊎ (ending.status ≡ 2)
-IsToldByClap NotALength = ⊥
-IsToldByClap Memory = ⊤
+-- it ends with status 0 only if the words ask for that, and else with 2, unless memory is refused
+abbrev pub IsToldByClap : (asked : Type 0) → NoTask → Type 0
+IsToldByClap asked (Ending ending) = ((ending.status ≡ 0) × asked) ⊎ (ending.status ≡ 2)
+IsToldByClap asked NotALength = ⊥
+IsToldByClap asked Memory = ⊤
 
 -- what is said of a line that asks for what is not done
 abbrev pub line_fault_text : LineFault → Option (List ℕ)

@@ -1,10 +1,11 @@
 //! What the words of a command line ask for.
-ghost use Rattle.std.specs.Prelude.{◌≡◌, ◌≢◌, ◌<◌, ◌≤◌, ◌↔◌, ℕ, length, codes, false, slice_get, Some, IfOk, IfErr, IfSome, IsSome, IsSomeAnd, IsOk, IsOkAnd, IsErrAnd, IsTrue, Ok, Err, Any, map, option_map};
+ghost use Rattle.std.specs.Prelude.{◌≡◌, ◌≢◌, ◌<◌, ◌≤◌, ◌↔◌, ℕ, length, codes, false, slice_get, Some, IfOk, IfErr, IfSome, IsSome, IsSomeAnd, IsOk, IsOkAnd, IsErrAnd, IsTrue, Ok, Err, Any, drop, map, option_map, true};
 ghost use Rattle.msr_kinds.specs.RecordLength.{IsRecordLength};
 ghost use Rattle.clap.specs.Words.{first_value, found_of, kind_of, one_text};
 ghost use Rattle.msr_arguments.specs.Found.{AsksArchive, AsksBelow, AsksCheck, AsksDays, AsksFolders, AsksOptions, AsksTask, AsksVerify, EndsFor, EndsWith, IsBadLine, IsFlagOf, IsFormOf, IsKindsOf, IsLengthOf, IsNumberOf, IsToldByClap, IsWrong, length_in, line_fault_text, without_slash};
 ghost use Rattle.msr_arguments.specs.Rules.{IsFoundFor, HasNeeded, HoldsTolerance, folder_rules};
-ghost use Rattle.msr_options.specs.Tasks.{AreApart, AreBothStandard, HasStatus, HasTolerance, IsDefault, IsTolerance, KeepsInput, Overlap, StandApart, verb_of, word_of};
+ghost use Rattle.msr_options.specs.Asked.{AsksAlone, HasStatus, ask_help};
+ghost use Rattle.msr_options.specs.Tasks.{AreApart, AreBothStandard, HasTolerance, IsDefault, IsTolerance, KeepsInput, Overlap, StandApart, verb_of, word_of};
 
 use crate::commands::{command_line, length_alone, program_line};
 use clap::ArgMatches;
@@ -86,8 +87,7 @@ fn no_number(alloc: Global, text: &str) -> NoTask
 
 /// The answer to a line that clap does not let through: help, the version, or what is wrong.
 fn ending_of(alloc: Global, error: &clap::Error) -> NoTask
-    ensures ends { EndsFor (kind_of error.now) result }
-    ensures told { IsToldByClap result }
+    ensures { EndsFor (kind_of error.now) result }
 {
     ending_with(alloc, error, if error.use_stderr() { 2 } else { 0 })
 }
@@ -359,7 +359,7 @@ fn task_in<'a>(alloc: Global, verb: Verb, found: &ArgMatches<'a>) -> Result<Task
 /// What clap finds in these words, which begin with that of the command.
 fn read_line<'a>(alloc: Global, verb: Verb, words: &'a [&'a str]) -> Result<ArgMatches<'a>, NoTask>
     ensures found { IfOk result (λ found. IsFoundFor verb (found_of found)) }
-    ensures told { IfErr result IsToldByClap }
+    ensures told { IfErr result (IsToldByClap (ask_help (drop 1 (map (λ word. word.now) words.now)) ≡ true)) }
 {
     match command_line(alloc, verb)?.try_get_matches_from(words) {
         Ok(found) => Ok(found),
@@ -380,7 +380,7 @@ fn task_of<'a>(alloc: Global, verb: Verb, found: &ArgMatches<'a>) -> Result<Task
 /// What is said, never a task, if the word after the program's name is no command: help, the version, or what is wrong.
 fn no_command<'a>(alloc: Global, words: &[&str]) -> Result<Task<'a>, NoTask>
     requires { IsSomeAnd (slice_get words.now 1) (λ word. (verb : Verb) → word.now ≢ word_of verb) }
-    ensures { IsErrAnd result IsToldByClap }
+    ensures { IsErrAnd result (IsToldByClap (IsSomeAnd (slice_get words.now 1) (λ word. AsksAlone word.now))) }
 {
     match program_line(alloc)?.try_get_matches_from(words) {
         // Clap lets no such line through: proofs/Refused.antt.
@@ -396,7 +396,7 @@ pub fn read_words<'a>(alloc: Global, words: &'a [&'a str]) -> Result<Task<'a>, N
         IsSomeAnd (slice_get words.now 1) (λ word. word.now ≡ word_of (verb_of task))) }
     ensures tolerance { IfOk result HasTolerance }
     ensures keeps_input { IfOk result KeepsInput }
-    ensures status { IfErr result HasStatus }
+    ensures status { IfErr result (HasStatus (map (λ word. word.now) words.now)) }
 {
     if words.len() < 2 {
         return Ok(default_task());

@@ -9,7 +9,8 @@ use Rattle.msr_options.specs.Choice.{Choice}
 use Rattle.msr_tool.specs.Tasks.{Reports}
 use Rattle.msr_tool.specs.declared.fault.ToolFault.{ToolFault}
 use Rattle.msr_tool.specs.declared.fault.ToolFault.TheVariants as fault
-use Rattle.msr_options.specs.declared.days.DayOptions.{DayOptions}
+use Rattle.msr_options.specs.declared.task.Archiving.{Archiving}
+use Rattle.msr_options.specs.declared.task.Verifying.{Verifying}
 use Rattle.msr_folders.specs.declared.found.WalkFound.{WalkFound}
 use Rattle.msr_folders.specs.Visits.{IsWalk}
 use Rattle.msr_walk.specs.Entries.{IsEntry, IsEntryLine}
@@ -28,7 +29,7 @@ use Rattle.msr_options.specs.declared.task.Task.{Task}
 use Rattle.msr_options.specs.declared.task.Task.TheVariants.{Repack, List as Listing, Check, Compare, Archive, Verify, Feed}
 use Rattle.msr_command.specs.Turns.{AreTurns}
 use Rattle.msr_command.proofs.Comparisons.{compare_unsettled, two_after, two_none}
-use Rattle.msr_command.specs.Ends.{Checks, Does, EndsClosed, Feeds, FeedAnswers, FeedEnds, FeedsTo, IsUncreated, IsUnread, ListEnds, ListsNamed, IsOverlapOrMemory, Over, RepackEnds, Repacks, RepacksNamed, VerifiesArchive, WalksArchive, done_of_archive, done_of_verifying}
+use Rattle.msr_command.specs.Ends.{Checks, Does, EndsClosed, Feeds, FeedAnswers, FeedEnds, FeedsTo, IsUncreated, IsUnread, ListEnds, ListsNamed, IsOverlapOrMemory, Over, RepackEnds, Repacks, RepacksNamed, VerifiesArchive, WalksArchive, done_of_archive, done_of_verifying, is_whole}
 
 -- nothing was read or printed
 over_none : (known : Type 0) (says : (input printed : List ℕ) → Type 0) (source out0 out : Device) → Takes out0 out [] →
@@ -201,43 +202,44 @@ check_unread out stop is = record {
   ends = inr (inl is, refl);
 }
 
-pub archive_done : (asked : DayOptions) (out0 out : Device) (is_whole : Bool) (walked : Walked)
-    → Walks asked out0 out (Ok walked) → WalksArchive asked out0 out (Ok (done_of_archive is_whole walked))
-archive_done asked out0 out is_whole walked does = record {
+pub archive_done : (asked : Archiving) (out0 out : Device) (walked : Walked) → Walks asked.days out0 out (Ok walked) →
+    WalksArchive asked out0 out (Ok (done_of_archive (is_whole asked.below.items) walked))
+archive_done asked out0 out walked does = record {
   printed = does.printed;
   prints = does.prints;
-  ends = record { found = walked; is_whole = is_whole; walk = does.ends; is = refl };
+  ends = record { found = walked; walk = does.ends; is = refl };
 }
 
-pub archive_stops : (asked : DayOptions) (out0 out : Device) (why : ToolFault) → Walks asked out0 out (Err why) →
+pub archive_stops : (asked : Archiving) (out0 out : Device) (why : ToolFault) → Walks asked.days out0 out (Err why) →
     WalksArchive asked out0 out (Err (Tool why))
 archive_stops asked out0 out why does = record { printed = does.printed; prints = does.prints; ends = inl does.ends }
 
 -- folders overlap, or memory was refused before the walk began
-pub archive_unbegun : (asked : DayOptions) (out : Device) (stop : TaskFault) → IsOverlapOrMemory stop
+pub archive_unbegun : (asked : Archiving) (out : Device) (stop : TaskFault) → IsOverlapOrMemory stop
     → WalksArchive asked out out (Err stop)
 archive_unbegun asked out stop (inl overlap) = rw overlap
     (record { printed = []; prints = takes_none out; ends = inr (inl refl, refl) })
 archive_unbegun asked out stop (inr refused) = rw refused (archive_stops asked out out fault.Memory
-    (walk_stops asked out out device_fault.Memory
-    (stops_entries asked out out device_fault.Memory (none_told asked out))))
+    (walk_stops asked.days out out device_fault.Memory
+    (stops_entries asked.days out out device_fault.Memory (none_told asked.days out))))
 
-pub verify_done : (out0 out : Device) (is_whole : Bool) (found : WalkFound) → Verifies out0 out (Ok found)
-    → VerifiesArchive out0 out (Ok (done_of_verifying is_whole found))
-verify_done out0 out is_whole found does = record {
+pub verify_done : (asked : Verifying) (out0 out : Device) (found : WalkFound) → Verifies out0 out (Ok found) →
+    VerifiesArchive asked out0 out (Ok (done_of_verifying (is_whole asked.below.items) found))
+verify_done asked out0 out found does = record {
   printed = does.printed;
   prints = does.prints;
-  ends = record { found = found; is_whole = is_whole; walk = does.ends; is = refl };
+  ends = record { found = found; walk = does.ends; is = refl };
 }
 
-pub verify_stops : (out0 out : Device) (why : ToolFault) → Verifies out0 out (Err why) →
-    VerifiesArchive out0 out (Err (Tool why))
-verify_stops out0 out why does = record { printed = does.printed; prints = does.prints; ends = inl does.ends }
+pub verify_stops : (asked : Verifying) (out0 out : Device) (why : ToolFault) → Verifies out0 out (Err why) →
+    VerifiesArchive asked out0 out (Err (Tool why))
+verify_stops asked out0 out why does = record { printed = does.printed; prints = does.prints; ends = inl does.ends }
 
-pub verify_unbegun : (out : Device) (stop : TaskFault) → IsOverlapOrMemory stop → VerifiesArchive out out (Err stop)
-verify_unbegun out stop (inl overlap) = rw overlap
+pub verify_unbegun : (asked : Verifying) (out : Device) (stop : TaskFault) → IsOverlapOrMemory stop →
+    VerifiesArchive asked out out (Err stop)
+verify_unbegun asked out stop (inl overlap) = rw overlap
     (record { printed = []; prints = takes_none out; ends = inr (inl refl, refl) })
-verify_unbegun out stop (inr refused) = rw refused (verify_stops out out fault.Memory
+verify_unbegun asked out stop (inr refused) = rw refused (verify_stops asked out out fault.Memory
     (verifying_stops out out device_fault.Memory
     (stops_found out out device_fault.Memory (none_found out))))
 

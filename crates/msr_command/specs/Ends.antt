@@ -1,11 +1,13 @@
 -- How a task ends: what was read and printed, for what the files of the system hold.
-use Rattle.std.specs.Prelude.{if◌then◌else◌, ◌≡◌, ◌≢◌, ◌⊎◌, ◌↔◌, ◌<◌, ◌≤◌, ◌&&◌, ℕ, ⊤, Bool, false, true, IsTrue, List, [], codes, string_bytes, Option, None, Result, Ok, Err}
+use Rattle.std.specs.Prelude.{if◌then◌else◌, ◌≡◌, ◌≢◌, ◌⊎◌, ◌↔◌, ◌<◌, ◌≤◌, ◌&&◌, ℕ, ⊤, Bool, false, true, IsTrue, List, [], ◌==◌, codes, length, map, slice_get, string_bytes, IsSomeAnd, Option, None, Result, Ok, Err}
+use Rattle.std.specs.Borrow.{Bor}
 use Rattle.std.specs.declared.io.Error.{Error}
 use Rattle.msr_devices.specs.Device.{Device, CountsError, HasFailed, HasLeft, Takes}
 use Rattle.msr_base.specs.declared.counts.Counts.{Counts}
 use Rattle.msr_report.specs.declared.report.Report.{Report}
 use Rattle.msr_options.specs.Choice.{Choice}
-use Rattle.msr_options.specs.declared.days.DayOptions.{DayOptions}
+use Rattle.msr_options.specs.declared.task.Archiving.{Archiving}
+use Rattle.msr_options.specs.declared.task.Verifying.{Verifying}
 use Rattle.msr_tool.specs.Settings.{settings_of}
 use Rattle.msr_tool.specs.Listing.{IsListed, ListAnswers}
 use Rattle.msr_tool.specs.Tasks.{IsReported, ReportAnswers, VerdictAnswers}
@@ -31,7 +33,8 @@ use Rattle.msr_options.specs.declared.task.NoTask.{NoTask}
 use Rattle.msr_options.specs.declared.task.NoTask.TheVariants.{Ending, NotALength, Memory}
 use Rattle.msr_options.specs.declared.task.Task.{Task}
 use Rattle.msr_options.specs.declared.task.Task.TheVariants.{Repack, List as Listing, Check, Compare, Archive, Verify, Feed}
-use Rattle.msr_options.specs.Tasks.{HasStatus, IsDefault}
+use Rattle.msr_options.specs.Asked.{HasStatus}
+use Rattle.msr_options.specs.Tasks.{IsDefault, verb_of, word_of}
 
 -- 0 for what was written, is least or is the same, 3 for what is not shown or differs, 1 for a walk on which an entry was
 -- refused, or not verified, or which had none to verify
@@ -231,34 +234,37 @@ done_of_archive is_whole walked = done_of_walk walked.unopened is_whole false wa
 abbrev pub done_of_verifying : (is_whole : Bool) → WalkFound → Done
 done_of_verifying is_whole found = done_of_walk None is_whole true found
 
--- A walk of an archive, or of a part of it, ended so.
-pub record IsEndOf {W : Type 0} (done_of : (is_whole : Bool) → W → Done) (ends : W → Type 0) (done : Done) : Type 0 where
+-- A walk ended so.
+pub record IsEndOf {W : Type 0} (done_of : W → Done) (ends : W → Type 0) (done : Done) : Type 0 where
   pub found : W
-  pub is_whole : Bool
   pub walk : ends found
-  pub is : done ≡ done_of is_whole found
+  pub is : done ≡ done_of found
 
-abbrev pub ArchiveEnds : DayOptions → (printed : List ℕ) → Result Done TaskFault → Type 0
+-- the whole archive is walked if no folder of it is asked for
+abbrev pub is_whole : {F : Type 0} → (below : List F) → Bool
+is_whole below = length below == 0
+
+abbrev pub ArchiveEnds : Archiving → (printed : List ℕ) → Result Done TaskFault → Type 0
 ArchiveEnds asked printed result =
-    Ends (IsEndOf done_of_archive (λ found. WalkEnds asked printed (Ok found))) (λ stop. stop ≡ Overlap)
-    (λ fault. WalkEnds asked printed (Err fault)) printed result
+    Ends (IsEndOf (done_of_archive (is_whole asked.below.items)) (λ found. WalkEnds asked.days printed (Ok found)))
+    (λ stop. stop ≡ Overlap) (λ fault. WalkEnds asked.days printed (Err fault)) printed result
 
 -- Walking an archive, and what was printed.
-pub record WalksArchive (asked : DayOptions) (out0 out : Device) (result : Result Done TaskFault) : Type 0 where
+pub record WalksArchive (asked : Archiving) (out0 out : Device) (result : Result Done TaskFault) : Type 0 where
   pub printed : List ℕ
   pub prints : Takes out0 out printed
   pub ends : ArchiveEnds asked printed result
 
-abbrev pub VerifyEnds : (printed : List ℕ) → Result Done TaskFault → Type 0
-VerifyEnds printed result =
-    Ends (IsEndOf done_of_verifying (λ found. VerifyingEnds printed (Ok found))) (λ stop. stop ≡ Overlap)
-    (λ fault. VerifyingEnds printed (Err fault)) printed result
+abbrev pub VerifyEnds : Verifying → (printed : List ℕ) → Result Done TaskFault → Type 0
+VerifyEnds asked printed result =
+    Ends (IsEndOf (done_of_verifying (is_whole asked.below.items)) (λ found. VerifyingEnds printed (Ok found)))
+    (λ stop. stop ≡ Overlap) (λ fault. VerifyingEnds printed (Err fault)) printed result
 
 -- Verifying the repack of an archive, and what was printed.
-pub record VerifiesArchive (out0 out : Device) (result : Result Done TaskFault) : Type 0 where
+pub record VerifiesArchive (asked : Verifying) (out0 out : Device) (result : Result Done TaskFault) : Type 0 where
   pub printed : List ℕ
   pub prints : Takes out0 out printed
-  pub ends : VerifyEnds printed result
+  pub ends : VerifyEnds asked printed result
 
 -- A call was made, and it failed or was interrupted.
 pub record WasRefused (old new : Device) : Type 0 where
@@ -284,8 +290,8 @@ Does (Listing asked) standard out0 out result =
 Does (Check asked) standard out0 out result = Checks out0 out result
 Does (Compare asked) standard out0 out result =
     ComparesNamed asked.options asked standard out0 out result
-Does (Archive asked) standard out0 out result = WalksArchive asked.days out0 out result
-Does (Verify asked) standard out0 out result = VerifiesArchive out0 out result
+Does (Archive asked) standard out0 out result = WalksArchive asked out0 out result
+Does (Verify asked) standard out0 out result = VerifiesArchive asked out0 out result
 Does (Feed asked) standard out0 out result = Feeds asked.options standard out0 out result
 
 -- A task was done, and ended with this status.
@@ -308,17 +314,18 @@ abbrev pub EndsAsked : Result Task NoTask → (standard out0 out : Device) → (
 EndsAsked (Ok task) standard out0 out status = EndsDone task standard out0 out status
 EndsAsked (Err why) standard out0 out status = EndsText why out0 out status
 
--- The words ask for a task, with none for the default, and it ended with this status.
-pub record EndsTask (words : ℕ) (standard out0 out : Device) (status : ℕ) : Type 0 where
+-- The words ask for a task, with none for the default, else by the word of a command, and it ended with this status.
+pub record EndsTask (words : List (Bor (List ℕ))) (standard out0 out : Device) (status : ℕ) : Type 0 where
   pub task : Task
   pub outcome : Result Done TaskFault
-  pub default : words < 2 → IsDefault task
+  pub default : length words < 2 → IsDefault task
+  pub command : 2 ≤ length words → IsSomeAnd (slice_get words 1) (λ word. word.now ≡ word_of (verb_of task))
   pub does : Does task standard out0 out outcome
   pub ended : status ≡ status_of outcome
 
 -- The words ask for no task.
-pub record EndsWithoutTask (words : ℕ) (out0 out : Device) (status : ℕ) : Type 0 where
+pub record EndsWithoutTask (words : List (Bor (List ℕ))) (out0 out : Device) (status : ℕ) : Type 0 where
   pub why : NoTask
-  pub some : 2 ≤ words
-  pub has_status : HasStatus why
+  pub some : 2 ≤ length words
+  pub has_status : HasStatus (map (λ word. word.now) words) why
   pub ends : EndsText why out0 out status

@@ -289,7 +289,7 @@ fn repack_archive<'a, R: Files, O: Sink>(
 where
     R::File: LockFile,
     requires output { CanCountCall (O.device output.old) }
-    ensures { WalksArchive asked.now.days (O.device output.old) (O.device output.new) result }
+    ensures { WalksArchive asked.now (O.device output.old) (O.device output.new) result }
 {
     require_apart(rt, alloc, asked.folders)?;
     let walked = walk(rt, alloc, asked, output)?;
@@ -303,7 +303,7 @@ fn verify_archive<'a, R: Files, O: Sink>(
     output: &mut O,
 ) -> Result<Done, TaskFault<'a>>
     requires { CanCountCall (O.device output.old) }
-    ensures { VerifiesArchive (O.device output.old) (O.device output.new) result }
+    ensures { VerifiesArchive asked.now (O.device output.old) (O.device output.new) result }
 {
     require_apart(rt, alloc, asked.folders)?;
     let found = verify(rt, alloc, asked, output)?;

@@ -8,8 +8,6 @@ use Rattle.msr_options.specs.declared.task.Task.{Task}
 use Rattle.msr_options.specs.declared.task.Task.TheVariants.{Repack, List as Listing, Check, Compare, Archive, Verify, Feed}
 use Rattle.msr_options.specs.declared.task.Verb.{Verb}
 use Rattle.msr_options.specs.declared.task.Verb.TheVariants as verb
-use Rattle.msr_options.specs.declared.task.NoTask.{NoTask}
-use Rattle.msr_options.specs.declared.task.NoTask.TheVariants.{Ending, NotALength, Memory}
 
 -- the word of a command
 abbrev pub word_of : Verb → List ℕ
@@ -97,9 +95,3 @@ IsDefault (Compare asked) = ⊥
 IsDefault (Archive asked) = ⊥
 IsDefault (Verify asked) = ⊥
 IsDefault (Feed asked) = ⊥
-
--- no task, with status 0 for help and the version and 2 for a bad command line
-abbrev pub HasStatus : NoTask → Type 0
-HasStatus (Ending ending) = (ending.status ≡ 0) ⊎ (ending.status ≡ 2)
-HasStatus NotALength = ⊤
-HasStatus Memory = ⊤

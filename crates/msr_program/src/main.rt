@@ -2,7 +2,7 @@
 #![tactic(auto)]
 
 ghost use Rattle.std.specs.Io.KnownBytes.{Appends};
-ghost use Rattle.std.specs.Prelude.{◌≡◌, ◌⊎◌, ◌<◌, ◌≤◌, IfSome, OnOk, false, length, true};
+ghost use Rattle.std.specs.Prelude.{◌≡◌, ◌⊎◌, ◌<◌, ◌≤◌, IfSome, OnOk, false, true};
 ghost use Rattle.msr_devices.specs.Device.{CanCountCall};
 ghost use Rattle.msr_command.specs.Ends.{EndsTask, EndsWithoutTask};
 ghost use Rattle.msr_options.specs.Hints.{line_of};
@@ -36,8 +36,8 @@ fn run_words<I: Source, O: Sink, E: Write>(
 ) -> u8
     requires input { CanCountCall (I.device input.old) }
     requires output { CanCountCall (O.device output.old) }
-    ensures { EndsTask (length words.now) (I.device input.old) (O.device output.old) (O.device output.new) result
-        ⊎ EndsWithoutTask (length words.now) (O.device output.old) (O.device output.new) result }
+    ensures { EndsTask words.now (I.device input.old) (O.device output.old) (O.device output.new) result
+        ⊎ EndsWithoutTask words.now (O.device output.old) (O.device output.new) result }
 {
     run(rt, alloc, read_words(alloc, words), input, output, errors)
 }
