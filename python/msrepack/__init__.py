@@ -8,18 +8,23 @@ All work is done by the program msrepack, which `find_program` finds; this packa
 True
 """
 from msrepack import lines
-from msrepack.errors import BadCall, Error, Failed, NotAReport, NotFound, Refused
-from msrepack.files import Difference, Packed, Same, check, compare, repack, segments
+from msrepack.errors import BadCall, Error, Failed, NotAReport, NotFound, Refused, TimedOut
+from msrepack.files import Counts, Difference, Listing, Packed, Same, Written, check, compare, listing, repack, segments
 from msrepack.program import find_program
 from msrepack.report import Flags, Report, Segment
 from msrepack.walks import archive, verify
 
+# That of the program which this package was tested with.
+__version__ = "1.1.0"
+
 __all__ = [
     "BadCall",
+    "Counts",
     "Difference",
     "Error",
     "Failed",
     "Flags",
+    "Listing",
     "NotAReport",
     "NotFound",
     "Packed",
@@ -27,11 +32,14 @@ __all__ = [
     "Report",
     "Same",
     "Segment",
+    "TimedOut",
+    "Written",
     "archive",
     "check",
     "compare",
     "find_program",
     "lines",
+    "listing",
     "repack",
     "segments",
     "verify",
