@@ -8,6 +8,7 @@ All work is done by the program msrepack, which `find_program` finds; this packa
 True
 """
 from msrepack import lines
+from msrepack.channels import Daily, Extent, Gap, daily, extents, gaps
 from msrepack.errors import BadCall, Error, Failed, NotAReport, NotFound, Refused, TimedOut
 from msrepack.files import Counts, Difference, Listing, Packed, Same, Written, check, compare, listing, repack, segments
 from msrepack.program import find_program
@@ -20,10 +21,13 @@ __version__ = "1.1.0"
 __all__ = [
     "BadCall",
     "Counts",
+    "Daily",
     "Difference",
     "Error",
+    "Extent",
     "Failed",
     "Flags",
+    "Gap",
     "Listing",
     "NotAReport",
     "NotFound",
@@ -37,7 +41,10 @@ __all__ = [
     "archive",
     "check",
     "compare",
+    "daily",
+    "extents",
     "find_program",
+    "gaps",
     "lines",
     "listing",
     "repack",
