@@ -11,6 +11,7 @@ import subprocess
 import sys
 import time
 import unittest
+import unittest.mock
 
 from support import EXAMPLES, ROOT, Tidy, read
 
@@ -430,9 +431,12 @@ class Commands(Tidy):
             self.assertIn(told, complaint)
 
     def test_numbers_of_pages_have_one_width(self):
+        from matplotlib.figure import Figure
+
         for number in range(401):
             self.report(segment(0, 10, f"S{number}"))
-        printed = self.run_main("availability", self.reports, "-o", self.path("a.png"))[1]
+        with unittest.mock.patch.object(plot, "draw_rows", return_value=Figure(figsize=(1, 1))):
+            printed = self.run_main("availability", self.reports, "-o", self.path("a.png"))[1]
         self.assertEqual([os.path.basename(name) for name in printed.split()], [f"a-{number:02}.png" for number in range(1, 12)])
 
     def test_a_full_disk_leaves_no_picture(self):
@@ -440,7 +444,7 @@ class Commands(Tidy):
         self.report(segment(0, 10))
         self.path("old.png", b"as before")
         script = "import resource, signal, sys; signal.signal(signal.SIGXFSZ, signal.SIG_IGN)\n"
-        script += "from msrepack.__main__ import main; main(['--help']) if 0 else None; import matplotlib.figure\n"
+        script += "from msrepack.__main__ import main; import matplotlib.figure\n"
         script += "matplotlib.figure.Figure().savefig('/dev/null', format='png')\n"
         script += "resource.setrlimit(resource.RLIMIT_FSIZE, (1000, 1000)); sys.exit(main(sys.argv[1:]))"
         for name in ("new.png", "old.png", "new.pdf", "new.svg"):
