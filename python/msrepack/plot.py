@@ -245,7 +245,8 @@ def _legend(axes: Any, drawn: Iterable[str]) -> None:
     }
     handles = [mark for name, mark in marks.items() if name in drawn]
     place = {"loc": "lower right", "bbox_to_anchor": (1.0, 1.0), "ncol": len(handles)}
-    axes.legend(handles=handles, **place, frameon=False, fontsize=8, borderpad=0)
+    small = {"fontsize": 8, "borderpad": 0, "handlelength": 1.5, "handletextpad": 0.5, "columnspacing": 1.2}
+    axes.legend(handles=handles, **place, **small, frameon=False)
 
 
 # Savings.
