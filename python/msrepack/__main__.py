@@ -13,10 +13,11 @@ import sys
 from typing import Any, Callable, Dict, Iterable, Iterator, List, Optional, Tuple
 
 from msrepack import channels, plot
-from msrepack.channels import Daily, Extent, Gap, Row, Source, Whole
+from msrepack.channels import Daily, Extent, Gap, Row, Whole
 from msrepack.files import written
 from msrepack.lines import Line, parse
 from msrepack.report import DAY
+from msrepack.sources import Source, report_files
 from msrepack.tables import FORMATS
 
 HELP = """
@@ -144,7 +145,7 @@ def source_of(asked: argparse.Namespace, bar: Bar) -> Source:
 
 def some_files(reports: str) -> List[str]:
     """The reports of a folder, which has to have some, or the one that is named."""
-    files = channels.report_files(reports)
+    files = report_files(reports)
     if not files:
         raise ValueError(f"no reports below {reports}: no name there ends with .txt")
     return files

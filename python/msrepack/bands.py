@@ -9,8 +9,9 @@ from matplotlib.axes import Axes  # type: ignore[import]
 from matplotlib.backends.backend_pdf import PdfPages  # type: ignore[import]
 from matplotlib.figure import Figure  # type: ignore[import]
 
-from msrepack.channels import Row, Span
+from msrepack.channels import Row
 from msrepack.report import DAY
+from msrepack.sources import Span
 
 __all__ = ["Axes", "Bands", "Figure", "PdfPages"]
 # Its types need the newest Python.

@@ -9,11 +9,10 @@ import importlib
 import os
 from typing import TYPE_CHECKING, Any, Dict, Iterable, Iterator, List, NamedTuple, Optional, Sequence, Tuple
 
-from msrepack.channels import (
-    NAME, Day, Given, Row, Source, Span, day_of, part_of, read_reports, report_files, row_of, rows as rows_within
-)
+from msrepack.channels import Row, part_of, row_of, rows as rows_within
 from msrepack.lines import Done, Line, Same
 from msrepack.report import DAY, Segment
+from msrepack.sources import NAME, Day, Given, Source, Span, day_of, read_reports, report_files
 
 if TYPE_CHECKING:
     from msrepack.bands import Axes, Figure, PdfPages

@@ -13,7 +13,7 @@ import unittest.mock
 from support import ROOT, Tidy, example, read
 
 import msrepack
-from msrepack import Report, channels, daily, extents, gaps
+from msrepack import Report, channels, daily, extents, gaps, sources
 from msrepack.__main__ import main
 from msrepack.report import Flags, Segment
 
@@ -60,7 +60,7 @@ class Reports(Tidy):
 
     def row(self, **asked):
         """The row of the one channel, and the window."""
-        source = channels.Source(self.reports)
+        source = sources.Source(self.reports)
         window = source.window(asked.get("first"), asked.get("last"))
         [row] = channels.rows(source, window)
         return row, window
@@ -93,8 +93,8 @@ class Days(Reports):
             ([segment(0, DAY + 21, micros=-163)], 0, 0), ([segment(10, 5)], 0, 0), ([segment(DAY - 5, 30)], 1, 1),
             ([segment(DAY - 30, 35)], 0, 0), ([segment(-7200, DAY + 14400)], -1, 1), ([segment(0, 5), segment(3 * DAY, DAY)], 0, 3),
         ):
-            start, end = channels.Source(given).window(None, None)
-            self.assertEqual((channels.day_of(start), channels.day_of(end - 1)), (day(first), day(last)), given)
+            start, end = sources.Source(given).window(None, None)
+            self.assertEqual((sources.day_of(start), sources.day_of(end - 1)), (day(first), day(last)), given)
 
     def make(self, dice):
         """Three weeks of files, some of which are missing or spill; returns the seconds that have data."""
@@ -212,8 +212,8 @@ class Extents(Reports):
         for station in "ABC":
             for number in range(5):
                 self.report(number, segment(number * DAY, DAY, station))
-        opened, reading = [], channels._segments_of
-        with unittest.mock.patch.object(channels, "_segments_of", lambda file: opened.append(file) or reading(file)):
+        opened, reading = [], sources._segments_of
+        with unittest.mock.patch.object(sources, "_segments_of", lambda file: opened.append(file) or reading(file)):
             found = extents(self.reports)
             self.assertEqual(next(found).id, "XX.A.00.LHZ")
             self.assertEqual(len(opened), 5)

@@ -13,7 +13,7 @@ from support import ROOT
 import msrepack
 
 PAGE = os.path.join(ROOT, "python", "README.md")
-MODULES = ["msrepack", *(f"msrepack.{name}" for name in ("channels", "errors", "files", "lines", "program", "report", "tables", "walks"))]
+MODULES = ["msrepack", *(f"msrepack.{name}" for name in ("channels", "errors", "files", "lines", "program", "report", "sources", "tables", "walks"))]
 MODULES += ["msrepack.bands", "msrepack.plot", "msrepack.__main__"] * (importlib.util.find_spec("matplotlib") is not None)
 OBSPY = "**Read by ObsPy**"
 # Debian's mypy is that of its own python3.
