@@ -14,7 +14,7 @@ from typing import Any, Callable, Dict, Iterable, Iterator, List, Optional, Tupl
 
 from msrepack import channels, plot
 from msrepack.channels import Daily, Extent, Gap, Row, Whole
-from msrepack.files import written
+from msrepack.files import is_file, written
 from msrepack.lines import Line, parse
 from msrepack.report import DAY
 from msrepack.sources import Source, report_files
@@ -91,9 +91,11 @@ class Bar:
             yield figure
 
     def show(self) -> None:
+        if not self.is_shown:
+            return
         part = min(25, 25 * self.read // max(1, self.whole))
         text = f"[{'#' * part:25}] {100 * self.read // max(1, self.whole)} % of {self.whole} reports{self.page}"
-        if self.is_shown and text != self.shown:
+        if text != self.shown:
             print(f"\r{text} ", end="", file=sys.stderr, flush=True)
             self.shown = text
 
@@ -111,6 +113,7 @@ def write(figures: Iterator[Any], name: str) -> List[str]:
                 pages.savefig(figure)
         return [name]
     stem, suffix = os.path.splitext(name)
+    suffix = suffix or ".png"
     with contextlib.ExitStack() as stack:
         found: List[Tuple[str, Callable[[str], None]]] = []
         for figure in figures:
@@ -118,7 +121,7 @@ def write(figures: Iterator[Any], name: str) -> List[str]:
             figure.savefig(part)
             found.append((part, rename))
         width = len(str(len(found)))
-        names = [f"{stem}-{number:0{width}}{suffix}" for number in range(1, len(found) + 1)] if len(found) > 1 else [name]
+        names = [f"{stem}-{number:0{width}}{suffix}" for number in range(1, len(found) + 1)] if len(found) > 1 else [stem + suffix]
         for place, (_, rename) in zip(names, found):
             rename(place)
     return names
@@ -128,8 +131,14 @@ def write(figures: Iterator[Any], name: str) -> List[str]:
 def renamed(stem: str, suffix: str) -> Iterator[Tuple[str, Callable[[str], None]]]:
     """A file to be written, and what gives it its name; without that nothing is left of it."""
     part = f"{stem}.part-{os.getpid()}-{os.urandom(4).hex()}{suffix}"
+
+    def rename(place: str) -> None:
+        if not is_file(place):
+            raise ValueError(f"no regular file: {place}")
+        os.replace(part, place)
+
     try:
-        yield part, lambda place: os.replace(part, place)
+        yield part, rename
     finally:
         with contextlib.suppress(FileNotFoundError):
             os.remove(part)
@@ -162,7 +171,12 @@ def availability(asked: argparse.Namespace, bar: Bar) -> int:
             yield row
 
     figures = plot.pages_of(told(channels.rows(source, window, expect)), window)
-    names = write(bar.pages(figures), asked.output or "availability.png")
+    try:
+        names = write(bar.pages(figures), asked.output or "availability.png")
+    except ValueError:
+        if asked.unread and not source.read:
+            raise ValueError("no report could be read") from None
+        raise
     bar.end()
     print("\n".join(names))
     return held(asked, parts)

@@ -3,7 +3,6 @@ import contextlib
 import os
 import re
 import secrets
-import stat
 from dataclasses import dataclass, field
 from typing import Iterator, List, NamedTuple, Optional, Tuple, Union, overload
 
@@ -190,9 +189,8 @@ class Parts:
     def beside(self, argument: str, path: Path) -> str:
         """The path of a file that is to be that one. A link is followed, as if the file was written in its place."""
         place = os.path.realpath(os.fsdecode(path))
-        with contextlib.suppress(FileNotFoundError):
-            if not stat.S_ISREG(os.stat(place).st_mode):
-                raise ValueError(f"{argument}: no regular file: {place}")
+        if not is_file(place):
+            raise ValueError(f"{argument}: no regular file: {place}")
         if place in (other for _, other in self.places):
             raise ValueError(f"{argument}: another argument names the same file: {place}")
         folder, name = os.path.split(place)
@@ -211,6 +209,15 @@ class Parts:
             os.replace(part, place)
 
 
+def is_file(path: Path) -> bool:
+    """Whether a path is that of a regular file, or there is nothing.
+
+    >>> is_file("examples/README.md"), is_file("examples"), is_file("examples/nowhere")
+    (True, False, True)
+    """
+    return os.path.isfile(path) or not os.path.exists(path)
+
+
 def _remove(part: str) -> None:
     with contextlib.suppress(FileNotFoundError):
         os.remove(part)
@@ -218,19 +225,20 @@ def _remove(part: str) -> None:
 
 @contextlib.contextmanager
 def written(*paths: Path) -> Iterator[List[str]]:
-    """Files to be written in the place of these: each gets its name at the end, unless something fails.
+    """Files to be written in the place of these: each gets its name at the end, unless something fails. What is no file,
+    as a terminal, is written as it is.
 
     >>> import tempfile
     >>> with tempfile.TemporaryDirectory() as there:
     ...     with written(f"{there}/a.txt") as [part]:
-    ...         print(open(part, "w").write("text"), os.path.exists(f"{there}/a.txt"))
-    ...     print(os.listdir(there))
-    4 False
+    ...         os.path.exists(f"{there}/a.txt")
+    ...     os.listdir(there)
+    False
     ['a.txt']
     """
     with contextlib.ExitStack() as stack:
         parts = Parts(stack)
-        yield [parts.beside("the output", path) for path in paths]
+        yield [parts.beside("the output", path) if is_file(path) else os.fsdecode(path) for path in paths]
         parts.name()
 
 

@@ -133,14 +133,14 @@ def _batches(rows: Iterable[Row], most: Optional[int]) -> Iterator[List[Row]]:
 def draw_rows(rows: Sequence[Row], window: Span, figure: Optional[Figure] = None, ax: Optional[Axes] = None) -> Figure:
     """Draws rows over a time, each as one image. A gap or an overlap that is narrower than a pixel gets a tick, a gap above
     its bar and an overlap below it, unless the row has too many."""
-    told = [_told(row, window) for row in rows]
+    start, end = window
+    page = figure if ax is None else ax.figure
+    pixel = (end - start) / (0.7 * (page.get_figwidth() * page.dpi if page is not None else WIDTH * DPI))
+    told = [_told(row, window, pixel) for row in rows]
     if ax is None and figure is None:
         ax = _axes_of(rows, told)
     axes: Any = ax if ax is not None or figure is None else figure.subplots()
-    start, end = window
-    colours = (NOTHING, DATA, OVERLAP)
-    axes.add_artist(_bands(rows, window, colours))
-    pixel = (end - start) / (0.7 * axes.figure.get_figwidth() * axes.figure.dpi)
+    axes.add_artist(_bands(rows, window, (NOTHING, DATA, OVERLAP)))
     drawn = {"data"} if any(row.stretches for row in rows) else set()
     drawn |= {"part"} if any(_narrow(row.stretches, pixel) or "*" in text for row, text in zip(rows, told)) else set()
     for place, row in enumerate(rows):
@@ -196,9 +196,8 @@ def _day(micros: float) -> float:
     return micros / DAY
 
 
-def _told(row: Row, window: Span) -> str:
+def _told(row: Row, window: Span, pixel: float) -> str:
     """Per cent present, and how many gaps and overlaps; a star if they have no ticks."""
-    pixel = (window[1] - window[0]) / (0.7 * WIDTH * DPI)
     counts = []
     for spans, name in ((row.gaps, "gap"), (row.overlaps, "overlap")):
         star = "*" if len(_narrow(spans, pixel)) > MOST_TICKS else ""

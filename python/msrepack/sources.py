@@ -88,6 +88,8 @@ class Source:
         self.channel, self.unread, self.heard, self.count = channel, unread, heard, 0
         # When the newest report of the channel was written that was given last, in seconds from 1970 on.
         self.updated = 0.0
+        # How many reports could be read.
+        self.read = 0
         # Of each channel its reports by day, and segments that no name told of before.
         self.files: Dict[str, List[Tuple[Day, str]]] = {}
         self.others: Dict[str, List[Segment]] = {}
@@ -136,7 +138,9 @@ class Source:
     def _read(self, file: str) -> List[Segment]:
         try:
             self.updated = max(self.updated, os.stat(file).st_mtime)
-            return _segments_of(file)
+            found = _segments_of(file)
+            self.read += 1
+            return found
         except (OSError, ValueError) as why:
             self._tell(f"{file}: {getattr(why, 'strerror', None) or why}")
             return []

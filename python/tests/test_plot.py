@@ -399,6 +399,14 @@ class Commands(Tidy):
         with open(self.path("a.pdf"), "rb") as file:
             self.assertIn(b"/Count 2", file.read())
 
+    def test_a_name_without_a_suffix_and_one_of_no_file(self):
+        self.report(segment(0, 10))
+        self.assertEqual(self.run_main("availability", self.reports, "-o", self.path("year")), (0, f"{self.path('year')}.png\n", ""))
+        os.mkdir(self.path("there.png"))
+        status, _, told = self.run_main("availability", self.reports, "-o", self.path("there.png"))
+        self.assertEqual((status, told), (1, f"msrepack: no regular file: {self.path('there.png')}\n"))
+        self.assertEqual(sorted(os.listdir(self.folder)), ["reports", "there.png", "tmp", "year.png"])
+
     def test_only_what_is_asked_for_is_read(self):
         for day in range(9):
             for station in "AB":
@@ -419,6 +427,7 @@ class Commands(Tidy):
             (("availability", os.path.join(EXAMPLES, "one-record.mseed")), "miniSEED, no report"),
             (("availability", self.path("bad.txt", b"not one")), "bad.txt: no report\n"),
             (("availability", self.path("bad.txt")), "no report could be read"),
+            (("availability", self.path("XX.TEST.00.LHZ.D.2023.001.txt", b"not one")), "no report could be read"),
             (("gaps", self.path("bad.txt")), "not read: "),
             (("availability", self.reports, "--channel", "YY*"), "no data of that channel and time"),
             (("availability", self.reports, "--from", "2023-02-01"), "no data of that channel and time"),
