@@ -109,7 +109,7 @@ class Repack(Given):
             self.assertEqual(repack(numpy.frombuffer(content, kind)), wanted, kind)
         self.assertEqual(repack(numpy.frombuffer(content, "u1").reshape(8, -1)), wanted)
         self.assertEqual(repack(numpy.zeros((0, 3))), repack(b""))
-        for other in (numpy.zeros(8, "M8[s]"), numpy.array([[], None]), numpy.zeros((4, 4))[:, 1]):
+        for other in (numpy.zeros(8, "M8[s]"), numpy.array([None, 1], object), numpy.zeros((4, 4))[:, 1]):
             with self.assertRaisesRegex(TypeError, "^data"):
                 repack(other)
 
