@@ -115,14 +115,14 @@ def write(figures: Iterator[Any], name: str) -> List[str]:
     stem, suffix = os.path.splitext(name)
     suffix = suffix or ".png"
     with contextlib.ExitStack() as stack:
-        found: List[Tuple[str, Callable[[str], None]]] = []
+        found: List[Callable[[str], None]] = []
         for figure in figures:
             part, rename = stack.enter_context(renamed(stem, suffix))
             figure.savefig(part)
-            found.append((part, rename))
+            found.append(rename)
         width = len(str(len(found)))
         names = [f"{stem}-{number:0{width}}{suffix}" for number in range(1, len(found) + 1)] if len(found) > 1 else [stem + suffix]
-        for place, (_, rename) in zip(names, found):
+        for place, rename in zip(names, found):
             rename(place)
     return names
 

@@ -39,7 +39,8 @@ class Bands(Artist):  # type: ignore[misc]
         """Draws all rows; matplotlib calls it."""
         if not self.get_visible():
             return
-        axes, scale = self.axes, renderer.get_image_magnification()
+        axes: Any = self.axes
+        scale = renderer.get_image_magnification()
         graphics = renderer.new_gc()
         graphics.set_clip_rectangle(axes.bbox)
         left, right = (axes.transData.transform((micros / DAY, 0))[0] for micros in self.window)

@@ -134,7 +134,7 @@ def draw_rows(rows: Sequence[Row], window: Span, figure: Optional[Figure] = None
     """Draws rows over a time, each as one image. A gap or an overlap that is narrower than a pixel gets a tick, a gap above
     its bar and an overlap below it, unless the row has too many."""
     start, end = window
-    page = figure if ax is None else ax.figure
+    page: Any = figure if ax is None else ax.figure
     pixel = (end - start) / (0.7 * (page.get_figwidth() * page.dpi if page is not None else WIDTH * DPI))
     told = [_told(row, window, pixel) for row in rows]
     if ax is None and figure is None:

@@ -79,8 +79,8 @@ def _segments_of(file: str) -> List[Segment]:
 
 
 class Source:
-    """Reports by the channels and days of their names, or segments. `unread` gets what could not be read; without it that
-    is an error. `heard` is told how many reports are done."""
+    """Reports by the channels and days of their names, or segments, to be read once. `unread` gets what could not be read;
+    without it that is an error. `heard` is told how many reports are done."""
 
     def __init__(
         self, given: Given, channel: str = "*", unread: Optional[List[str]] = None, heard: Heard = lambda count: None
