@@ -17,7 +17,7 @@ from msrepack.channels import Daily, Extent, Gap, Row, Whole
 from msrepack.files import is_file, written
 from msrepack.lines import Line, parse
 from msrepack.report import DAY
-from msrepack.sources import Source, report_files
+from msrepack.sources import Source
 from msrepack.tables import FORMATS
 
 HELP = """
@@ -147,17 +147,9 @@ def renamed(stem: str, suffix: str) -> Iterator[Tuple[str, Callable[[str], None]
 def source_of(asked: argparse.Namespace, bar: Bar) -> Source:
     """The reports that are asked for."""
     asked.unread = []
-    files = [file for reports in asked.reports for file in some_files(reports)]
-    bar.whole = len(files)
-    return Source(files, asked.channel, asked.unread, bar.heard)
-
-
-def some_files(reports: str) -> List[str]:
-    """The reports of a folder, which has to have some, or the one that is named."""
-    files = report_files(reports)
-    if not files:
-        raise ValueError(f"no reports below {reports}: no name there ends with .txt")
-    return files
+    source = Source(asked.reports, asked.channel, asked.unread, bar.heard)
+    bar.whole = source.whole
+    return source
 
 
 def availability(asked: argparse.Namespace, bar: Bar) -> int:

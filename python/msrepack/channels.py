@@ -135,7 +135,7 @@ def row_of(name: str, segments: Iterable[Segment]) -> Row:
         longest = max(longest, period)
         if rate is None:
             began = ended = start
-        elif rate != rate_here:
+        elif rate is not rate_here and rate != rate_here:
             row.changes.append(start)
         apart, rate = start - ended, rate_here
         if 2 * abs(apart) > period and apart > 0:
@@ -217,8 +217,9 @@ def wholes(
     source: Source, first: Optional[Day] = None, last: Optional[Day] = None, expect: Sequence[str] = ()
 ) -> Iterator[Whole]:
     """The same, each channel, quality and rate as a whole."""
+    source.updated = 0.0
     for some in extents_of(source, first, last, expect):
-        updated = EPOCH + datetime.timedelta(seconds=int(source.updated))
+        updated = EPOCH + datetime.timedelta(seconds=int(source.updated or 0))
         found: Dict[Tuple[Any, Any], List[Extent]] = {}
         for extent in some:
             found.setdefault((extent.quality, extent.rate), []).append(extent)

@@ -71,8 +71,8 @@ def _named(file: str) -> Optional[Tuple[str, Day]]:
 
 def _segments_of(file: str) -> List[Segment]:
     """The segments of a report; ValueError says what else the file is."""
-    with open(file, encoding="latin-1", newline="\n") as opened:
-        text = opened.read()
+    with open(file, "rb", buffering=0) as opened:
+        text = opened.read().decode("latin-1")
     if RECORD.match(text):
         raise ValueError("miniSEED, no report: archive or repack makes one")
     return segments_of_report(text)
@@ -86,10 +86,10 @@ class Source:
         self, given: Given, channel: str = "*", unread: Optional[List[str]] = None, heard: Heard = lambda count: None
     ) -> None:
         self.channel, self.unread, self.heard, self.count = channel, unread, heard, 0
-        # When the newest report of the channel was written that was given last, in seconds from 1970 on.
-        self.updated = 0.0
-        # How many reports could be read.
-        self.read = 0
+        # How many reports there are, and how many of them could be read.
+        self.whole, self.read = 0, 0
+        # If it is asked for: when the newest report of the channel was written that was given last, in seconds from 1970 on.
+        self.updated: Optional[float] = None
         # Of each channel its reports by day, and segments that no name told of before.
         self.files: Dict[str, List[Tuple[Day, str]]] = {}
         self.others: Dict[str, List[Segment]] = {}
@@ -100,11 +100,15 @@ class Source:
         self._take_segments(segments, getattr(given, "days", None))
 
     def _take_files(self, places: Sequence[Path]) -> None:
-        files = [file for place in places for file in report_files(place)]
-        if not files:
-            raise ValueError(f"no reports below {', '.join(map(os.fsdecode, places))}")
+        files: Dict[str, None] = {}
+        for place in places:
+            found = dict.fromkeys(report_files(place))
+            if not found:
+                raise ValueError(f"no reports below {os.fsdecode(place)}: no name there ends with .txt")
+            files.update(found)
+        self.whole = len(files)
         unnamed, is_asked = [], {}
-        for file in dict.fromkeys(files):
+        for file in files:
             named = _named(file)
             if named is None:
                 unnamed.append(file)
@@ -137,7 +141,8 @@ class Source:
 
     def _read(self, file: str) -> List[Segment]:
         try:
-            self.updated = max(self.updated, os.stat(file).st_mtime)
+            if self.updated is not None:
+                self.updated = max(self.updated, os.stat(file).st_mtime)
             found = _segments_of(file)
             self.read += 1
             return found
@@ -183,7 +188,7 @@ class Source:
         over midnight, and the next ones further away, which tell whether the window begins or ends with a gap."""
         first, last = (day_of(micros) for micros in (window[0] - DAY, window[1]))
         reports, count = self.files.pop(name, []), self.count
-        self.updated = 0.0
+        self.updated = self.updated and 0.0
         before = [file for day, file in reports if day < first]
         after = [file for day, file in reports if last < day]
         found = [it for day, file in reports if first <= day <= last for it in self._own(file, name, given)]
