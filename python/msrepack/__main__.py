@@ -185,6 +185,8 @@ def held(asked: argparse.Namespace, parts: Dict[str, float]) -> int:
 def table(asked: argparse.Namespace, bar: Bar) -> int:
     source, expect = source_of(asked, bar), expected(asked.expect)
     parts: Dict[str, float] = {}
+    # Before anything is printed.
+    source.window(asked.first, asked.last)
     chosen = source, asked.first, asked.last, expect
     kind, rows = asked.rows(asked, chosen, parts)
     lines = FORMATS[asked.format](kind, rows)

@@ -474,6 +474,18 @@ class Commands(Tidy):
         self.assertEqual((*printed, ran.returncode), (b"", b"", 130))
         self.assertEqual(sorted(os.listdir(self.folder)), ["tmp", "waits.txt"])
 
+    def test_the_bar_covers_the_drawing(self):
+        """What a terminal is told: how many reports are read, then each page; at the end nothing is left of it."""
+        for number in range(45):
+            self.report(segment(0, 10, f"S{number}"))
+        terminal = unittest.mock.Mock(wraps=io.StringIO(), isatty=lambda: True)
+        with contextlib.redirect_stderr(terminal), contextlib.redirect_stdout(io.StringIO()):
+            main(["availability", self.reports, "-o", self.path("a.pdf")])
+        shown = "".join(call.args[0] for call in terminal.write.call_args_list).split("\r")
+        self.assertIn("[######################   ] 88 % of 45 reports ", shown)
+        self.assertIn("[#########################] 100 % of 45 reports, page 2 ", shown)
+        self.assertEqual(shown[-1], "\033[K")
+
     def test_below(self):
         for station, samples in (("FULL", DAY), ("HALF", DAY // 2), ("FEW", 60)):
             self.report(segment(0, samples, station))
