@@ -2,18 +2,19 @@
 # matplotlib has types from 3.8 on.
 # mypy: no-warn-unused-ignores
 import importlib
-from typing import Any, List, Sequence, Tuple
+from typing import TYPE_CHECKING, Any, List, Sequence, Tuple
 
 from matplotlib.artist import Artist  # type: ignore[import]
-from matplotlib.axes import Axes  # type: ignore[import]
-from matplotlib.backends.backend_pdf import PdfPages  # type: ignore[import]
-from matplotlib.figure import Figure  # type: ignore[import]
 
 from msrepack.channels import Row
 from msrepack.report import DAY
 from msrepack.sources import Span
 
-__all__ = ["Axes", "Bands", "Figure", "PdfPages"]
+if TYPE_CHECKING:
+    from matplotlib.axes import Axes as Axes  # type: ignore[import]
+    from matplotlib.backends.backend_pdf import PdfPages as PdfPages  # type: ignore[import]
+    from matplotlib.figure import Figure as Figure  # type: ignore[import]
+
 # Its types need the newest Python.
 numpy: Any = importlib.import_module("numpy")
 # Half the height of a bar, and the height of the overlaps in it. How blue a column is that has nearly nothing, and one that

@@ -64,7 +64,7 @@ def _raise(why: OSError) -> None:
 def _named(file: str) -> Optional[Tuple[str, Day]]:
     """The channel and the day of a report, by its name."""
     found = NAME.match(os.path.basename(file))
-    if not found or int(found[2]) < 1 or not 1 <= int(found[3]) <= 366:
+    if not found or not 1900 <= int(found[2]) <= 2100 or not 1 <= int(found[3]) <= 366:
         return None
     return found[1], datetime.date(int(found[2]), 1, 1) + datetime.timedelta(int(found[3]) - 1)
 
