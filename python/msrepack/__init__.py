@@ -8,18 +8,27 @@ All work is done by the program msrepack, which `find_program` finds; this packa
 True
 """
 from msrepack import lines
-from msrepack.errors import BadCall, Error, Failed, NotAReport, NotFound, Refused
-from msrepack.files import Difference, Packed, Same, check, compare, repack, segments
+from msrepack.channels import Daily, Extent, Gap, daily, extents, gaps
+from msrepack.errors import BadCall, Error, Failed, NotAReport, NotFound, Refused, TimedOut
+from msrepack.files import Counts, Difference, Listing, Packed, Same, Written, check, compare, listing, repack, segments
 from msrepack.program import find_program
 from msrepack.report import Flags, Report, Segment
 from msrepack.walks import archive, verify
 
+# That of the program which this package was tested with.
+__version__ = "1.1.0"
+
 __all__ = [
     "BadCall",
+    "Counts",
+    "Daily",
     "Difference",
     "Error",
+    "Extent",
     "Failed",
     "Flags",
+    "Gap",
+    "Listing",
     "NotAReport",
     "NotFound",
     "Packed",
@@ -27,11 +36,17 @@ __all__ = [
     "Report",
     "Same",
     "Segment",
+    "TimedOut",
+    "Written",
     "archive",
     "check",
     "compare",
+    "daily",
+    "extents",
     "find_program",
+    "gaps",
     "lines",
+    "listing",
     "repack",
     "segments",
     "verify",

@@ -1,5 +1,6 @@
 """The program: where it is, and a run of it. All that is asked and answered goes through pipes."""
 import contextlib
+import errno
 import fcntl
 import functools
 import importlib.metadata
@@ -11,15 +12,30 @@ import shutil
 import signal
 import subprocess
 import threading
+import time
 from types import FrameType
-from typing import IO, BinaryIO, Dict, Iterator, List, Mapping, NamedTuple, Optional, Sequence, Tuple, Union
+from typing import (
+    IO, TYPE_CHECKING, Any, BinaryIO, Dict, Iterator, List, Mapping, NamedTuple, Optional, Protocol, Sequence, Set, Tuple, Union
+)
 
-from msrepack.errors import Error, NotFound, error_of
+from msrepack.errors import Error, NotFound, TimedOut, error_of, refusal
 
-Data = Union[bytes, bytearray, memoryview, str, "os.PathLike[str]", BinaryIO]
+if TYPE_CHECKING:
+    import array
+
+
+class Array(Protocol):
+    """An array of NumPy, or what gives its bytes as one."""
+
+    @property
+    def __array_interface__(self) -> Dict[str, Any]: ...
+
+
+Path = Union[str, "os.PathLike[str]"]
+Data = Union[bytes, bytearray, memoryview, "array.array[Any]", Array, Path, BinaryIO]
 
 # The oldest program that has all that is asked of it.
-NEEDED = (1, 0)
+NEEDED = (1, 1)
 HERE = os.path.dirname(os.path.realpath(__file__))
 INSTALL = "install one (README.md tells how), put it on the path, or let MSREPACK name it"
 VERSION = re.compile(r"msrepack ([0-9]+)\.([0-9]+)\S*\s*")
@@ -29,7 +45,35 @@ PIECE = 1 << 18
 # Where it is.
 
 
-def find_program() -> str:
+class Limit:
+    """The time that a call may take: None is as long as it takes."""
+
+    def __init__(self, seconds: Optional[float] = None) -> None:
+        self.seconds = seconds
+        self.end = None if seconds is None else time.monotonic() + seconds
+
+    def left(self) -> Optional[float]:
+        """The seconds that are left; `TimedOut` if none are."""
+        if self.end is None:
+            return None
+        left = self.end - time.monotonic()
+        if left <= 0:
+            raise TimedOut(f"longer than {self.seconds:g} s")
+        return left
+
+    def wait_for(self, process: "subprocess.Popen[bytes]") -> int:
+        """The status of a process, once it has ended."""
+        try:
+            return process.wait(self.left())
+        except subprocess.TimeoutExpired:
+            raise TimedOut(f"longer than {self.seconds:g} s") from None
+
+
+NO_LIMIT = Limit()
+_new: Set[str] = set()
+
+
+def find_program(limit: Limit = NO_LIMIT) -> str:
     """The path of the program: what MSREPACK names, else that of the wheel, of the clone, or on the path.
 
     >>> import msrepack, subprocess
@@ -39,10 +83,12 @@ def find_program() -> str:
     named = os.environ.get("MSREPACK")
     program = shutil.which(named) if named else _of_wheel() or _of_clone() or shutil.which("msrepack")
     if named and not program:
-        raise NotFound(f"MSREPACK names {named}, which is no program: let it name one, or unset it")
+        raise NotFound(f"MSREPACK names {named}, which is no program: let it name one, or unset it", named)
     if not program:
         raise NotFound(f"there is no program msrepack: {INSTALL}")
-    _require_new(program)
+    if program not in _new:
+        _require_new(program, limit)
+        _new.add(program)
     return program
 
 
@@ -72,29 +118,31 @@ def _of_clone() -> Optional[str]:
         return None
     told = _told([asked, "--ready"])
     if told.status != 0:
-        raise NotFound(told.complaint)
+        raise NotFound(told.complaint or f"{asked} ended with status {told.status}", asked)
     return told.printed.rstrip("\n")
 
 
-@functools.lru_cache(None)
-def _require_new(program: str) -> None:
+def _require_new(program: str, limit: Limit) -> None:
     """Other programs have this name too, as an example of libmseed's."""
     try:
-        told = _told([program, "--version"])
+        told = _told([program, "--version"], limit=limit)
+    except TimedOut:
+        raise
     except OSError as why:
-        raise NotFound(f"{program} does not run ({why.strerror}): {INSTALL}") from None
+        number = why.errno or errno.ENOEXEC
+        raise NotFound(f"{program} does not run ({why.strerror}): {INSTALL}", program, number) from None
     found = VERSION.fullmatch(told.printed)
     if not found:
-        raise NotFound(f"{program} is not msrepack, or does not run: {INSTALL}")
+        raise NotFound(f"{program} is not msrepack, or does not run: {INSTALL}", program)
     if tuple(map(int, found.groups())) < NEEDED:
         needed = ".".join(map(str, NEEDED))
-        raise NotFound(f"{program} is {found[0].strip()}, and this package wants {needed} or newer: {INSTALL}")
+        raise NotFound(f"{program} is {found[0].strip()}, and this package wants {needed} or newer: {INSTALL}", program)
 
 
 # What it is given.
 
 
-def word_of_path(path: Union[str, "os.PathLike[str]"]) -> str:
+def word_of_path(path: Path) -> str:
     """A path as a word that is taken for no option and not for standard input."""
     word = os.fsdecode(path)
     return os.path.join(os.curdir, word) if word.startswith("-") else word
@@ -105,15 +153,37 @@ def options(chosen: Mapping[str, object]) -> List[str]:
     return [option for option, is_chosen in chosen.items() if is_chosen]
 
 
-def pieces_of(data: Union[bytes, bytearray, memoryview, BinaryIO]) -> Iterator[memoryview]:
-    """The bytes of what is no path, none of them copied but one piece of a file at a time."""
-    if isinstance(data, (bytes, bytearray, memoryview)):
-        yield memoryview(data).cast("B")
-        return
+def pieces_of(data: Any, name: str) -> Iterator[memoryview]:
+    """The bytes of what is no path, none of them copied but one piece of a file at a time. `name` is the argument's."""
+    try:
+        return iter([_bytes_of(memoryview(data), name)])
+    except (ValueError, BufferError):
+        raise TypeError(f"{name}: {type(data).__name__} does not give its bytes") from None
+    except TypeError:
+        if hasattr(data, "read"):
+            return _pieces_of_file(data, name)
+        if isinstance(data, memoryview) or hasattr(data, "__array_interface__"):
+            raise
+        what = "a path, bytes, an array, or a file that was opened in binary"
+        raise TypeError(f"{name} has to be {what}, not {type(data).__name__}") from None
+
+
+def _bytes_of(view: memoryview, name: str) -> memoryview:
+    if not view.c_contiguous or "O" in view.format:
+        raise TypeError(f"{name} has to be C-contiguous, and of numbers: give a copy of that kind")
+    if not view.nbytes:
+        return memoryview(b"")
+    try:
+        return view.cast("B")
+    except TypeError:  # Numbers in the other order of bytes, or records.
+        return memoryview(view.tobytes())
+
+
+def _pieces_of_file(file: BinaryIO, name: str) -> Iterator[memoryview]:
     while True:
-        piece = data.read(PIECE)
+        piece = file.read(PIECE)
         if not isinstance(piece, bytes):
-            raise TypeError("a file has to be opened in binary")
+            raise TypeError(f"{name}: a file has to be opened in binary")
         if not piece:
             return
         yield memoryview(piece)
@@ -128,16 +198,18 @@ class Ended(NamedTuple):
     status: int
     printed: str
     records: bytes
-    # Its last line on standard error, and the words that its inputs had.
+    # Its last line on standard error, the words that its inputs had, and the paths of those that were given by one.
     complaint: str
     names: Tuple[str, ...]
+    paths: Tuple[Optional[str], ...]
 
     def error(self, *sources: str) -> Error:
         """What the complaint tells; if it begins with the name of an input, of which of these sources."""
-        for name, source in zip(self.names, sources):
+        for name, path, source in zip(self.names, self.paths, sources):
             if self.complaint.startswith(f"{name}: "):
-                return error_of(self.complaint[len(name) + 2 :], self.status, source)
-        return error_of(self.complaint, self.status)
+                return error_of(self.complaint[len(name) + 2 :], self.status, source, path)
+        is_first = len(self.paths) == 1 or refusal(self.complaint)
+        return error_of(self.complaint, self.status, path=self.paths[0] if is_first and self.paths else None)
 
 
 def _above_streams(number: int) -> int:
@@ -181,7 +253,7 @@ class _Pipes:
         self.theirs.append(theirs)
         return theirs.fileno(), content
 
-    def pump(self) -> None:
+    def pump(self, limit: Limit) -> None:
         """Moves bytes until the program has closed all that it writes."""
         for file in self.theirs:
             file.close()
@@ -191,7 +263,8 @@ class _Pipes:
         for number in self.drains:
             poll.register(number, select.POLLIN)
         while self.drains:
-            for number, event in poll.poll():
+            left = limit.left()
+            for number, event in poll.poll(None if left is None else 1000 * left + 1):
                 if number in self.drains:
                     is_open = self.take(number)
                 else:
@@ -221,34 +294,51 @@ class _Pipes:
         return True
 
 
-def run(words: Sequence[str], inputs: Sequence[Data], has_records: bool = False) -> Ended:
+def run(
+    words: Sequence[str],
+    inputs: Mapping[str, Data],
+    has_records: bool = False,
+    output: Optional[str] = None,
+    timeout: Optional[float] = None,
+) -> Ended:
     """A run of the program: its words, then one for each input, then one for the records if it writes some.
 
     A path is a word as it is. All else goes through pipes, and so do the answers: there is no file to be left behind.
-    `BytesIO` gives its bytes without a copy.
+    `BytesIO` gives its bytes without a copy. The inputs are by the names of the arguments that they are; `output` is a
+    path that the records are written to.
     """
-    return _told([find_program(), *words], inputs, has_records)
+    limit = Limit(timeout)
+    return _told([find_program(limit), *words], inputs, has_records, output, limit)
 
 
-def _told(words: Sequence[str], inputs: Sequence[Data] = (), has_records: bool = False) -> Ended:
+def _told(
+    words: Sequence[str],
+    inputs: Mapping[str, Data] = {},
+    has_records: bool = False,
+    output: Optional[str] = None,
+    limit: Limit = NO_LIMIT,
+) -> Ended:
     """What any program tells."""
     with contextlib.ExitStack() as stack:
         pipes = _Pipes(stack)
-        names = [_name_of(data, pipes) for data in inputs]
-        output, records = pipes.drain() if has_records else (None, io.BytesIO())
-        outputs = [] if output is None else [f"/dev/fd/{output}"]
+        names = [_name_of(data, name, pipes) for name, data in inputs.items()]
+        number, records = pipes.drain() if has_records else (None, io.BytesIO())
+        outputs = [] if number is None else [f"/dev/fd/{number}"]
+        outputs += [] if output is None else [word_of_path(output)]
         printing, printed = pipes.drain()
         complaining, complained = pipes.drain()
         with started([*words, *names, *outputs], printing, complaining, pipes.theirs) as process:
-            pipes.pump()
-            status = process.wait()
-    return Ended(status, _text(printed), records.getvalue(), complaint_of(status, _text(complained)), tuple(names))
+            pipes.pump(limit)
+            status = limit.wait_for(process)
+    paths = [os.fsdecode(data) if isinstance(data, (str, os.PathLike)) else None for data in inputs.values()]
+    complaint = complaint_of(status, _text(complained))
+    return Ended(status, _text(printed), records.getvalue(), complaint, tuple(names), tuple(paths))
 
 
-def _name_of(data: Data, pipes: _Pipes) -> str:
+def _name_of(data: Data, name: str, pipes: _Pipes) -> str:
     if isinstance(data, (str, os.PathLike)):
         return word_of_path(data)
-    return pipes.feed(pieces_of(data))
+    return pipes.feed(pieces_of(data, name))
 
 
 def _text(content: io.BytesIO) -> str:
@@ -258,10 +348,17 @@ def _text(content: io.BytesIO) -> str:
 def complaint_of(status: int, complained: str) -> str:
     """The program's line, which is the last one of its own."""
     if status < 0:
-        return f"the program was ended by {signal.Signals(-status).name}"
+        return f"the program was ended by {_name_of_signal(-status)}"
     lines = complained.strip().split("\n")
     last = next((line for line in reversed(lines) if line.startswith("msrepack: ")), lines[0])
     return last[len("msrepack: ") :] if last.startswith("msrepack: ") else last
+
+
+def _name_of_signal(number: int) -> str:
+    try:
+        return signal.Signals(number).name
+    except ValueError:
+        return f"signal {number}"
 
 
 @contextlib.contextmanager
@@ -307,6 +404,11 @@ def started(
 
 def end(process: "subprocess.Popen[bytes]") -> None:
     """Ends a process if it is still there, and takes its status."""
-    if process.poll() is None:
-        os.killpg(process.pid, signal.SIGKILL)
+    send(process, signal.SIGKILL)
     process.wait()
+
+
+def send(process: "subprocess.Popen[bytes]", number: int) -> None:
+    """Sends a signal to a process that is still there, and to what it started."""
+    if process.poll() is None:
+        os.killpg(process.pid, number)

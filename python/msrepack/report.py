@@ -1,13 +1,16 @@
 """Reports and segments, in the text of docs/PROFILE.md: read, and written again to the byte."""
 import datetime
 import functools
+import json
+import os
 import re
 from dataclasses import dataclass
 from fractions import Fraction
-from typing import List, NamedTuple, Optional, Tuple, Union
+from typing import TYPE_CHECKING, Any, Callable, Dict, List, NamedTuple, Optional, Tuple, Type, Union, overload
 
 from msrepack.errors import NotAReport
 
+Path = Union[str, "os.PathLike[str]"]
 EPOCH = datetime.datetime(1970, 1, 1, tzinfo=datetime.timezone.utc)
 FIRST_DAY = EPOCH.toordinal()
 SECOND = 1_000_000
@@ -56,8 +59,9 @@ class Segment(NamedTuple):
 
     Codes are without the spaces that fill them in a header. `start` and `end` are microseconds from 1970 on, those of
     the first and of the last sample; `start_time` and `end_time` are the same as `datetime`, in UTC. `correction` counts
-    units of 0.0001 s. `records` and `separators` tell of a repack. `segments` and a list pack nothing, so there they are
-    None; `repack(..).report.segments` has them.
+    units of 0.0001 s. `records` and `separators` tell of a repack: a report has them. `began` and `gap_us` are those of
+    `list --json`: why it does not go on the segment before it, and the microseconds between the two; `segments` and
+    `listing` have them. What is not told is None.
 
     >>> import msrepack
     >>> [segment] = msrepack.segments("examples/one-record.mseed")
@@ -81,6 +85,8 @@ class Segment(NamedTuple):
     samples: int
     records: Optional[int] = None
     separators: Optional[Tuple[int, ...]] = None
+    began: Optional[str] = None
+    gap_us: Optional[int] = None
 
     @property
     def id(self) -> str:
@@ -134,11 +140,25 @@ class Segment(NamedTuple):
         )
 
 
+if TYPE_CHECKING:
+
+    class _Read:
+        """Of a report it is how many records were read; `Report.read` of the class reads a file."""
+
+        @overload
+        def __get__(self, report: None, owner: Type["Report"]) -> Callable[[Path], "Report"]: ...
+
+        @overload
+        def __get__(self, report: "Report", owner: Type["Report"]) -> int: ...
+
+        def __get__(self, report: Optional["Report"], owner: Type["Report"]) -> object: ...
+
+
 @dataclass(frozen=True)
 class Report:
     """The text that `repack` prints: what was asked for and read, and the segments with their records and separators.
 
-    `Report.parse` and `str` are inverse to the byte.
+    `Report.parse` and `str` are inverse to the byte. `Report.read` reads a file.
 
     >>> import msrepack
     >>> report = msrepack.repack("examples/two-segments.mseed").report
@@ -151,10 +171,19 @@ class Report:
     length: int
     tolerance: int
     kinds: Tuple[str, ...]
-    read: int
+    if TYPE_CHECKING:
+        read = _Read()
+    else:
+        read: int
     empty: int
     mismatched: int
     segments: Tuple[Segment, ...]
+    if TYPE_CHECKING:
+
+        def __init__(
+            self, length: int, tolerance: int, kinds: Tuple[str, ...], read: int, empty: int, mismatched: int,
+            segments: Tuple[Segment, ...],
+        ) -> None: ...
 
     @classmethod
     def parse(cls, text: Union[str, bytes]) -> "Report":
@@ -164,6 +193,8 @@ class Report:
         >>> Report.parse(empty).kinds
         ('steim2', 'steim1', 'int16', 'int24', 'int32')
         """
+        if not isinstance(text, (str, bytes)):
+            raise TypeError(f"the text of a report is str or bytes, not {type(text).__name__}: Report.read reads a file")
         return _parsed(_Lines(text if isinstance(text, str) else text.decode("latin-1")))
 
     @property
@@ -184,6 +215,23 @@ class Report:
             lines += [str(segment), " ".join(("separators", *map(str, segment.separators or ())))]
         lines.append(f"end {len(self.segments)} segments {self.records} records\n")
         return "\n".join(lines)
+
+
+def _read(cls: Type[Report], path: Path) -> Report:
+    """The report of a file.
+
+    >>> import msrepack, tempfile
+    >>> with tempfile.TemporaryDirectory() as there:
+    ...     packed = msrepack.repack("examples/one-record.mseed", report=f"{there}/report.txt")
+    ...     Report.read(f"{there}/report.txt") == packed.report
+    True
+    """
+    with open(path, "rb") as file:
+        return cls.parse(file.read())
+
+
+# A report has a number of that name, and so the class gets this once its fields are known.
+setattr(Report, "read", classmethod(_read))
 
 
 # The fields of a segment before its start.
@@ -287,6 +335,65 @@ def segments_of_report(text: str) -> List[Segment]:
     if not text.startswith("msrepack 1\n") or not end or int(end[1]) != len(found):
         raise ValueError("no report")
     return found
+
+
+# The members of an object of `list --json`, and the types of their values.
+CODES, NUMBERS = ("network", "station", "location", "channel"), ("rate_factor", "rate_multiplier")
+MEMBERS = [*CODES, "quality", "start", "end", "samples", *NUMBERS, "activity", "clock", "data_quality", "correction"]
+MEMBERS += ["timing", "began"]
+BEGAN = ("first", "channel", "settings", "gap", "overlap")
+TIME = re.compile(r"([0-9]{4})-([0-9]{2})-([0-9]{2})T([01][0-9]|2[0-3]):([0-5][0-9]):([0-5][0-9])\.([0-9]{6})Z")
+
+
+def segments_of_objects(text: str) -> Tuple[List[Segment], Tuple[int, int, int]]:
+    """The segments and the counts of what `list --json` prints; ValueError if something is missing or added."""
+    *lines, last, rest = text.split("\n") if "\n" in text else ("", text)
+    counts = json.loads(last)
+    if rest or not isinstance(counts, dict) or list(counts) != ["read", "empty", "mismatched"]:
+        raise ValueError("the counts are not last")
+    return [_segment_of_object(json.loads(line)) for line in lines], (
+        _whole(counts["read"]), _whole(counts["empty"]), _whole(counts["mismatched"])
+    )
+
+
+def _segment_of_object(it: Dict[str, Any]) -> Segment:
+    """The segment that an object tells, each of whose members has to be there, in its order."""
+    members = list(it) if isinstance(it, dict) else []
+    if members not in (MEMBERS, [*MEMBERS, "gap_us"]) or it["began"] not in BEGAN or it["quality"] not in list("DRQM"):
+        raise ValueError("not an object of a list")
+    codes = [it[name] for name in CODES]
+    if not all(isinstance(code, str) and len(code) <= width for code, width in zip(codes, WIDTHS)):
+        raise ValueError("no name")
+    rate = [_whole(it[name], -(2**15), 2**15 - 1) for name in NUMBERS]
+    flags = Flags(*(_whole(it[name], 0, 255) for name in ("activity", "clock", "data_quality")))
+    correction = _whole(it["correction"], -(2**31), 2**31 - 1)
+    timing = 0 if it["timing"] is None else _whole(it["timing"], 1, 255)
+    gap = _whole(it["gap_us"], -MOST, MOST) if "gap_us" in it else None
+    if 0 in rate:
+        raise ValueError("no rate")
+    start, samples = _micros_of(it["start"]), _whole(it["samples"], 1)
+    rest = (flags, correction, timing, start, samples, None, None, it["began"], gap)
+    segment = Segment._make((*codes, it["quality"], *rate, *rest))
+    if segment.end != _micros_of(it["end"]):
+        raise ValueError("not the end")
+    return segment
+
+
+def _whole(value: object, least: int = 0, most: int = MOST) -> int:
+    """A whole number of that range."""
+    if type(value) is not int or not least <= value <= most:
+        raise ValueError(f"no number: {value!r}")
+    return value
+
+
+def _micros_of(text: object) -> int:
+    """A time in ISO 8601, in microseconds from 1970 on."""
+    found = TIME.fullmatch(text) if isinstance(text, str) else None
+    if not found:
+        raise ValueError(f"no time: {text!r}")
+    year, month, day, hour, minute, second, micros = map(int, found.groups())
+    days = datetime.date(year, month, day).toordinal() - FIRST_DAY
+    return days * DAY + ((hour * 60 + minute) * 60 + second) * SECOND + micros
 
 
 class _Lines:

@@ -1,15 +1,18 @@
 """The walks over an archive: their lines as they come."""
 import contextlib
 import os
+import select
+import signal
 import subprocess
-import tempfile
-from typing import Iterable, Iterator, List, Optional, Type, Union, cast
+from typing import IO, Iterable, Iterator, List, Optional, Union, cast
 
 from msrepack.errors import Failed, error_of
 from msrepack.lines import ArchiveLine, ArchiveTotals, Line, VerifyLine, VerifyTotals, parse
-from msrepack.program import complaint_of, find_program, options, started, word_of_path
+from msrepack.program import Limit, Path, complaint_of, find_program, options, send, started, word_of_path
 
-Path = Union[str, "os.PathLike[str]"]
+PIECE = 1 << 16
+# How many seconds a walk that is closed has for the file in hand, and then after SIGTERM.
+FOR_A_FILE, AFTER_SIGTERM = 1.0, 2.0
 
 
 def archive(
@@ -21,17 +24,20 @@ def archive(
     int24: bool = False,
     tolerance: int = 1000,
     strict: bool = False,
-    below: Iterable[str] = (),
+    below: Optional[Iterable[str]] = None,
     resume: bool = False,
     check: bool = False,
     only_smaller: bool = False,
     bytes: bool = False,
+    timeout: Optional[float] = None,
 ) -> Iterator[ArchiveLine]:
     """Repacks each day below `root` to `out`, its report to `reports`; gives each line as its file is done, the totals last.
 
     The words are those of the program's options, `length` also `"same"`; 24-bit integers are not written unless `int24`
-    is set. The walk goes on in a process of its own while a line is looked at. If the loop ends before the totals, by
-    `break` or an exception, the walk ends once the file in hand is done, and leaves nothing half done.
+    is set. Without `below` it is the whole archive; if no folder is in it, no day is. `timeout` is in seconds, of the
+    whole walk, which goes on in a process of its own while a line is looked at. If the loop ends before the totals, by
+    `break` or an exception, the walk ends once the file in hand is done. If that takes longer than a second it gets
+    SIGTERM, and after two more SIGKILL: the next walk removes what that leaves.
 
     >>> import msrepack, tempfile
     >>> with tempfile.TemporaryDirectory() as there:
@@ -50,11 +56,15 @@ def archive(
         "--only-smaller": only_smaller,
         "--bytes": bytes,
     }
-    words = ["archive", f"--length={length}", f"--tolerance={tolerance}", *options(chosen), *_belows(below)]
-    return cast(Iterator[ArchiveLine], _walk([*words, *map(word_of_path, (root, out, reports))], ArchiveTotals))
+    words = ["archive", f"--length={length}", f"--tolerance={tolerance}", *options(chosen)]
+    none = (0 if bytes else None,) * 2
+    nothing = ArchiveTotals(0, 0, 0, 0 if only_smaller else None, *none)
+    return cast(Iterator[ArchiveLine], _walk(words, below, (root, out, reports), nothing, timeout))
 
 
-def verify(root: Path, out: Path, reports: Path, *, below: Iterable[str] = ()) -> Iterator[VerifyLine]:
+def verify(
+    root: Path, out: Path, reports: Path, *, below: Optional[Iterable[str]] = None, timeout: Optional[float] = None
+) -> Iterator[VerifyLine]:
     """Says of each day below `root` whether its records below `out` and its report below `reports` hold, the totals last.
 
     >>> import msrepack, tempfile
@@ -65,41 +75,82 @@ def verify(root: Path, out: Path, reports: Path, *, below: Iterable[str] = ()) -
     >>> totals.files, totals.missing, totals.differs
     (4, 0, 0)
     """
-    words = ["verify", *_belows(below), *map(word_of_path, (root, out, reports))]
-    return cast(Iterator[VerifyLine], _walk(words, VerifyTotals))
+    nothing = VerifyTotals(0, 0, 0, 0, 0, 0, 0)
+    return cast(Iterator[VerifyLine], _walk(["verify"], below, (root, out, reports), nothing, timeout))
 
 
-def _belows(below: Iterable[str]) -> List[str]:
-    if isinstance(below, str):
+def _walk(
+    words: List[str], below: Optional[Iterable[str]], folders: Iterable[Path], nothing: Line, timeout: Optional[float]
+) -> Iterator[Line]:
+    """The lines of a walk over the folders of `below`, or of all; `nothing` are the totals of no folder."""
+    if isinstance(below, (str, bytes)):
         raise TypeError("below is a list of folders")
-    return [f"--below={folder}" for folder in below]
+    belows = None if below is None else [f"--below={folder}" for folder in below]
+    if belows == []:
+        return iter([nothing])
+    return _lines([*words, *(belows or ()), *map(word_of_path, folders)], type(nothing), Limit(timeout))
 
 
-def _walk(words: List[str], totals: Type[Line]) -> Iterator[Line]:
+def _lines(words: List[str], totals: type, limit: Limit) -> Iterator[Line]:
     """The lines of a walk. It failed if its totals did not come last, or if it complains."""
     last: Optional[Line] = None
-    program = find_program()
-    with contextlib.ExitStack() as stack:
-        complaints = stack.enter_context(tempfile.TemporaryFile())
-        process = stack.enter_context(started([program, *words], subprocess.PIPE, complaints.fileno(), []))
-        stack.callback(_let_end, process)
-        for text in process.stdout or ():
-            if text.endswith(b"\n"):
-                last = _line_of(text[:-1].decode(errors="surrogateescape"))
+    program = find_program(limit)
+    with started([program, *words], subprocess.PIPE, subprocess.PIPE, []) as process:
+        output = _Output(process)
+        with process, contextlib.closing(output):
+            for text in output.lines(limit):
+                last = _line_of(text.decode(errors="surrogateescape"))
                 yield last
-        status = process.wait()
-        complaints.seek(0)
-        complained = complaints.read().decode(errors="replace")
+            status = limit.wait_for(process)
+    complained = output.complained.decode(errors="replace")
     if complained or status not in (0, 1) or not isinstance(last, totals):
         raise error_of(complaint_of(status, complained), status)
 
 
-def _let_end(process: "subprocess.Popen[bytes]") -> None:
-    """A walk that cannot print the line of the file in hand ends there, with nothing half done; a kill would leave that
-    file's claim and parts."""
-    if process.stdout:
-        process.stdout.close()
-    process.wait()
+class _Output:
+    """What a walk prints, and the end of what it complains, which is read as it comes: no pipe fills, and no file is
+    needed."""
+
+    def __init__(self, process: "subprocess.Popen[bytes]") -> None:
+        self.process = process
+        self.complained = b""
+
+    def lines(self, limit: Limit) -> Iterator[bytes]:
+        """The whole lines, without their line feeds."""
+        rest, poll, opened = b"", select.poll(), self.pipes()
+        for number in opened:
+            poll.register(number, select.POLLIN)
+        while opened:
+            left = limit.left()
+            for number, _ in poll.poll(None if left is None else 1000 * left + 1):
+                piece = os.read(number, PIECE)
+                if not piece:
+                    poll.unregister(number)
+                    opened.remove(number)
+                elif number == self.number_of(self.process.stdout):
+                    *whole, rest = (rest + piece).split(b"\n")
+                    yield from whole
+                else:
+                    self.complained = (self.complained + piece)[-PIECE:]
+
+    def pipes(self) -> List[int]:
+        return [self.number_of(pipe) for pipe in (self.process.stdout, self.process.stderr)]
+
+    @staticmethod
+    def number_of(pipe: Optional[IO[bytes]]) -> int:
+        return -1 if pipe is None else pipe.fileno()
+
+    def close(self) -> None:
+        """A walk that cannot print the line of the file in hand ends there, with nothing half done; one that takes long
+        for it is ended."""
+        if self.process.stdout is not None:
+            self.process.stdout.close()
+        for seconds, number in ((FOR_A_FILE, signal.SIGTERM), (AFTER_SIGTERM, signal.SIGKILL)):
+            try:
+                self.process.wait(seconds)
+            except subprocess.TimeoutExpired:
+                send(self.process, number)
+        self.process.wait()
 
 
 def _line_of(text: str) -> Line:

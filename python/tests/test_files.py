@@ -1,18 +1,24 @@
 """`repack`, `check`, `segments` and `compare` on real files, against the independent model."""
+import array
 import datetime
+import errno
+import importlib.util
 import io
 import os
+import pathlib
 import random
+import subprocess
 import unittest
 from fractions import Fraction
 
-from support import Tidy, example, read
+from support import Tidy, example, other_program, read
 
 import compare as made_files
 import model
 import reports
+import msrepack
 from msrepack import (
-    BadCall, Difference, Failed, NotAReport, Refused, Report, Same, check, compare, repack, segments
+    BadCall, Difference, Failed, NotAReport, Refused, Report, Same, check, compare, listing, repack, segments
 )
 
 FILES = range(16)
@@ -84,6 +90,41 @@ class Repack(Given):
         self.assertEqual(repack(bytearray(content)), wanted)
         self.assertEqual(repack(memoryview(content)), wanted)
 
+    def test_arrays_of_any_item(self):
+        content = read(example("one-record.mseed"))
+        wanted = repack(content)
+        for code in "bBhHiIlLqQfd":
+            self.assertEqual(repack(array.array(code, content)), wanted, code)
+        self.assertEqual(repack(memoryview(content).cast("I")), wanted)
+        self.assertEqual(repack(memoryview(content).cast("B", (2, len(content) // 2))), wanted)
+        self.assertEqual(repack(array.array("i")), repack(b""))
+
+    @unittest.skipUnless(importlib.util.find_spec("numpy"), "NumPy is not there")
+    def test_arrays_of_numpy(self):
+        import numpy
+
+        content = read(example("one-record.mseed"))
+        wanted = repack(content)
+        for kind in ("u1", "<i4", ">i4", ">f8", [("a", ">i2"), ("b", "u1", 2)]):
+            self.assertEqual(repack(numpy.frombuffer(content, kind)), wanted, kind)
+        self.assertEqual(repack(numpy.frombuffer(content, "u1").reshape(8, -1)), wanted)
+        self.assertEqual(repack(numpy.zeros((0, 3))), repack(b""))
+        for other in (numpy.zeros(8, "M8[s]"), numpy.array([None, 1], object), numpy.zeros((4, 4))[:, 1]):
+            with self.assertRaisesRegex(TypeError, "^data"):
+                repack(other)
+
+    def test_what_is_no_data_is_told_with_its_argument(self):
+        good = example("one-record.mseed")
+        every_other = memoryview(read(good))[::2]
+        for call, name in (
+            (lambda: repack(None), "data"), (lambda: repack([1, 2]), "data"), (lambda: segments(every_other), "data"),
+            (lambda: check(5, b""), "records"), (lambda: check(good, None), "report"),
+            (lambda: compare(3.5, good), "one"), (lambda: compare(good, every_other), "other"),
+            (lambda: compare(good, io.StringIO("text")), "other"),
+        ):
+            with self.assertRaisesRegex(TypeError, f"^{name}\\b"):
+                call()
+
     def test_more_than_a_pipe_holds(self):
         content = read(example("two-segments.mseed")) * 400
         for data in (content, io.BytesIO(content)):
@@ -118,11 +159,81 @@ class Repack(Given):
             repack(self.path("nowhere"))
         self.assertEqual(caught.exception.line, f"cannot open {self.path('nowhere')}")
         self.assertIsInstance(caught.exception, OSError)
-        with self.assertRaisesRegex(Failed, "^read fault$"):
+        self.assertEqual((caught.exception.filename, caught.exception.errno), (self.path("nowhere"), errno.ENOENT))
+        with self.assertRaisesRegex(Failed, "^read fault$") as caught:
             repack(self.folder)
+        self.assertEqual(caught.exception.filename, self.folder)
+        path = self.path("bad.mseed", b"no record")
+        for given, told in ((path, path), (pathlib.Path(path), path), (b"no record", None)):
+            with self.assertRaises(Refused) as refused:
+                repack(given)
+            self.assertEqual(refused.exception.path, told)
+
+
+class ToFiles(Tidy):
+    """Records and report under their names, or not at all."""
+
+    def left(self):
+        return sorted(name for name in os.listdir(self.folder) if name != "tmp")
+
+    def test_both(self):
+        for name in ("one-record.mseed", "two-segments.mseed"):
+            packed = repack(example(name))
+            written = repack(example(name), output=self.path("packed"), report=pathlib.Path(self.path("report")))
+            self.assertEqual((written.output, written.report), (self.path("packed"), packed.report))
+            self.assertEqual(read(self.path("packed")), packed.records)
+            self.assertEqual(read(self.path("report")).decode(), str(packed.report))
+            self.assertEqual(Report.read(self.path("report")), packed.report)
+            self.assertEqual(self.left(), ["packed", "report"])
+
+    def test_the_report_alone(self):
+        packed = repack(example("one-record.mseed"), report=self.path("report"))
+        self.assertEqual((Report.read(self.path("report")), len(packed.records)), (packed.report, 512 * packed.report.records))
+
+    def test_in_the_place_of_the_input(self):
+        path = self.path("day", read(example("two-segments.mseed")))
+        wanted = repack(path).records
+        repack(path, output=path)
+        self.assertEqual((read(path), self.left()), (wanted, ["day"]))
+
+    def test_nothing_is_left_of_what_fails(self):
+        good = read(example("two-segments.mseed"))
+        self.path("packed", b"as before")
+        both = {"output": self.path("packed"), "report": self.path("report")}
+        for call, error in (
+            (lambda: repack(good[:600], **both), Refused),
+            (lambda: repack(good, length=300, **both), BadCall),
+            (lambda: repack(good, output=both["output"], report=self.path("nowhere/report")), FileNotFoundError),
+            (lambda: repack(good, output=both["output"], report=both["output"]), ValueError),
+            (lambda: repack(good, output=both["output"], report=self.folder), ValueError),
+        ):
+            with self.assertRaises(error):
+                call()
+            self.assertEqual((read(both["output"]), self.left()), (b"as before", ["packed"]))
+        with other_program("echo 'msrepack: write fault' >&2; exit 1"), self.assertRaisesRegex(Failed, "^write fault$"):
+            repack(good, **both)
+        with other_program("for it; do :; done; echo half > $it; kill -9 $$"), self.assertRaisesRegex(Failed, "SIGKILL"):
+            repack(good, **both)
+        self.assertEqual((read(both["output"]), self.left()), (b"as before", ["packed"]))
+
+    def test_a_link_stays(self):
+        os.symlink("packed", self.path("link"))
+        repack(example("one-record.mseed"), output=self.path("link"))
+        self.assertEqual((os.readlink(self.path("link")), read(self.path("packed"))), ("packed", repack(example("one-record.mseed")).records))
 
 
 class Check(Given):
+    def test_what_goes_where(self):
+        packed = repack(example("one-record.mseed"))
+        for records, report in ((packed.report, packed.records), (str(packed.report).encode(), packed.records)):
+            with self.assertRaisesRegex(TypeError, "the records come first, then the report"):
+                check(records, report)
+        with open(example("one-record.mseed"), "rb") as file, self.assertRaisesRegex(ValueError, "one open file"):
+            check(file, file)
+        for other in (pathlib.Path("report.txt"), None, packed.report):
+            with self.assertRaisesRegex(TypeError, "Report.read reads a file"):
+                Report.parse(other)
+
     def test_files_made_at_random(self):
         verdicts = set()
         for number in FILES:
@@ -190,6 +301,47 @@ class Segments(Given):
                         count += 1
         self.assertGreater(count, 30)
 
+    def test_why_each_begins(self):
+        """The counts of the list, and the gaps: worked out from the model's times."""
+        kinds = set()
+        for number in FILES:
+            made = made_files.make(number)
+            wanted = model.read_all(made.content, made.tolerance)
+            if wanted.fault:
+                continue
+            found = listing(made.content, tolerance=made.tolerance)
+            self.assertEqual(list(found.counts), wanted.counts)
+            before = None
+            for one, other in zip(found.segments, wanted.segments):
+                is_same = before is not None and before.key[:4] == other.key[:4]
+                after = model.rounded(model.nominal(before.key, before.start, len(before.samples))) if is_same else None
+                self.assertEqual(one.gap_us, other.start - after if is_same else None)
+                kinds.add(one.began)
+                before = other
+        self.assertGreaterEqual(kinds, {"first", "gap", "overlap"})
+
+    def test_an_answer_that_is_cut_or_is_none(self):
+        content = example("two-segments.mseed")
+        whole = self.printed(content)
+        lines = whole.splitlines(keepends=True)
+        others = ["", "random", "\x00\x7f\n", whole[:-1], whole + "\n", whole + whole, lines[0], "".join(lines[:2]), *lines[2:]]
+        others += [whole.replace('"samples":300', told) for told in ('"samples":301', '"samples":"300"', '"sample":300', '"samples":-1')]
+        others += [whole.replace(*pair) for pair in (('"gap"', '"gaps"'), ("T00", "T24"), ('"D"', '"X"'), ("XX", "XXX"), ("2020-01-01", "2020-02-30"))]
+        others += [whole.replace('"read":5', '"read":true'), "[]\n", "5\n", "\n".join(reversed(lines))]
+        for told in others:
+            path = self.path("told", told.encode())
+            with self.subTest(told=told), other_program(f"cat {path}"):
+                if told == lines[2]:
+                    self.assertEqual(segments(content), [])
+                    continue
+                with self.assertRaisesRegex(Failed, "an answer that this package does not know"):
+                    segments(content)
+
+    def printed(self, path):
+        """What `list --json` prints."""
+        ran = subprocess.run([msrepack.find_program(), "list", "--json", path], stdout=subprocess.PIPE, text=True, check=True)
+        return ran.stdout
+
     def test_those_of_a_report(self):
         for number in FILES:
             made = made_files.make(number)
@@ -241,12 +393,22 @@ class Compare(Given):
         self.assertEqual([one.what for one in found], ["sample", "segment", "start", "key", "sample", "segment"])
         self.assertEqual([one.only_in for one in found], ["ONE", "ONE", None, None, None, "OTHER"])
 
+    def test_one_open_file(self):
+        with open(example("one-record.mseed"), "rb") as file, self.assertRaisesRegex(ValueError, "one open file"):
+            compare(file, file)
+        one = io.BytesIO(read(example("one-record.mseed")))
+        with self.assertRaisesRegex(ValueError, "one open file"):
+            compare(one, one)
+        content = read(example("one-record.mseed"))
+        self.assertTrue(compare(content, content))
+
     def test_faults_of_one_of_the_two(self):
         good, bad = example("one-record.mseed"), self.path("bad.mseed", b"no record")
         for one, other, whose in ((good, bad, "other"), (bad, good, "one"), (read(bad), good, "one")):
             with self.assertRaises(Refused) as caught:
                 compare(one, other)
             self.assertEqual((caught.exception.of, caught.exception.name), (whose, "Truncated"))
+            self.assertEqual(caught.exception.path, bad if bad in (one, other) else None)
         with self.assertRaisesRegex(Failed, "^other: read fault$"):
             compare(good, self.folder)
 

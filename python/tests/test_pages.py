@@ -13,8 +13,8 @@ from support import ROOT
 import msrepack
 
 PAGE = os.path.join(ROOT, "python", "README.md")
-MODULES = ["msrepack", *(f"msrepack.{name}" for name in ("errors", "files", "lines", "program", "report", "walks"))]
-MODULES += ["msrepack.plot", "msrepack.__main__"] * (importlib.util.find_spec("matplotlib") is not None)
+MODULES = ["msrepack", *(f"msrepack.{name}" for name in ("channels", "errors", "files", "lines", "program", "report", "sources", "tables", "walks"))]
+MODULES += ["msrepack.bands", "msrepack.plot", "msrepack.__main__"] * (importlib.util.find_spec("matplotlib") is not None)
 OBSPY = "**Read by ObsPy**"
 # Debian's mypy is that of its own python3.
 MYPY = shutil.which("mypy", path=f"/usr/bin{os.pathsep}{os.environ['PATH']}")

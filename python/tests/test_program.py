@@ -1,4 +1,5 @@
 """How the program is found and run: which one, programs that are none or too old, a killed one, and what is left behind."""
+import errno
 import io
 import os
 import pickle
@@ -85,8 +86,11 @@ class Finding(Tidy):
 
     def test_one_that_is_named_and_is_none(self):
         os.environ["MSREPACK"] = self.path("nowhere")
-        with self.assertRaisesRegex(NotFound, "MSREPACK names .*nowhere, which is no program: let it name one, or unset it"):
+        told = "MSREPACK names .*nowhere, which is no program: let it name one, or unset it"
+        with self.assertRaisesRegex(NotFound, told) as caught:
             find_program()
+        self.assertIsInstance(caught.exception, FileNotFoundError)
+        self.assertEqual((caught.exception.filename, caught.exception.errno), (self.path("nowhere"), errno.ENOENT))
 
     def test_that_of_the_wheel(self):
         path, other = self.program("site/bin/msrepack"), self.program("path/msrepack")
@@ -152,11 +156,11 @@ class Finding(Tidy):
 
     def test_one_that_is_too_old(self):
         os.environ["MSREPACK"] = self.program("old", "msrepack 0.9.7")
-        with self.assertRaisesRegex(NotFound, "is msrepack 0.9.7, and this package wants 1.0 or newer: install one"):
+        with self.assertRaisesRegex(NotFound, "is msrepack 0.9.7, and this package wants 1.1 or newer: install one"):
             segments(example("one-record.mseed"))
 
     def test_newer_ones(self):
-        for number, version in enumerate(("1.0.0", "1.12.3", "2.0.0-rc1")):
+        for number, version in enumerate(("1.1.0", "1.12.3", "2.0.0-rc1")):
             os.environ["MSREPACK"] = self.program(f"new{number}", f"msrepack {version}")
             self.assertEqual(find_program(), os.environ["MSREPACK"])
 
@@ -172,6 +176,14 @@ class Finding(Tidy):
             find_program()
 
 
+class Version(unittest.TestCase):
+    @unittest.skipUnless(os.path.exists(os.path.join(ROOT, "release/built")), "this is no clone")
+    def test_that_of_the_shipped_program(self):
+        shipped = os.path.join(ROOT, "release/built/x86_64-linux/msrepack")
+        told = subprocess.run([shipped, "--version"], capture_output=True, text=True, check=True).stdout
+        self.assertEqual(told, f"msrepack {msrepack.__version__}\n")
+
+
 class Running(Tidy):
     def test_a_killed_program(self):
         with other_program("kill -9 $$"):
@@ -185,6 +197,38 @@ class Running(Tidy):
                 with self.assertRaises(Failed) as caught:
                     repack(b"")
                 self.assertEqual((str(caught.exception), caught.exception.status), (line, 1))
+
+    def test_signals_without_a_name(self):
+        with other_program("kill -40 $$"), self.assertRaisesRegex(Failed, "^the program was ended by signal 40$") as caught:
+            repack(b"")
+        self.assertEqual(caught.exception.status, -40)
+
+    def test_a_program_that_says_nothing(self):
+        for status in (1, 2, 77):
+            for call in (lambda: repack(b""), lambda: list(msrepack.archive("a", "b", "c"))):
+                with other_program(f"exit {status}"), self.assertRaisesRegex(Failed, f"^the program ended with status {status} and"):
+                    call()
+
+    def test_time_out(self):
+        """Of each call; the process is gone, which the end of the test looks at."""
+        calls = [
+            lambda: repack(b"", timeout=0.2), lambda: repack(b"", timeout=0.2, output=self.path("out")),
+            lambda: segments(b"", timeout=0.2), lambda: msrepack.listing(b"", timeout=0.2),
+            lambda: msrepack.check(b"", b"", timeout=0.2), lambda: msrepack.compare(b"", b"", timeout=0.2),
+            lambda: list(msrepack.archive("a", "b", "c", timeout=0.2)), lambda: list(msrepack.verify("a", "b", "c", timeout=0.2)),
+        ]
+        for call in calls:
+            with other_program("exec sleep 60"), self.assertRaisesRegex(TimeoutError, "^longer than 0.2 s$") as caught:
+                call()
+            self.assertIsInstance(caught.exception, msrepack.Error)
+        self.assertEqual(os.listdir(self.folder), ["tmp"])
+        repack(read(example("one-record.mseed")), timeout=60)
+
+    def test_a_program_that_hangs_before_it_tells_its_version(self):
+        path = self.path("hangs", b"#!/bin/sh\nexec sleep 60\n")
+        os.chmod(path, 0o755)
+        with unittest.mock.patch.dict(os.environ, MSREPACK=path), self.assertRaises(TimeoutError):
+            repack(b"", timeout=0.2)
 
     def test_an_answer_that_is_none(self):
         for call in (lambda: msrepack.check(b"", b""), lambda: msrepack.compare(b"", b"")):
@@ -216,10 +260,13 @@ class Running(Tidy):
         """As they do from a pool's."""
         for error in (
             msrepack.Refused(512, 5, "OtherBlockette", 500, "one"), Failed("read fault", -9), msrepack.NotAReport(7),
-            msrepack.BadCall("the folders overlap"), NotFound("none"),
+            msrepack.BadCall("the folders overlap"), NotFound("none"), Failed("cannot open a", 1, "a", 2),
+            NotFound("none", "/a", 13), msrepack.Refused(0, 1, "Truncated", path="a.mseed"), msrepack.TimedOut("longer than 1 s"),
         ):
             other = pickle.loads(pickle.dumps(error))
             self.assertEqual((type(other), str(other), vars(other)), (type(error), str(error), vars(error)))
+            if isinstance(error, OSError):
+                self.assertEqual((other.filename, other.errno), (error.filename, error.errno))
 
     def test_ctrl_c_while_the_program_works(self):
         script = textwrap.dedent("""
@@ -257,7 +304,7 @@ class Running(Tidy):
         script = textwrap.dedent("""
             import resource, sys, msrepack
             def peak(): return resource.getrusage(resource.RUSAGE_SELF).ru_maxrss * 1024
-            msrepack.segments(b"")
+            msrepack.find_program()
             before = peak()
             records = msrepack.repack(sys.argv[1]).records
             print(len(records), peak() - before)
@@ -265,7 +312,7 @@ class Running(Tidy):
         size = 100_000_000
         printed = msrepack.repack(b"").report
         writes = f'for out; do :; done; head -c {size} /dev/zero > "$out"'
-        with other_program(f'[ $1 = repack ] || exit 0; printf "{printed}"; {writes}'):
+        with other_program(f'printf "{printed}"; {writes}'):
             ran = subprocess.run(
                 [sys.executable, "-B", "-c", script, "in"],
                 cwd=os.path.join(ROOT, "python"),

@@ -4,9 +4,11 @@ import shutil
 import signal
 import subprocess
 import sys
+import tempfile
 import textwrap
 import time
 import unittest
+import unittest.mock
 
 from support import EXAMPLES, ROOT, Tidy, example, other_program, read
 
@@ -109,6 +111,32 @@ class Archive(Walks):
                     place = os.path.relpath(os.path.join(folder, file), top)
                     there[place] = "" if file.endswith(".from") else read(os.path.join(folder, file))
         return there
+
+    def test_no_folder_is_no_work(self):
+        """Not the whole archive; `None` alone is that."""
+        shutil.copytree(SDS, self.root)
+        for none in ([], (), iter([]), set(), (name for name in ())):
+            found = archive(self.root, *self.folders("found"), below=none, bytes=True)
+            self.assertEqual([str(line) for line in found], ["files 0 skipped 0 refused 0 bytes 0 0"])
+            found = verify(self.root, *self.folders("found"), below=none)
+            self.assertEqual(list(found), [lines.VerifyTotals(0, 0, 0, 0, 0, 0, 0)])
+        [totals] = archive(self.root, *self.folders("found"), below=[], only_smaller=True)
+        self.assertEqual(str(totals), "files 0 skipped 0 refused 0 larger 0")
+        self.assertFalse(os.path.exists(self.folders("found")[0]))
+        *_, totals = archive(self.root, *self.folders("found"), below=None)
+        self.assertEqual(totals.files, 4)
+
+    def test_without_a_folder_for_temporary_files(self):
+        """What is complained is told, though nothing can be written."""
+        with unittest.mock.patch.object(tempfile, "tempdir", "/nowhere"):
+            with self.assertRaisesRegex(BadCall, "^the folders overlap$"):
+                list(archive(SDS, SDS, self.path("reports")))
+
+    def test_complaints_without_end(self):
+        """No pipe fills, and the last line is told."""
+        script = "yes 'msrepack: something' | head -c 3000000 >&2; echo 'msrepack: write fault' >&2; exit 1"
+        with other_program(script), self.assertRaisesRegex(Failed, "^write fault$"):
+            list(archive("a", "b", "c", timeout=60))
 
     def test_what_a_refusal_tells(self):
         self.path(os.path.join("root", DAY.format(1)), read(example("two-segments.mseed"))[:600])
@@ -255,6 +283,19 @@ class AsTheyCome(Walks):
         ):
             with other_program(script), self.assertRaisesRegex(Failed, wanted):
                 list(archive("a", "b", "c"))
+
+    def test_the_end_of_a_walk_is_bounded(self):
+        """By SIGTERM, for which a machine that has much to do gets time here, or by SIGKILL if that is of no use."""
+        mark, waits = self.path("mark"), "while :; do sleep 0.05; done"
+        for trap, seconds in ((f"trap 'echo ended > {mark}; exit' TERM", 30), ("trap '' TERM", 2)):
+            with other_program(f"{trap}; echo done {DAY.format(1)} read 2 written 1; {waits}"):
+                with unittest.mock.patch("msrepack.walks.AFTER_SIGTERM", seconds):
+                    walk = archive("a", "b", "c")
+                    next(walk)
+                    began = time.monotonic()
+                    walk.close()
+            self.assertLess(time.monotonic() - began, 20)
+            self.assertEqual(read(mark), b"ended\n")
 
     def test_a_second_ctrl_c_does_not_wait(self):
         """A walk that does not come to its next line is killed."""
