@@ -1,3 +1,4 @@
+pub mod Acting
 pub mod Changes
 pub mod Crash
 pub mod Moments

@@ -1,0 +1,117 @@
+-- One call, and then another.
+use Rattle.std.proofs.Common.{◌≡◌, ◌<◌, ◌≤◌, ◌+◌, ◌⊎◌, inl, inr, ⊎_elim, ℕ, suc, Bool, true, false, List, [], ◌∷◌, ◌++◌, refl, sym, ◌∙◌, ap, subst, Result, Ok, Err, IsErrOf, IfOk, arith}
+use Rattle.msr_tree.specs.Acts.{Acts}
+use Rattle.msr_tree.specs.Calls.{Copied, Copies, Does, Goes, PerhapsCopied, PerhapsDone, RenamesNew, Stops, Tells, MakesFolders, AreOfFolders}
+use Rattle.msr_tree.specs.Steps.{ChangesOnly, Failed, FileStored, FolderMade, FolderStored, IsNoneOf, Linked, Made, Path, Removed, Renamed, Spares, Step, failures, touches}
+use Rattle.msr_tree.specs.declared.tree.TreeFault.{TreeFault}
+use Rattle.msr_tree.specs.declared.tree.TreeFault.TheVariants as fault
+use Rattle.msr_tree.proofs.Changes.{changes_none, changes_then}
+
+-- a step that touches no other names
+abbrev pub Within : List Path → Step → Type 0
+Within names step = (name : Path) → IsNoneOf name names → touches step name ≡ false
+
+pub changes_step : (names : List Path) (step : Step) (old : List Step) → Within names step → ChangesOnly names old (step ∷ old)
+changes_step names step old within = record { made = step ∷ []; since = refl; spares = λ name none. (tt, within name none) }
+
+more_fail : (old made : List Step) → failures old ≤ failures (made ++ old)
+more_fail old [] = omega arith
+more_fail old (Made at bytes ∷ made) = more_fail old made
+more_fail old (Linked from to ∷ made) = more_fail old made
+more_fail old (Renamed from to ∷ made) = more_fail old made
+more_fail old (Removed at ∷ made) = more_fail old made
+more_fail old (FileStored at ∷ made) = more_fail old made
+more_fail old (FolderStored at ∷ made) = more_fail old made
+more_fail old (FolderMade at ∷ made) = more_fail old made
+more_fail old (Failed ∷ made) = let so = more_fail old made in omega arith
+
+pub no_fewer : (names : List Path) (old new : List Step) → ChangesOnly names old new → failures old ≤ failures new
+no_fewer names old new changes = subst (λ l. failures old ≤ failures l) (sym changes.since) (more_fail old changes.made)
+
+-- a call that stopped
+stops_changes : (names : List Path) (why : TreeFault) (Left : List Step → Type 0) (old new : List Step) → ((left : List Step) → Left left → ChangesOnly names old left) → Stops why Left old new → ChangesOnly names old new
+stops_changes names fault.Memory Left old new so stops = subst (λ l. ChangesOnly names old l) (sym stops) (changes_none names old)
+stops_changes names fault.Failed Left old new so stops =
+    let left = so stops.0 stops.1 in
+    subst (λ l. ChangesOnly names old l) (sym stops.2) (changes_then names old stops.0 (Failed ∷ stops.0) left (changes_step names Failed stops.0 (λ name none. refl)))
+
+stops_cause : (names : List Path) (why : TreeFault) (Left : List Step → Type 0) (old new : List Step) → ((left : List Step) → Left left → ChangesOnly names old left) → Stops why Left old new → why ≡ fault.Failed → failures old < failures new
+stops_cause names fault.Memory Left old new so stops is = cc
+stops_cause names fault.Failed Left old new so stops is =
+    let few = no_fewer names old stops.0 (so stops.0 stops.1) in
+    subst (λ l. failures old < failures l) (sym stops.2) (omega arith)
+
+err_of : {T : Type 0} (why : TreeFault) → IsErrOf {T = T} {E = TreeFault} (Err why) fault.Failed → why ≡ fault.Failed
+err_of why is = cc
+
+pub stopped : {T : Type 0} (names : List Path) (Done : (old new : List Step) → T → Type 0) (why : TreeFault) (Left : List Step → Type 0) (old new : List Step)
+    → ((left : List Step) → Left left → ChangesOnly names old left) → Stops why Left old new → Acts names Done (Err why) old new
+stopped names Done why Left old new so stops = record {
+  changes = stops_changes names why Left old new so stops;
+  cause = λ is. stops_cause names why Left old new so stops (err_of why is);
+  does = tt;
+}
+
+perhaps_changes : (names : List Path) (step : Step) (old left : List Step) → Within names step → PerhapsDone step old left → ChangesOnly names old left
+perhaps_changes names step old left within may = ⊎_elim
+    (λ same. subst (λ l. ChangesOnly names old l) (sym same) (changes_none names old))
+    (λ done. subst (λ l. ChangesOnly names old l) (sym done) (changes_step names step old within))
+    may
+
+-- a call of one step
+pub acts_does : {T : Type 0} (names : List Path) (step : Step) (result : Result T TreeFault) (old new : List Step) → Within names step → Does step result old new → Acts names (λ old new answer. new ≡ step ∷ old) result old new
+acts_does names step (Ok x) old new within does = record {
+  changes = subst (λ l. ChangesOnly names old l) (sym does) (changes_step names step old within);
+  cause = λ is. cc;
+  does = does;
+}
+acts_does names step (Err why) old new within does = stopped names _ why _ old new (λ left may. perhaps_changes names step old left within may) does
+
+-- a call that changes nothing
+pub acts_tells : {T : Type 0} (names : List Path) (Says : List Step → T → Type 0) (result : Result T TreeFault) (old new : List Step) → Tells Says result old new → Acts names (λ old new answer. (new ≡ old) × Says old answer) result old new
+acts_tells names Says (Ok x) old new tells = record {
+  changes = subst (λ l. ChangesOnly names old l) (sym tells.0) (changes_none names old);
+  cause = λ is. cc;
+  does = tells;
+}
+acts_tells names Says (Err why) old new tells = stopped names _ why _ old new (λ left same. subst (λ l. ChangesOnly names old l) (sym same) (changes_none names old)) tells
+
+-- one call that succeeds, and then another
+module _ {A B C : Type 0} (names : List Path) (First : (old new : List Step) → A → Type 0) (Second : (old new : List Step) → B → Type 0) (Done : (old new : List Step) → C → Type 0) (a : A) (one mid two : List Step → Type 0) where
+  pub and_then : (second : Result B TreeFault) (result : Result C TreeFault)
+      → (IsErrOf result fault.Failed → IsErrOf second fault.Failed)
+      → ((p q r : List Step) → First p q a → IfOk second (λ b. Second q r b) → ChangesOnly names p q → ChangesOnly names q r → IfOk result (λ c. Done p r c))
+      → Goes one mid (Acts names First (Ok a)) → Goes mid two (Acts names Second second) → Goes one two (Acts names Done result)
+  and_then second result fails so first goes = record {
+    from = λ new went.
+        let later = goes.from new went in
+        let sooner = first.from later.0 later.1 in
+        (sooner.0, sooner.1, record {
+          changes = changes_then names sooner.0 later.0 new sooner.2.changes later.2.changes;
+          cause = λ is.
+              let few = no_fewer names sooner.0 later.0 sooner.2.changes in
+              let more = later.2.cause (fails is) in
+              omega arith;
+          does = so sooner.0 later.0 new sooner.2.does later.2.does sooner.2.changes later.2.changes;
+        });
+  }
+
+-- what is done of a call that is answered in other words
+pub told_as : {A B : Type 0} (few names : List Path) (First : (old new : List Step) → A → Type 0) (Done : (old new : List Step) → B → Type 0) (first : Result A TreeFault) (result : Result B TreeFault) (one two : List Step → Type 0)
+    → (IsErrOf result fault.Failed → IsErrOf first fault.Failed)
+    → ((name : Path) → IsNoneOf name names → IsNoneOf name few)
+    → ((p q : List Step) → IfOk first (λ a. First p q a) → ChangesOnly few p q → IfOk result (λ b. Done p q b))
+    → Goes one two (Acts few First first) → Goes one two (Acts names Done result)
+told_as few names First Done first result one two fails more so goes = record {
+  from = λ new went.
+      let before = goes.from new went in
+      (before.0, before.1, record {
+        changes = record { made = before.2.changes.made; since = before.2.changes.since; spares = λ name none. before.2.changes.spares name (more name none) };
+        cause = λ is. before.2.cause (fails is);
+        does = so before.0 new before.2.does before.2.changes;
+      });
+}
+
+-- the same in other words
+pub goes_as : (R S : (old new : List Step) → Type 0) (one two : List Step → Type 0) → ((p q : List Step) → R p q → S p q) → Goes one two R → Goes one two S
+goes_as R S one two so goes = record { from = λ new went. let before = goes.from new went in (before.0, before.1, so before.0 new before.2) }
