@@ -1,8 +1,9 @@
 -- One call, and then another.
-use Rattle.std.proofs.Common.{◌≡◌, ◌<◌, ◌≤◌, ◌+◌, ◌⊎◌, inl, inr, ⊎_elim, ℕ, suc, Bool, true, false, List, [], ◌∷◌, ◌++◌, refl, sym, ◌∙◌, ap, subst, Result, Ok, Err, IsErrOf, IfOk, arith}
+use Rattle.std.proofs.Common.{◌≡◌, ◌<◌, ◌≤◌, ◌+◌, ◌⊎◌, inl, inr, ⊎_elim, ℕ, suc, Bool, true, false, IsSome, List, [], ◌∷◌, ◌++◌, refl, sym, ◌∙◌, ap, subst, Result, Ok, Err, IsErrOf, IfOk, arith}
 use Rattle.msr_tree.specs.Acts.{Acts}
 use Rattle.msr_tree.specs.Calls.{Copied, Copies, Does, Goes, PerhapsCopied, PerhapsDone, RenamesNew, Stops, Tells, MakesFolders, AreOfFolders}
-use Rattle.msr_tree.specs.Steps.{ChangesOnly, Failed, FileStored, FolderMade, FolderStored, IsNoneOf, Linked, Made, Path, Removed, Renamed, Spares, Step, failures, touches}
+use Rattle.std.specs.Str.{bytes_eq}
+use Rattle.msr_tree.specs.Steps.{ChangesOnly, Failed, FileStored, FolderMade, FolderStored, IsNoneOf, Linked, Made, Path, Removed, Renamed, Spares, Step, failures, now, touches}
 use Rattle.msr_tree.specs.declared.tree.TreeFault.{TreeFault}
 use Rattle.msr_tree.specs.declared.tree.TreeFault.TheVariants as fault
 use Rattle.msr_tree.proofs.Changes.{changes_none, changes_then}
@@ -115,3 +116,113 @@ told_as few names First Done first result one two fails more so goes = record {
 -- the same in other words
 pub goes_as : (R S : (old new : List Step) → Type 0) (one two : List Step → Type 0) → ((p q : List Step) → R p q → S p q) → Goes one two R → Goes one two S
 goes_as R S one two so goes = record { from = λ new went. let before = goes.from new went in (before.0, before.1, so before.0 new before.2) }
+
+pub goes_does : {T : Type 0} (names : List Path) (step : Step) (result : Result T TreeFault) (one two : List Step → Type 0) → Within names step → Goes one two (Does step result) → Goes one two (Acts names (λ old new answer. new ≡ step ∷ old) result)
+goes_does names step result one two within goes = goes_as _ _ one two (λ p q does. acts_does names step result p q within does) goes
+
+pub goes_tells : {T : Type 0} (names : List Path) (Says : List Step → T → Type 0) (result : Result T TreeFault) (one two : List Step → Type 0) → Goes one two (Tells Says result) → Goes one two (Acts names (λ old new answer. (new ≡ old) × Says old answer) result)
+goes_tells names Says result one two goes = goes_as _ _ one two (λ p q tells. acts_tells names Says result p q tells) goes
+
+abbrev pub stopping : (A : Type 0) → TreeFault → Result A TreeFault
+stopping A why = Err why
+
+abbrev pub giving : {A : Type 0} → A → Result A TreeFault
+giving a = Ok a
+
+-- what stops is told
+pub stopped_as : {A B : Type 0} (names : List Path) (First : (old new : List Step) → A → Type 0) (Done : (old new : List Step) → B → Type 0) (why : TreeFault) (one two : List Step → Type 0)
+    → Goes one two (Acts names First (stopping A why)) → Goes one two (Acts names Done (stopping B why))
+stopped_as names First Done why one two goes = goes_as _ _ one two (λ p q acts. record { changes = acts.changes; cause = λ is. acts.cause (same why is); does = tt }) goes
+  where
+    same : {A B : Type 0} (why : TreeFault) → IsErrOf (stopping B why) fault.Failed → IsErrOf (stopping A why) fault.Failed
+    same why is = let so : why ≡ fault.Failed = cc in ap (λ w. Err w) so
+
+-- one call that succeeds, and then another that stops
+pub then_stopped : {A B C : Type 0} (names : List Path) (First : (old new : List Step) → A → Type 0) (Second : (old new : List Step) → B → Type 0) (Done : (old new : List Step) → C → Type 0) (a : A) (why : TreeFault) (one mid two : List Step → Type 0)
+    → Goes one mid (Acts names First (giving a)) → Goes mid two (Acts names Second (stopping B why)) → Goes one two (Acts names Done (stopping C why))
+then_stopped names First Second Done a why one mid two first goes =
+    and_then names First Second Done a one mid two (Err why) (Err why) (λ is. let so : why ≡ fault.Failed = cc in ap (λ w. Err w) so) (λ p q r did none c d. tt) first goes
+
+-- one call that succeeds, and then another that does
+pub then_ok : {A B C : Type 0} (names : List Path) (First : (old new : List Step) → A → Type 0) (Second : (old new : List Step) → B → Type 0) (Done : (old new : List Step) → C → Type 0) (a : A) (b : B) (x : C) (one mid two : List Step → Type 0)
+    → ((p q r : List Step) → First p q a → Second q r b → ChangesOnly names p q → ChangesOnly names q r → Done p r x)
+    → Goes one mid (Acts names First (giving a)) → Goes mid two (Acts names Second (giving b)) → Goes one two (Acts names Done (giving x))
+then_ok names First Second Done a b x one mid two so first goes =
+    and_then names First Second Done a one mid two (Ok b) (Ok x) (λ is. cc) so first goes
+
+-- one call that succeeds, and then one whose answer is handed on
+pub then_given : {A B : Type 0} (names : List Path) (First : (old new : List Step) → A → Type 0) (Second Done : (old new : List Step) → B → Type 0) (a : A) (result : Result B TreeFault) (one mid two : List Step → Type 0)
+    → ((p q r : List Step) (b : B) → First p q a → Second q r b → ChangesOnly names p q → ChangesOnly names q r → Done p r b)
+    → Goes one mid (Acts names First (giving a)) → Goes mid two (Acts names Second result) → Goes one two (Acts names Done result)
+then_given names First Second Done a result one mid two so first goes =
+    and_then names First Second Done a one mid two result result (λ is. is) (λ p q r did next c d. when_ok result (λ b second. so p q r b did second c d) next) first goes
+  where
+    when_ok : {B : Type 0} {P Q : B → Type 0} (r : Result B TreeFault) → ((b : B) → P b → Q b) → IfOk r P → IfOk r Q
+    when_ok (Ok b) f p = f b p
+    when_ok (Err why) f p = tt
+
+-- a step changes the names that it touches
+pub within_none : (names : List Path) (step : Step) → ((name : Path) → touches step name ≡ false) → Within names step
+within_none names step none name apart = none name
+
+copied_changes : (names : List Path) (from to : Path) (old left : List Step) → ((name : Path) → IsNoneOf name names → bytes_eq name to ≡ false) → PerhapsCopied from to old left → ChangesOnly names old left
+copied_changes names from to old left apart may = ⊎_elim
+    (λ same. subst (λ l. ChangesOnly names old l) (sym same) (changes_none names old))
+    (λ done. ⊎_elim
+    (λ linked. subst (λ l. ChangesOnly names old l) (sym linked) (changes_step names (Linked from to) old apart))
+    (λ made. subst (λ l. ChangesOnly names old l) (sym made.1) (changes_step names (Made to made.0) old apart))
+    done)
+    may
+
+-- a link or a copy
+acts_copies : {T : Type 0} (names : List Path) (from to : Path) (result : Result T TreeFault) (old new : List Step) → ((name : Path) → IsNoneOf name names → bytes_eq name to ≡ false) → Copies from to result old new → Acts names (λ sooner later answer. IsSome (now sooner from) × Copied from to sooner later) result old new
+acts_copies names from to (Ok x) old new apart copies = record {
+  changes = copied_changes names from to old new apart (⊎_elim (λ linked. inr (inl linked)) (λ made. inr (inr (made.0, made.2))) copies.1);
+  cause = λ is. cc;
+  does = copies;
+}
+acts_copies names from to (Err why) old new apart copies = stopped names _ why _ old new (λ left may. copied_changes names from to old left apart may) copies
+
+pub goes_copies : {T : Type 0} (names : List Path) (from to : Path) (result : Result T TreeFault) (one two : List Step → Type 0) → ((name : Path) → IsNoneOf name names → bytes_eq name to ≡ false) → Goes one two (Copies from to result)
+    → Goes one two (Acts names (λ old new answer. IsSome (now old from) × Copied from to old new) result)
+goes_copies names from to result one two apart goes = goes_as _ _ one two (λ p q copies. acts_copies names from to result p q apart copies) goes
+
+-- a rename to a name that none has
+abbrev pub IfRenamed : (from to : Path) → (old new : List Step) → Bool → Type 0
+IfRenamed from to old new true = new ≡ Renamed from to ∷ old
+IfRenamed from to old new false = new ≡ old
+
+acts_renames : (names : List Path) (from to : Path) (result : Result Bool TreeFault) (old new : List Step) → Within names (Renamed from to) → Within names (Linked from to) → RenamesNew from to result old new → Acts names (IfRenamed from to) result old new
+acts_renames names from to (Ok true) old new within linked renames = record {
+  changes = subst (λ l. ChangesOnly names old l) (sym renames) (changes_step names (Renamed from to) old within);
+  cause = λ is. cc;
+  does = renames;
+}
+acts_renames names from to (Ok false) old new within linked renames = record {
+  changes = subst (λ l. ChangesOnly names old l) (sym renames) (changes_none names old);
+  cause = λ is. cc;
+  does = renames;
+}
+acts_renames names from to (Err why) old new within linked renames = stopped names _ why _ old new
+    (λ left may. ⊎_elim (λ done. perhaps_changes names (Renamed from to) old left within done) (λ is. subst (λ l. ChangesOnly names old l) (sym is) (changes_step names (Linked from to) old linked)) may) renames
+
+pub goes_renames : (names : List Path) (from to : Path) (result : Result Bool TreeFault) (one two : List Step → Type 0) → Within names (Renamed from to) → Within names (Linked from to) → Goes one two (RenamesNew from to result) → Goes one two (Acts names (IfRenamed from to) result)
+goes_renames names from to result one two within linked goes = goes_as _ _ one two (λ p q renames. acts_renames names from to result p q within linked renames) goes
+
+-- the same calls, by other names of the same paths
+pub goes_step : {T : Type 0} (names : List Path) (given step : Step) (result : Result T TreeFault) (one two : List Step → Type 0) → given ≡ step → Within names step → Goes one two (Does given result) → Goes one two (Acts names (λ old new answer. new ≡ step ∷ old) result)
+goes_step names given step result one two same within goes = goes_does names step result one two within (subst (λ s. Goes one two (Does s result)) same goes)
+
+pub goes_copied : {T : Type 0} (names : List Path) (given_from given_to from to : Path) (result : Result T TreeFault) (one two : List Step → Type 0) → given_from ≡ from → given_to ≡ to → ((name : Path) → IsNoneOf name names → bytes_eq name to ≡ false) → Goes one two (Copies given_from given_to result)
+    → Goes one two (Acts names (λ old new answer. IsSome (now old from) × Copied from to old new) result)
+goes_copied names given_from given_to from to result one two same_from same_to apart goes =
+    goes_copies names from to result one two apart (subst (λ n. Goes one two (Copies n to result)) same_from (subst (λ n. Goes one two (Copies given_from n result)) same_to goes))
+
+pub goes_renamed : (names : List Path) (given_from given_to from to : Path) (result : Result Bool TreeFault) (one two : List Step → Type 0) → given_from ≡ from → given_to ≡ to → Within names (Renamed from to) → Within names (Linked from to) → Goes one two (RenamesNew given_from given_to result)
+    → Goes one two (Acts names (IfRenamed from to) result)
+goes_renamed names given_from given_to from to result one two same_from same_to within linked goes =
+    goes_renames names from to result one two within linked (subst (λ n. Goes one two (RenamesNew n to result)) same_from (subst (λ n. Goes one two (RenamesNew given_from n result)) same_to goes))
+
+-- a rename touches the two names
+pub within_renamed : (from to : Path) → Within (to ∷ from ∷ []) (Renamed from to)
+within_renamed from to name none = rw (none.0, none.1.0) refl
