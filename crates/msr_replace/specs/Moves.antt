@@ -20,6 +20,13 @@ Names from to old new answer = answer ≡ true → (bytes : List ℕ) → IsRead
 abbrev pub KeepsAs : (from to : Path) → {R : Type 0} → (old new : List Step) → Option R → Type 0
 KeepsAs from to old new answer = answer ≡ None → (bytes : List ℕ) → seen old from ≡ Some bytes → Leaves new to (Some bytes)
 
+abbrev pub NamesIfNone : (from to : Path) → {R : Type 0} → (old new : List Step) → Option R → Type 0
+NamesIfNone from to old new answer = answer ≡ None → (bytes : List ℕ) → IsReady from bytes old → Leaves new to (Some bytes)
+
+-- if this is the answer, the same bytes are seen under both names
+abbrev pub IsSeenAs : (one other : Path) → (old new : List Step) → Bool → Type 0
+IsSeenAs one other old new answer = answer ≡ true → seen old one ≡ seen old other
+
 -- nothing is known
 abbrev pub Anything : {T : Type 0} → (old new : List Step) → T → Type 0
 Anything old new answer = Unit {0}

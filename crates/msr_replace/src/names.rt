@@ -35,6 +35,8 @@ pub struct DayNames {
     pub(crate) root: String,
     pub(crate) aside: String,
     pub(crate) out: String,
+    /// ROOT, ASIDE and OUT themselves.
+    pub(crate) tops: [String; 3],
 }
 
 impl Model for DayNames {
@@ -85,6 +87,16 @@ impl DayNames {
                 self.aside.as_str()
             }
             Place::Records | Place::RecordsPart => self.out.as_str(),
+        }
+    }
+
+    /// The path of the one of ROOT, ASIDE and OUT in which it stands.
+    pub(crate) fn top(&self, place: Place) -> &str {
+        let [root, aside, out] = &self.tops;
+        match place {
+            Place::Day | Place::DayPart => root.as_str(),
+            Place::Original | Place::OriginalPart | Place::Note | Place::NotePart => aside.as_str(),
+            Place::Records | Place::RecordsPart => out.as_str(),
         }
     }
 }

@@ -1,12 +1,12 @@
 -- One call, and then another.
 use Rattle.std.proofs.Common.{◌≡◌, ◌<◌, ◌≤◌, ◌+◌, ◌⊎◌, inl, inr, ⊎_elim, ℕ, suc, Bool, true, false, IsSome, List, [], ◌∷◌, ◌++◌, refl, sym, ◌∙◌, ap, subst, Result, Ok, Err, IsErrOf, IfOk, arith}
 use Rattle.msr_tree.specs.Acts.{Acts}
-use Rattle.msr_tree.specs.Calls.{Copied, Copies, Does, Goes, PerhapsCopied, PerhapsDone, RenamesNew, Stops, Tells, MakesFolders, AreOfFolders}
+use Rattle.msr_tree.specs.Calls.{IsSameAs, Copied, Copies, Does, Goes, PerhapsCopied, PerhapsDone, RenamesNew, Stops, Tells, MakesFolders, AreOfFolders}
 use Rattle.std.specs.Str.{bytes_eq}
 use Rattle.msr_tree.specs.Steps.{ChangesOnly, Failed, FileStored, FolderMade, FolderStored, IsNoneOf, Linked, Made, Path, Removed, Renamed, Spares, Step, failures, now, touches}
 use Rattle.msr_tree.specs.declared.tree.TreeFault.{TreeFault}
 use Rattle.msr_tree.specs.declared.tree.TreeFault.TheVariants as fault
-use Rattle.msr_tree.proofs.Changes.{changes_none, changes_then}
+use Rattle.msr_tree.proofs.Changes.{changes_more, changes_none, changes_then}
 
 -- a step that touches no other names
 abbrev pub Within : List Path → Step → Type 0
@@ -226,3 +226,48 @@ goes_renamed names given_from given_to from to result one two same_from same_to 
 -- a rename touches the two names
 pub within_renamed : (from to : Path) → Within (to ∷ from ∷ []) (Renamed from to)
 within_renamed from to name none = rw (none.0, none.1.0) refl
+
+-- of more names
+pub goes_more : {T : Type 0} (few names : List Path) (Done : (old new : List Step) → T → Type 0) (result : Result T TreeFault) (one two : List Step → Type 0) → ((name : Path) → IsNoneOf name names → IsNoneOf name few) → Goes one two (Acts few Done result) → Goes one two (Acts names Done result)
+goes_more few names Done result one two more goes = goes_as _ _ one two (λ p q acts. record { changes = changes_more few names p q more acts.changes; cause = acts.cause; does = acts.does }) goes
+
+-- folders are made
+folders_spare : (name : Path) (made : List Step) → AreOfFolders made → Spares name made
+folders_spare name [] are = tt
+folders_spare name (FolderMade folder ∷ made) are = (folders_spare name made are, refl)
+folders_spare name (FolderStored folder ∷ made) are = (folders_spare name made are, refl)
+folders_spare name (Failed ∷ made) are = (folders_spare name made are, refl)
+folders_spare name (Made at bytes ∷ made) are = absurd are
+folders_spare name (Linked from to ∷ made) are = absurd are
+folders_spare name (Renamed from to ∷ made) are = absurd are
+folders_spare name (Removed at ∷ made) are = absurd are
+folders_spare name (FileStored at ∷ made) are = absurd are
+
+pub goes_folders : {T : Type 0} (names : List Path) (result : Result T TreeFault) (one two : List Step → Type 0) → Goes one two (MakesFolders result) → Goes one two (Acts names (λ old new answer. Unit {0}) result)
+goes_folders names result one two goes = goes_as _ _ one two (λ p q makes. record {
+  changes = record { made = makes.made; since = makes.since; spares = λ name none. folders_spare name makes.made makes.are };
+  cause = makes.cause;
+  does = any result;
+}) goes
+  where
+    any : {T : Type 0} (r : Result T TreeFault) → IfOk r (λ answer. Unit {0})
+    any (Ok x) = tt
+    any (Err why) = tt
+
+-- of more names, and what was done of few
+pub goes_within : {T : Type 0} (few names : List Path) (Done : (old new : List Step) → T → Type 0) (result : Result T TreeFault) (one two : List Step → Type 0) → ((name : Path) → IsNoneOf name names → IsNoneOf name few) → Goes one two (Acts few Done result)
+    → Goes one two (Acts names (λ old new answer. Done old new answer × ChangesOnly few old new) result)
+goes_within few names Done result one two more goes = goes_as _ _ one two (λ p q acts. record {
+  changes = changes_more few names p q more acts.changes;
+  cause = acts.cause;
+  does = beside (λ x. Done p q x) result acts.changes acts.does;
+}) goes
+  where
+    beside : {T C : Type 0} (P : T → Type 0) (r : Result T TreeFault) → C → IfOk r P → IfOk r (λ x. P x × C)
+    beside P (Ok x) c p = (p, c)
+    beside P (Err why) c p = tt
+
+pub goes_same : (names : List Path) (given_one given_other one other : Path) (result : Result Bool TreeFault) (before after : List Step → Type 0) → given_one ≡ one → given_other ≡ other → Goes before after (Tells (IsSameAs given_one given_other) result)
+    → Goes before after (Acts names (λ old new answer. (new ≡ old) × IsSameAs one other old answer) result)
+goes_same names given_one given_other one other result before after same_one same_other goes =
+    goes_tells names (IsSameAs one other) result before after (subst (λ n. Goes before after (Tells (IsSameAs n other) result)) same_one (subst (λ n. Goes before after (Tells (IsSameAs given_one n) result)) same_other goes))

@@ -1,5 +1,6 @@
 -- What stays of a name while others change.
-use Rattle.std.proofs.Common.{◌≡◌, ◌⊎◌, inl, inr, ⊎_elim, ℕ, Bool, true, false, List, [], ◌∷◌, ◌++◌, refl, sym, ◌∙◌, ap, subst, Option, Some, None, append_assoc}
+use Rattle.std.proofs.Common.{◌≡◌, ◌⊎◌, inl, inr, ⊎_elim, ℕ, Bool, true, false, List, [], ◌∷◌, ◌++◌, refl, sym, ◌∙◌, ap, subst, Option, Some, None, option_map, append_assoc}
+use Rattle.std.proofs.lemmas.List.{append_cancel_right}
 use Rattle.std.specs.Str.{bytes_eq}
 use Rattle.msr_tree.specs.Steps.{AtEachMoment, ChangesOnly, FileStored, FolderStored, IsNoneOf, IsReady, IsStored, Leaves, Path, Renamed, Spares, Step, Throughout, now, seen, stands_in, touches}
 use Rattle.msr_tree.proofs.Crash.{file_of, is_of, is_self, leaves, quiet, settled, stays, still, untouched}
@@ -83,3 +84,18 @@ module _ (P : List Step → Type 0) (names : List Path) (so : (step : Step) (pas
 
   pub each_moment : (old new : List Step) → ChangesOnly names old new → P old → AtEachMoment P old new
   each_moment old new changes holds = record { made = changes.made; since = changes.since; holds = throughout old changes.made changes.spares holds }
+
+-- What holds at each moment holds with what was changed until then.
+module _ (P Q : List Step → Type 0) (names : List Path) (old : List Step) (so : (past : List Step) → P past → ChangesOnly names old past → Q past) where
+  with_made : (made : List Step) → ((name : Path) → IsNoneOf name names → Spares name made) → Throughout P old made → Throughout Q old made
+  with_made [] spares holds = so old holds (changes_none names old)
+  with_made (step ∷ made) spares holds =
+      (with_made made (λ name none. (spares name none).0) holds.0, so (step ∷ made ++ old) holds.1 (record { made = step ∷ made; since = refl; spares = spares }))
+
+  pub with_changes : (new : List Step) → ChangesOnly names old new → AtEachMoment P old new → AtEachMoment Q old new
+  with_changes new changes each =
+      let same : changes.made ≡ each.made = append_cancel_right changes.made each.made old (sym changes.since ∙ each.since) in
+      record { made = each.made; since = each.since; holds = with_made each.made (λ name none. subst (λ m. Spares name m) same (changes.spares name none)) each.holds }
+
+pub seen_kept : (names : List Path) (name : Path) (old new : List Step) → IsNoneOf name names → ChangesOnly names old new → seen new name ≡ seen old name
+seen_kept names name old new none changes = ap (λ found. option_map (λ file. file.bytes) found) (now_kept names name old new none changes)

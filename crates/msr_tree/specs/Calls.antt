@@ -1,7 +1,7 @@
 -- What one call does.
-use Rattle.std.specs.Prelude.{◌≡◌, ◌≢◌, ◌⊎◌, ℕ, Bool, true, false, List, [], ◌∷◌, ◌++◌, Option, None, Some, Result, Ok, Err, IsSome, IsTrue, length}
+use Rattle.std.specs.Prelude.{◌<◌, IsErrOf, ◌≡◌, ◌≢◌, ◌⊎◌, ℕ, Bool, true, false, List, [], ◌∷◌, ◌++◌, Option, None, Some, Result, Ok, Err, IsSome, IsTrue, length}
 use Rattle.msr_devices.specs.Device.{Device, unused}
-use Rattle.msr_tree.specs.Steps.{Failed, FolderMade, FolderStored, Linked, Made, Path, Renamed, Step, now, seen}
+use Rattle.msr_tree.specs.Steps.{Failed, FolderMade, FolderStored, Linked, Made, Path, Renamed, Step, failures, now, seen}
 use Rattle.msr_tree.specs.declared.tree.TreeFault.{TreeFault}
 use Rattle.msr_tree.specs.declared.tree.TreeFault.TheVariants as fault
 use Rattle.msr_tree.specs.declared.facts.Facts.{Facts}
@@ -57,11 +57,12 @@ AreOfFolders (FolderStored folder ∷ made) = AreOfFolders made
 AreOfFolders (Failed ∷ made) = AreOfFolders made
 AreOfFolders (step ∷ made) = ⊥
 
--- folders are made and stored
-pub record MakesFolders (old new : List Step) : Type 0 where
+-- Folders are made and stored.
+pub record MakesFolders {T : Type 0} (result : Result T TreeFault) (old new : List Step) : Type 0 where
   pub made : List Step
   pub since : new ≡ made ++ old
   pub are : AreOfFolders made
+  pub cause : IsErrOf result fault.Failed → failures old < failures new
 
 -- what a look says of a file: one that is none, or is a link or a folder, has no bytes to read
 abbrev pub Looks : Path → List Step → Option Facts → Type 0

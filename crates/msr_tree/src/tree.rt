@@ -65,9 +65,10 @@ pub trait Tree {
     fn store_folder(&mut self, folder: &str) -> Result<(), TreeFault>
         ensures { Goes (went self.old) (went self.new) (Does (FolderStored folder.now) result) };
 
-    /// Makes a folder below another one, with all that lead to it, and stores them.
-    fn make_folders(&mut self, top: &str, folder: &str) -> Result<(), TreeFault>
-        ensures { Goes (went self.old) (went self.new) MakesFolders };
+    /// Makes a folder below another one, with all that lead to it, and stores them; or tells that a link, or what is no
+    /// folder, is in the way.
+    fn make_folders(&mut self, top: &str, folder: &str) -> Result<bool, TreeFault>
+        ensures { Goes (went self.old) (went self.new) (MakesFolders result) };
 
     /// Gives a file the owner, group, mode and time that are asked for.
     fn dress(&mut self, path: &str, facts: &Facts, time: Option<Time>) -> Result<(), TreeFault>
