@@ -18,7 +18,7 @@ settled_by name folder p q r inside first second bytes is =
     (subst (λ l. Leaves (FolderStored folder ∷ l) name (Some bytes)) (sym first) (ready_settled name folder bytes (FileStored name ∷ p) inside (ready_stored name bytes p is)))
 
 -- what was copied is seen
-copied_seen : (from to : Path) (old new : List Step) (bytes : List ℕ) → Copied from to old new → seen old from ≡ Some bytes → seen new to ≡ Some bytes
+pub copied_seen : (from to : Path) (old new : List Step) (bytes : List ℕ) → Copied from to old new → seen old from ≡ Some bytes → seen new to ≡ Some bytes
 copied_seen from to old new bytes copied is = ⊎_elim
     (λ linked. subst (λ l. seen l to ≡ Some bytes) (sym linked) (rw (is_self to) is))
     (λ made. subst (λ l. seen l to ≡ Some bytes) (sym made.2) (rw (is_self to) (sym made.1 ∙ is)))

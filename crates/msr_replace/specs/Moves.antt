@@ -12,6 +12,12 @@ Stores name old new answer = (bytes : List ℕ) → seen old name ≡ Some bytes
 abbrev pub Prepares : (from to : Path) → {T : Type 0} → (old new : List Step) → T → Type 0
 Prepares from to old new answer = (bytes : List ℕ) → seen old from ≡ Some bytes → IsReady to bytes new
 
+abbrev pub PreparesIf : (from to : Path) → (old new : List Step) → Bool → Type 0
+PreparesIf from to old new answer = answer ≡ true → (bytes : List ℕ) → seen old from ≡ Some bytes → IsReady to bytes new
+
+abbrev pub PreparesIfNone : (from to : Path) → {R : Type 0} → (old new : List Step) → Option R → Type 0
+PreparesIfNone from to old new answer = answer ≡ None → (bytes : List ℕ) → seen old from ≡ Some bytes → IsReady to bytes new
+
 -- if this is the answer, what was ready under one name is left by each crash under the other
 abbrev pub Names : (from to : Path) → (old new : List Step) → Bool → Type 0
 Names from to old new answer = answer ≡ true → (bytes : List ℕ) → IsReady from bytes old → Leaves new to (Some bytes)

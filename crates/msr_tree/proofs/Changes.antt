@@ -2,7 +2,7 @@
 use Rattle.std.proofs.Common.{◌≡◌, ◌⊎◌, inl, inr, ⊎_elim, ℕ, Bool, true, false, List, [], ◌∷◌, ◌++◌, refl, sym, ◌∙◌, ap, subst, Option, Some, None, option_map, append_assoc}
 use Rattle.std.proofs.lemmas.List.{append_cancel_right}
 use Rattle.std.specs.Str.{bytes_eq}
-use Rattle.msr_tree.specs.Steps.{AtEachMoment, ChangesOnly, FileStored, FolderStored, IsNoneOf, IsReady, IsStored, Leaves, Path, Renamed, Spares, Step, Throughout, now, seen, stands_in, touches}
+use Rattle.msr_tree.specs.Steps.{AtEachMoment, ChangesOnly, FileStored, FolderStored, IsNoneOf, IsReady, IsStored, Leaves, MayLeave, Path, Renamed, Spares, Step, Throughout, now, seen, stands_in, touches}
 use Rattle.msr_tree.proofs.Crash.{file_of, is_of, is_self, leaves, quiet, settled, stays, still, untouched}
 
 spares_more : (name : Path) (one two : List Step) → Spares name one → Spares name two → Spares name (two ++ one)
@@ -99,3 +99,20 @@ module _ (P Q : List Step → Type 0) (names : List Path) (old : List Step) (so 
 
 pub seen_kept : (names : List Path) (name : Path) (old new : List Step) → IsNoneOf name names → ChangesOnly names old new → seen new name ≡ seen old name
 seen_kept names name old new none changes = ap (λ found. option_map (λ file. file.bytes) found) (now_kept names name old new none changes)
+
+-- What holds by what was changed until then.
+module _ (Q : List Step → Type 0) (names : List Path) (old : List Step) (so : (past : List Step) → ChangesOnly names old past → Q past) where
+  by_made : (made : List Step) → ((name : Path) → IsNoneOf name names → Spares name made) → Throughout Q old made
+  by_made [] spares = so old (changes_none names old)
+  by_made (step ∷ made) spares =
+      (by_made made (λ name none. (spares name none).0), so (step ∷ made ++ old) (record { made = step ∷ made; since = refl; spares = spares }))
+
+  pub each_by_changes : (new : List Step) → ChangesOnly names old new → AtEachMoment Q old new
+  each_by_changes new changes = record { made = changes.made; since = changes.since; holds = by_made changes.made changes.spares }
+
+may_made : (name : Path) (old made : List Step) (after : Option (List ℕ)) → Spares name made → MayLeave (made ++ old) name after → MayLeave old name after
+may_made name old [] after spares may = may
+may_made name old (step ∷ made) after spares may = may_made name old made after spares.0 (quiet step (made ++ old) name after (untouched step (made ++ old) name spares.1) may)
+
+pub may_kept : (names : List Path) (name : Path) (old new : List Step) (after : Option (List ℕ)) → IsNoneOf name names → ChangesOnly names old new → MayLeave new name after → MayLeave old name after
+may_kept names name old new after none changes may = may_made name old changes.made after (changes.spares name none) (subst (λ l. MayLeave l name after) changes.since may)

@@ -71,6 +71,8 @@ Looks path past (Some facts) = facts.kind ≡ kind.Regular → IsSome (now past 
 
 -- both have bytes, and the answer is whether these are the same
 pub record IsSameAs (one other : Path) (past : List Step) (same : Bool) : Type 0 where
+  pub has_one : IsSome (now past one)
+  pub has_other : IsSome (now past other)
   pub yes : same ≡ true → seen past one ≡ seen past other
   pub no : same ≡ false → seen past one ≢ seen past other
 
