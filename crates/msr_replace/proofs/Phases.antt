@@ -1,9 +1,9 @@
 -- How both files are kept from phase to phase.
-use Rattle.std.proofs.Common.{◌≡◌, ◌≢◌, ◌⊎◌, ◌<◌, ◌≤◌, inl, inr, ⊎_elim, ℕ, true, false, List, [], ◌∷◌, ◌++◌, Option, Some, None, Result, Ok, Err, IfOk, IsErrOf, IfSome, refl, sym, ◌∙◌, ap, subst, arith}
+use Rattle.std.proofs.Common.{◌≡◌, ◌≢◌, ◌⊎◌, ◌<◌, ◌≤◌, inl, inr, ⊎_elim, ℕ, true, false, List, [], ◌∷◌, ◌++◌, Option, Some, None, IsSome, option_map, Result, Ok, Err, IfOk, IsErrOf, IfSome, refl, sym, ◌∙◌, ap, subst, arith}
 use Rattle.std.specs.Str.{bytes_eq}
 use Rattle.msr_tree.specs.Acts.{Acts}
 use Rattle.msr_tree.specs.Calls.{Goes}
-use Rattle.msr_tree.specs.Steps.{AtEachMoment, ChangesOnly, IsNoneOf, IsReady, Leaves, MayLeave, Path, Step, failures, now, seen}
+use Rattle.msr_tree.specs.Steps.{AtEachMoment, ChangesOnly, File, IsNoneOf, IsReady, Leaves, MayLeave, Path, Step, failures, now, seen}
 use Rattle.msr_tree.specs.declared.tree.TreeFault.{TreeFault}
 use Rattle.msr_tree.specs.declared.tree.TreeFault.TheVariants as fault
 use Rattle.msr_tree.proofs.Acting.{giving, goes_as, no_fewer, stopping}
@@ -142,3 +142,77 @@ module _ (names : Names) (one other : Place) where
 -- an answer that says nothing of the contents
 pub says_nothing : (names : Names) (one : Place) (a b : List ℕ) (new : List Step) (told : Told) → told ≢ Done → told ≢ Same → Says names one a b new told
 says_nothing names one a b new told not_done not_same = record { done = λ is. absurd (not_done is); same = λ is. absurd (not_same is) }
+
+-- A rename to the day's name, of which each crash leaves the one or the other.
+module _ (names : Names) (one other : Place) (Before Next : (a b : List ℕ) → List Step → Type 0) where
+  abbrev l : List Path
+  l = path_of names Day ∷ path_of names DayPart ∷ []
+
+  within : (name : Path) → IsNoneOf name (all names) → IsNoneOf name (path_of names Day ∷ path_of names DayPart ∷ [])
+  within name none = (none.0, (none.1.0, tt))
+
+  pub taking_stopped : (why : TreeFault) (before after : List Step → Type 0)
+      → ((a b : List ℕ) (p q : List Step) → Before a b p → Takes (path_of names DayPart) (path_of names Day) (stopping (Unit {0}) why) p q → AtEachMoment (KeepsBoth names one a other b) p q)
+      → Goes before after (Takes (path_of names DayPart) (path_of names Day) (stopping (Unit {0}) why)) → Goes before after (Keeps names one other Before (stopping Told why))
+  taking_stopped why before after moments goes = goes_as _ _ before after (λ p q takes. record {
+    changes = changes_more (path_of names Day ∷ path_of names DayPart ∷ []) (all names) p q within takes.acts.changes;
+    cause = λ is. takes.acts.cause (let so : why ≡ fault.Failed = cc in ap (λ w. Err w) so);
+    safe = λ a b holds. moments a b p q holds takes;
+    answers = λ a b holds. tt;
+  }) goes
+
+  pub taking_then : (x : Unit {0}) (result : Result Told TreeFault) (before mid after : List Step → Type 0)
+      → ((a b : List ℕ) (p q : List Step) → Before a b p → Takes (path_of names DayPart) (path_of names Day) (giving x) p q → AtEachMoment (KeepsBoth names one a other b) p q)
+      → ((a b : List ℕ) (p q : List Step) → Before a b p → Takes (path_of names DayPart) (path_of names Day) (giving x) p q → Next a b q)
+      → Goes before mid (Takes (path_of names DayPart) (path_of names Day) (giving x)) → Goes mid after (Keeps names one other Next result) → Goes before after (Keeps names one other Before result)
+  taking_then x result before mid after moments next first goes = record {
+    from = λ new went.
+        let later = goes.from new went in
+        let sooner = first.from later.0 later.1 in
+        let p = sooner.0 in
+        let q = later.0 in
+        (p, sooner.1, record {
+          changes = changes_then (all names) p q new (changes_more (path_of names Day ∷ path_of names DayPart ∷ []) (all names) p q within sooner.2.acts.changes) later.2.changes;
+          cause = λ is.
+              let few = no_fewer (path_of names Day ∷ path_of names DayPart ∷ []) p q sooner.2.acts.changes in
+              let rises = later.2.cause is in
+              omega arith;
+          safe = λ a b holds. joined (KeepsBoth names one a other b) p q new (moments a b p q holds sooner.2) (later.2.safe a b (next a b p q holds sooner.2));
+          answers = λ a b holds. later.2.answers a b (next a b p q holds sooner.2);
+        });
+  }
+
+-- what is seen, by what is kept
+some_of : (found : Option File) (b : List ℕ) → IsSome found → IfSome (option_map (λ file. file.bytes) found) (λ bytes. bytes ≡ b) → option_map (λ file. file.bytes) found ≡ Some b
+some_of None b is every = cc
+some_of (Some file) b is every = ap (λ x. Some x) every
+
+is_some_of : (found : Option (List ℕ)) (bytes b : List ℕ) → found ≡ Some bytes → IfSome found (λ x. x ≡ b) → bytes ≡ b
+is_some_of None bytes b is every = cc
+is_some_of (Some x) bytes b is every = cc
+
+pub seen_apart : (names : Names) (one other : Place) (a b : List ℕ) (p r : List Step) → AreKept names one other a b p → ChangesOnly [] p r → IsSome (now r (path_of names other)) → seen r (path_of names Day) ≢ seen r (path_of names other) → AreSeen names one other a b r
+seen_apart names one other a b p r kept changes there differ =
+    let t = path_of names other in
+    let d = path_of names Day in
+    let keeps = at_end (KeepsBoth names one a other b) p r (quiet_moments names one other [] a b p r tt tt tt kept.keeps changes) in
+    let comes : seen r t ≡ Some b = some_of (now r t) b there (subst (λ f. IfSome f (λ bytes. bytes ≡ b)) (sym (seen_kept [] t p r tt changes)) kept.comes) in
+    record {
+      keeps = keeps;
+      day = ⊎_elim (λ is. is) (λ is. absurd (differ (is ∙ sym comes))) (keeps.day (seen r d) (leaves_seen r d));
+      comes = comes;
+    }
+
+pub day_is_other : (names : Names) (one other : Place) (a b : List ℕ) (p : List Step) → AreSame names one other a b p → seen p (path_of names Day) ≡ Some b
+day_is_other names one other a b p same =
+    let d = path_of names Day in
+    ⊎_elim
+    (λ is. is ∙ ap (λ x. Some x) (is_some_of (seen p (path_of names other)) a b (sym same.same ∙ is) same.kept.comes))
+    (λ is. is)
+    (same.kept.keeps.day (seen p d) (leaves_seen p d))
+
+pub in_place : (names : Names) (one other : Place) (a b : List ℕ) (p q : List Step) → AreSame names one other a b p → ChangesOnly [] p q → ((bytes : List ℕ) → seen p (path_of names Day) ≡ Some bytes → Leaves q (path_of names Day) (Some bytes)) → IsInPlace names one other a b q
+in_place names one other a b p q same changes stores = record {
+  keeps = at_end (KeepsBoth names one a other b) p q (quiet_moments names one other [] a b p q tt tt tt same.kept.keeps changes);
+  day = stores b (day_is_other names one other a b p same);
+}
