@@ -1,13 +1,12 @@
 -- What is left by a crash once a name is stored.
-use Rattle.std.proofs.Common.{◌≡◌, ◌⊎◌, inl, inr, ⊎_elim, true, false, List, [], ℕ, ◌∷◌, ◌++◌, Option, Some, None, sym, subst, ◌∙◌, ap, refl, ◌<◌, ◌≤◌, Result, Ok, Err, IfOk, arith}
-use Rattle.std.specs.Str.{bytes_eq}
+use Rattle.std.proofs.Common.{◌≡◌, inl, inr, ⊎_elim, true, List, [], ℕ, ◌∷◌, Option, Some, sym, subst, ◌∙◌, ap, refl, Result, Ok, Err, IfOk, arith}
 use Rattle.msr_tree.specs.Calls.{Copied, Does, Goes, PerhapsDone, Stops}
 use Rattle.msr_tree.specs.declared.tree.TreeFault.{TreeFault}
 use Rattle.msr_tree.specs.declared.tree.TreeFault.TheVariants as fault
-use Rattle.msr_tree.specs.Steps.{AtEachMoment, ChangesOnly, Failed, FileStored, FolderStored, IsReady, Leaves, Linked, Made, MayLeave, Path, Renamed, Removed, Step, now, seen, stands_in}
+use Rattle.msr_tree.specs.Steps.{AtEachMoment, Failed, FileStored, FolderStored, IsReady, Leaves, Path, Renamed, Step, now, seen, stands_in}
 use Rattle.msr_tree.proofs.Acting.{acts_does, giving, goes_as, no_fewer, stopping, within_renamed}
 use Rattle.msr_tree.proofs.Moments.{at_end, done, joined}
-use Rattle.msr_tree.proofs.Changes.{changes_then, ready_kept, ready_renamed, ready_settled, ready_stored}
+use Rattle.msr_tree.proofs.Changes.{changes_then, ready_renamed, ready_settled, ready_stored}
 use Rattle.msr_tree.proofs.Crash.{is_of, is_self, leaves, quiet}
 use Rattle.msr_replace.specs.Moves.{LeavesEither, Takes}
 
@@ -97,18 +96,21 @@ took_place {T = T} from to folder result one mid two {given = given} same {store
           let later = settled.from new went in
           let sooner = renamed.from later.0 later.1 in
           let c = acts_does {T = T} (to ∷ from ∷ []) (Renamed from to) (giving x) sooner.0 later.0 (within_renamed from to) sooner.2 in
-          let d = acts_does {T = T} (to ∷ from ∷ []) (FolderStored folder) result later.0 new (λ name none. refl) later.2 in
-          (sooner.0, sooner.1, record {
-            acts = record {
-              changes = changes_then (to ∷ from ∷ []) sooner.0 later.0 new c.changes d.changes;
-              cause = λ failed. let few = no_fewer (to ∷ from ∷ []) sooner.0 later.0 c.changes in let more = d.cause failed in omega arith;
-              does = if_ok result (λ y stands. λ bytes ready. named_by from to folder sooner.0 later.0 new inside sooner.2 stands bytes ready) d.does;
-            };
-            moments = λ before bytes holds ready.
-                let P = LeavesEither to before (Some bytes) in
-                let begun = moments_of {T = T} from to before bytes (giving x) sooner.0 later.0 holds ready sooner.2 in
-                joined P sooner.0 later.0 new begun (folder_moments to folder before (Some bytes) result later.0 new (at_end P sooner.0 later.0 begun) later.2);
-          });
+          let d = acts_does {T = T} (to ∷ from ∷ []) (FolderStored folder) result later.0 new (λ name none. refl) later.2 in (
+            sooner.0,
+            sooner.1,
+            record {
+              acts = record {
+                changes = changes_then (to ∷ from ∷ []) sooner.0 later.0 new c.changes d.changes;
+                cause = λ failed. let few = no_fewer (to ∷ from ∷ []) sooner.0 later.0 c.changes in let more = d.cause failed in omega arith;
+                does = if_ok result (λ y stands. λ bytes ready. named_by from to folder sooner.0 later.0 new inside sooner.2 stands bytes ready) d.does;
+              };
+              moments = λ before bytes holds ready.
+                  let P = LeavesEither to before (Some bytes) in
+                  let begun = moments_of {T = T} from to before bytes (giving x) sooner.0 later.0 holds ready sooner.2 in
+                  joined P sooner.0 later.0 new begun (folder_moments to folder before (Some bytes) result later.0 new (at_end P sooner.0 later.0 begun) later.2);
+            },
+          );
     }
   where
     if_ok : {B : Type 0} {P Q : B → Type 0} (r : Result B TreeFault) → ((b : B) → P b → Q b) → IfOk r P → IfOk r Q

@@ -1,9 +1,8 @@
 -- How both files are kept from phase to phase.
-use Rattle.std.proofs.Common.{◌≡◌, ◌≢◌, ◌⊎◌, ◌<◌, ◌≤◌, inl, inr, ⊎_elim, ℕ, true, false, List, [], ◌∷◌, ◌++◌, Option, Some, None, IsSome, option_map, Result, Ok, Err, IfOk, IsErrOf, IfSome, refl, sym, ◌∙◌, ap, subst, arith}
-use Rattle.std.specs.Str.{bytes_eq}
+use Rattle.std.proofs.Common.{◌≡◌, ◌≢◌, inl, inr, ⊎_elim, ℕ, List, [], ◌∷◌, Option, Some, None, IsSome, option_map, Result, Err, IfOk, IsErrOf, IfSome, sym, ◌∙◌, ap, subst, arith}
 use Rattle.msr_tree.specs.Acts.{Acts}
 use Rattle.msr_tree.specs.Calls.{Goes}
-use Rattle.msr_tree.specs.Steps.{AtEachMoment, ChangesOnly, File, IsNoneOf, IsReady, Leaves, MayLeave, Path, Step, failures, now, seen}
+use Rattle.msr_tree.specs.Steps.{AtEachMoment, ChangesOnly, File, IsNoneOf, Leaves, Path, Step, now, seen}
 use Rattle.msr_tree.specs.declared.tree.TreeFault.{TreeFault}
 use Rattle.msr_tree.specs.declared.tree.TreeFault.TheVariants as fault
 use Rattle.msr_tree.proofs.Acting.{giving, goes_as, no_fewer, stopping}
@@ -11,9 +10,9 @@ use Rattle.msr_tree.proofs.Changes.{changes_more, changes_then, each_by_changes,
 use Rattle.msr_tree.proofs.Crash.{leaves_seen}
 use Rattle.msr_tree.proofs.Moments.{at_end, joined}
 use Rattle.msr_replace.specs.Moves.{LeavesEither, Takes}
-use Rattle.msr_replace.specs.Names.{AreNames, Names, is_place, path_of}
-use Rattle.msr_replace.specs.Phases.{AreHome, AreSame, AreSeen, HavePlaces, IsAside, IsInPlace, IsMissing, IsPrepared, MayGoBack}
-use Rattle.msr_replace.specs.Promise.{AreKept, HaveChanged, IsUnderEither, Keeps, KeepsBoth, Says, all}
+use Rattle.msr_replace.specs.Names.{Names, path_of}
+use Rattle.msr_replace.specs.Phases.{AreHome, AreSame, AreSeen, HavePlaces, IsInPlace, IsPrepared, MayGoBack}
+use Rattle.msr_replace.specs.Promise.{AreKept, Keeps, KeepsBoth, Says, all}
 use Rattle.msr_replace.specs.declared.names.Place.{Place}
 use Rattle.msr_replace.specs.declared.names.Place.TheVariants.{Day, DayPart}
 use Rattle.msr_replace.specs.declared.told.Told.{Told}
@@ -127,16 +126,19 @@ module _ (names : Names) (one other : Place) where
           let later = goes.from new went in
           let sooner = first.from later.0 later.1 in
           let p = sooner.0 in
-          let q = later.0 in
-          (p, sooner.1, record {
-            changes = changes_then (all names) p q new (changes_more l (all names) p q more sooner.2.changes) later.2.changes;
-            cause = λ is.
-                let few = no_fewer l p q sooner.2.changes in
-                let rises = later.2.cause is in
-                omega arith;
-            safe = λ a b holds. joined (K a b) p q new (moments a b p q holds sooner.2.changes) (later.2.safe a b (next a b p q holds sooner.2.does sooner.2.changes));
-            answers = λ a b holds. later.2.answers a b (next a b p q holds sooner.2.does sooner.2.changes);
-          });
+          let q = later.0 in (
+            p,
+            sooner.1,
+            record {
+              changes = changes_then (all names) p q new (changes_more l (all names) p q more sooner.2.changes) later.2.changes;
+              cause = λ is.
+                  let few = no_fewer l p q sooner.2.changes in
+                  let rises = later.2.cause is in
+                  omega arith;
+              safe = λ a b holds. joined (K a b) p q new (moments a b p q holds sooner.2.changes) (later.2.safe a b (next a b p q holds sooner.2.does sooner.2.changes));
+              answers = λ a b holds. later.2.answers a b (next a b p q holds sooner.2.does sooner.2.changes);
+            },
+          );
     }
 
 -- an answer that says nothing of the contents
@@ -170,16 +172,19 @@ module _ (names : Names) (one other : Place) (Before Next : (a b : List ℕ) →
         let later = goes.from new went in
         let sooner = first.from later.0 later.1 in
         let p = sooner.0 in
-        let q = later.0 in
-        (p, sooner.1, record {
-          changes = changes_then (all names) p q new (changes_more (path_of names Day ∷ path_of names DayPart ∷ []) (all names) p q within sooner.2.acts.changes) later.2.changes;
-          cause = λ is.
-              let few = no_fewer (path_of names Day ∷ path_of names DayPart ∷ []) p q sooner.2.acts.changes in
-              let rises = later.2.cause is in
-              omega arith;
-          safe = λ a b holds. joined (KeepsBoth names one a other b) p q new (moments a b p q holds sooner.2) (later.2.safe a b (next a b p q holds sooner.2));
-          answers = λ a b holds. later.2.answers a b (next a b p q holds sooner.2);
-        });
+        let q = later.0 in (
+          p,
+          sooner.1,
+          record {
+            changes = changes_then (all names) p q new (changes_more (path_of names Day ∷ path_of names DayPart ∷ []) (all names) p q within sooner.2.acts.changes) later.2.changes;
+            cause = λ is.
+                let few = no_fewer (path_of names Day ∷ path_of names DayPart ∷ []) p q sooner.2.acts.changes in
+                let rises = later.2.cause is in
+                omega arith;
+            safe = λ a b holds. joined (KeepsBoth names one a other b) p q new (moments a b p q holds sooner.2) (later.2.safe a b (next a b p q holds sooner.2));
+            answers = λ a b holds. later.2.answers a b (next a b p q holds sooner.2);
+          },
+        );
   }
 
 -- what is seen, by what is kept

@@ -1,11 +1,11 @@
 -- What is promised of a day whose two files change places.
-use Rattle.std.specs.Prelude.{◌<◌, ◌≡◌, ◌⊎◌, ℕ, List, [], ◌∷◌, Option, None, Some, Result, IfOk, IfSome, IsErrOf}
-use Rattle.msr_tree.specs.Steps.{AtEachMoment, ChangesOnly, IsReady, Leaves, MayLeave, Path, Step, failures, now, seen}
+use Rattle.std.specs.Prelude.{◌<◌, ◌≡◌, ◌⊎◌, ℕ, List, [], ◌∷◌, Option, Some, Result, IfOk, IfSome, IsErrOf}
+use Rattle.msr_tree.specs.Steps.{AtEachMoment, ChangesOnly, Leaves, MayLeave, Path, Step, failures, seen}
 use Rattle.msr_tree.specs.declared.tree.TreeFault.{TreeFault}
 use Rattle.msr_tree.specs.declared.tree.TreeFault.TheVariants.{Failed}
 use Rattle.msr_replace.specs.Names.{Names, path_of}
 use Rattle.msr_replace.specs.declared.names.Place.{Place}
-use Rattle.msr_replace.specs.declared.names.Place.TheVariants.{Day, DayPart}
+use Rattle.msr_replace.specs.declared.names.Place.TheVariants.{Day}
 use Rattle.msr_replace.specs.declared.told.Told.{Told}
 use Rattle.msr_replace.specs.declared.told.Told.TheVariants.{Done, Same}
 

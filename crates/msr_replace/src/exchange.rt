@@ -77,17 +77,19 @@ fn set_aside<T: Tree>(
     ensures { Goes (T.went tree.old) (T.went tree.new)
         (Keeps names.now Original Records (AreHome names.now Original Records) result) }
 {
-    match keep_as(tree, names, Place::Original, Place::OriginalPart, Dress::Same)? {
+    match keep_as(
+        tree,
+        names,
+        Place::Original,
+        Place::OriginalPart,
+        Dress::Same,
+    )? {
         Some(hindrance) => Ok(Told::Refused(Refusal::Aside(hindrance))),
         None => prepare(tree, names, verified),
     }
 }
 
-fn prepare<T: Tree>(
-    tree: &mut T,
-    names: &DayNames,
-    verified: &Verified,
-) -> Result<Told, TreeFault>
+fn prepare<T: Tree>(tree: &mut T, names: &DayNames, verified: &Verified) -> Result<Told, TreeFault>
     requires { AreNames names.now }
     ensures { Goes (T.went tree.old) (T.went tree.new)
         (Keeps names.now Original Records (IsAside names.now Original Records) result) }
@@ -99,11 +101,7 @@ fn prepare<T: Tree>(
 }
 
 /// The original has its place.
-fn give_up<T: Tree>(
-    tree: &mut T,
-    names: &DayNames,
-    given_up: GivenUp,
-) -> Result<Told, TreeFault>
+fn give_up<T: Tree>(tree: &mut T, names: &DayNames, given_up: GivenUp) -> Result<Told, TreeFault>
     requires { AreNames names.now }
     ensures { Goes (T.went tree.old) (T.went tree.new)
         (Keeps names.now Original Records (AreHome names.now Original Records) result) }
@@ -112,11 +110,7 @@ fn give_up<T: Tree>(
     Ok(given_up.told())
 }
 
-fn take<T: Tree>(
-    tree: &mut T,
-    names: &DayNames,
-    verified: &Verified,
-) -> Result<Told, TreeFault>
+fn take<T: Tree>(tree: &mut T, names: &DayNames, verified: &Verified) -> Result<Told, TreeFault>
     requires { AreNames names.now }
     ensures { Goes (T.went tree.old) (T.went tree.new)
         (Keeps names.now Original Records (IsPrepared names.now Original Records) result) }
@@ -126,11 +120,7 @@ fn take<T: Tree>(
 }
 
 /// The records leave OUT, unless the original was written to until they took its place: that is not in them.
-fn finish<T: Tree>(
-    tree: &mut T,
-    names: &DayNames,
-    verified: &Verified,
-) -> Result<Told, TreeFault>
+fn finish<T: Tree>(tree: &mut T, names: &DayNames, verified: &Verified) -> Result<Told, TreeFault>
     requires { AreNames names.now }
     ensures { Goes (T.went tree.old) (T.went tree.new)
         (Keeps names.now Original Records (HavePlaces names.now Original Records) result) }

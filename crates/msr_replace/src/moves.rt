@@ -29,11 +29,7 @@ pub(crate) enum Dress {
 }
 
 /// Waits until a file and its name are on the disk.
-pub(crate) fn settle<T: Tree>(
-    tree: &mut T,
-    names: &DayNames,
-    place: Place,
-) -> Result<(), TreeFault>
+pub(crate) fn settle<T: Tree>(tree: &mut T, names: &DayNames, place: Place) -> Result<(), TreeFault>
     requires { AreNames names.now }
     ensures { Goes (T.went tree.old) (T.went tree.new) (Acts [] (Stores (path_of names.now place)) result) }
 {

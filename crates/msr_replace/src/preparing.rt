@@ -70,7 +70,11 @@ fn is_dressed<T: Tree>(
 ) -> Result<bool, TreeFault>
     ensures { Goes (T.went tree.old) (T.went tree.new) (Acts [] Anything result) }
 {
-    match tree.dress(names.at(Place::DayPart), &verified.file, Some(verified.file.changed)) {
+    match tree.dress(
+        names.at(Place::DayPart),
+        &verified.file,
+        Some(verified.file.changed),
+    ) {
         Ok(()) => Ok(true),
         Err(TreeFault::Failed) => Ok(false),
         Err(TreeFault::Memory) => Err(TreeFault::Memory),

@@ -1,12 +1,8 @@
-use Rattle.std.proofs.Common.{[], Bool, Option, Some, None, true, false, ◌≡◌, ◌∷◌, ◌∙◌, refl, sym, subst}
+use Rattle.std.proofs.Common.{[], Bool, Option, ◌∷◌, ◌∙◌}
 use Rattle.std.proofs.lemmas.Result.{err_from_is_err_and}
-use Rattle.msr_tree.specs.declared.facts.Facts.{Facts}
-use Rattle.msr_tree.specs.Acts.{Acts}
-use Rattle.msr_tree.specs.Calls.{Goes, IsSameAs, Looks}
-use Rattle.msr_tree.specs.Steps.{ChangesOnly, Removed, seen}
-use Rattle.msr_tree.proofs.Acting.{giving, goes_folders, goes_more, goes_same, goes_step, goes_tells, goes_within, stopped_as, then_given, then_ok, then_stopped, told_as}
-use Rattle.msr_tree.proofs.Changes.{ready_kept, seen_kept}
-use Rattle.msr_replace.specs.Moves.{Anything, IsSeenAs, KeepsAs, Names, NamesIfNone, Prepares, Stores}
+use Rattle.msr_tree.proofs.Acting.{goes_folders, goes_within, stopped_as, then_given, told_as}
+use Rattle.msr_tree.proofs.Changes.{seen_kept}
+use Rattle.msr_replace.specs.Moves.{KeepsAs}
 use Rattle.msr_replace.specs.Names.{path_of}
 use Rattle.msr_replace.specs.declared.moves.Hindrance.{Hindrance}
 use Rattle.msr_replace.specs.declared.names.Place.TheVariants.{Day}

@@ -1,4 +1,4 @@
-use Rattle.std.proofs.Common.{[], ◌≡◌, ◌∷◌, refl, sym, subst}
+use Rattle.std.proofs.Common.{[], ◌≡◌, ◌∷◌, refl, subst}
 use Rattle.std.proofs.lemmas.Result.{err_from_is_err_and}
 use Rattle.msr_tree.specs.Steps.{FileStored, FolderStored}
 use Rattle.msr_tree.proofs.Acting.{goes_does, stopped_as, then_given}

@@ -1,8 +1,7 @@
-use Rattle.std.proofs.Common.{[], ◌≡◌, ◌∷◌, refl}
+use Rattle.std.proofs.Common.{◌≡◌, refl}
 use Rattle.std.proofs.lemmas.Result.{err_from_is_err_and}
 use Rattle.msr_tree.specs.Steps.{FolderStored, Renamed}
-use Rattle.msr_replace.specs.Names.{folder_at, path_of}
-use Rattle.msr_replace.specs.declared.names.Place.TheVariants.{Day, DayPart}
+use Rattle.msr_replace.specs.declared.names.Place.TheVariants.{Day}
 use Rattle.msr_replace.proofs.Moved.{took_place, took_stopped}
 use Rattle.msr_replace.proofs.moves.take_place.Goals as goal
 

@@ -1,17 +1,10 @@
-use Rattle.std.proofs.Common.{[], ℕ, List, Bool, Option, Some, None, Ok, Err, true, false, ◌≡◌, ◌∷◌, ◌∙◌, refl, sym, subst, ap}
+use Rattle.std.proofs.Common.{[], ℕ, List, Bool, Some, ◌≡◌, ◌∷◌, ◌∙◌, refl, sym, subst}
 use Rattle.std.proofs.lemmas.Result.{err_from_is_err_and}
-use Rattle.msr_tree.specs.declared.facts.Facts.{Facts}
-use Rattle.msr_tree.specs.declared.tree.TreeFault.TheVariants as fault
-use Rattle.msr_tree.specs.Acts.{Acts}
-use Rattle.msr_tree.specs.Calls.{Goes, Looks}
-use Rattle.msr_tree.specs.Steps.{ChangesOnly, FileStored, IsReady, Path, Removed, Step, seen}
-use Rattle.msr_tree.proofs.Acting.{giving, goes_copied, goes_more, goes_step, goes_tells, goes_within, stopped_as, stopping, then_given, then_ok, then_stopped, told_as}
-use Rattle.msr_tree.proofs.Changes.{ready_kept, ready_stored, seen_kept}
-use Rattle.msr_replace.specs.Moves.{Anything, Prepares, PreparesIf, PreparesIfNone}
-use Rattle.msr_replace.specs.Names.{path_of}
-use Rattle.msr_replace.proofs.Moved.{copied_seen, copied_stored}
-use Rattle.msr_replace.specs.declared.told.GivenUp.{GivenUp}
-use Rattle.msr_replace.specs.declared.names.Place.TheVariants.{Day, DayPart, Note, Original, Records}
+use Rattle.msr_tree.specs.Steps.{FileStored, IsReady, Path, Step, seen}
+use Rattle.msr_tree.proofs.Acting.{goes_copied, goes_more, goes_step, goes_within, stopped_as, then_ok, then_stopped}
+use Rattle.msr_tree.proofs.Changes.{ready_stored, seen_kept}
+use Rattle.msr_replace.specs.Moves.{Anything, PreparesIf}
+use Rattle.msr_replace.proofs.Moved.{copied_seen}
 use Rattle.msr_replace.proofs.preparing.dress_records.Goals as goal
 
 -- what is seen under one name is seen under the other
