@@ -2,7 +2,10 @@
 #![tactic(auto)]
 
 mod facts;
+pub(crate) mod memory;
+mod paths;
 mod tree;
 
 pub use facts::{Facts, Kind, Rights, Time};
+pub use memory::{Choices, Ending, Failure, MemoryReader, MemoryTree};
 pub use tree::{Tree, TreeFault};

@@ -3,9 +3,11 @@ ghost use Rattle.std.specs.Prelude.{◌≡◌, List, IfOk};
 ghost use Rattle.msr_devices.specs.Device.{CanCountCall};
 ghost use Rattle.msr_tree.specs.Calls.{Copies, Does, Goes, IsSameAs, Looks, MakesFolders, Opens, RenamesNew, Tells};
 ghost use Rattle.msr_tree.specs.Steps.{FileStored, FolderStored, Removed, Renamed, Step};
+ghost use Rattle.msr_tree.specs.declared.tree.TreeFault.TheVariants.{Memory};
 
 use crate::facts::{Facts, Time};
 use msr_devices::Source;
+use std::alloc::AllocError;
 use thiserror::Error;
 
 /// Why a call has not done what it was to do.
@@ -16,6 +18,14 @@ pub enum TreeFault {
     /// The system refused it.
     #[error("the file system failed")]
     Failed,
+}
+
+impl From<AllocError> for TreeFault {
+    ghost from_gives = { λ _ fault. fault ≡ Memory };
+
+    fn from(_: AllocError) -> TreeFault {
+        TreeFault::Memory
+    }
 }
 
 /// The names of a file system. Nobody else changes what they lead to. A call that fails has done its step or not.
