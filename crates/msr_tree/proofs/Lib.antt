@@ -4,3 +4,4 @@ pub mod Crash
 pub mod Deeds
 pub mod FolderLemmas
 pub mod Moments
+pub mod Unknown

@@ -4,8 +4,10 @@
 mod facts;
 pub(crate) mod memory;
 mod paths;
+mod system;
 mod tree;
 
 pub use facts::{Facts, Kind, Rights, Time};
 pub use memory::{Choices, Ending, Failure, MemoryReader, MemoryTree};
+pub use system::SystemTree;
 pub use tree::{Tree, TreeFault};
