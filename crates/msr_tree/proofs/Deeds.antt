@@ -92,19 +92,23 @@ pub sees_given : (step : Step) (past rest old new : List Step) (to name : Path) 
 sees_given step past rest old new to name given left sees = elim (cases_Bool (bytes_eq name to)) [
   | inl is ↦
       let same = (bytes_eq-Decides name to).0 is in
-      record { so_far = ⊎_elim
-        (λ may. inl (subst (λ n. MayLeave past n (seen new n)) (sym same) may))
-        (λ kept. ⊎_elim
-          (λ may. inl (subst (λ l. MayLeave past name (seen l name)) (sym kept.0) may))
-          (λ none. inr (ap (λ l. seen l name) kept.0 ∙ none.0, λ _. subst (λ n. MayLeave past n None) (sym same) kept.1))
-          sees.so_far)
-        left.left }
+      record {
+        so_far = ⊎_elim
+            (λ may. inl (subst (λ n. MayLeave past n (seen new n)) (sym same) may))
+            (λ kept. ⊎_elim
+            (λ may. inl (subst (λ l. MayLeave past name (seen l name)) (sym kept.0) may))
+            (λ none. inr (ap (λ l. seen l name) kept.0 ∙ none.0, λ _. subst (λ n. MayLeave past n None) (sym same) kept.1))
+            sees.so_far)
+            left.left;
+      }
   | inr not ↦
       let stays = left.others name not in
-      record { so_far = ⊎_elim
-        (λ may. inl (subst (λ s. MayLeave past name s) (sym stays) may))
-        (λ none. inr (stays ∙ none.0, λ gone. none.1 (without step rest name (subst (λ t. MatchOption t ⊤ (λ to. bytes_eq name to ≡ false)) (sym given) not) gone)))
-        sees.so_far }
+      record {
+        so_far = ⊎_elim
+            (λ may. inl (subst (λ s. MayLeave past name s) (sym stays) may))
+            (λ none. inr (stays ∙ none.0, λ gone. none.1 (without step rest name (subst (λ t. MatchOption t ⊤ (λ to. bytes_eq name to ≡ false)) (sym given) not) gone)))
+            sees.so_far;
+      }
 ]
 
 -- a folder is made, or its making fails

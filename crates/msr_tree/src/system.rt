@@ -108,7 +108,9 @@ impl<'a, R: Files> SystemTree<'a, R> {
     ) -> Result<(), TreeFault> {
         let count = io::copy(source, target)?;
         let after = facts_of(&source.metadata()?);
-        let is_whole = count == facts.bytes && after.bytes == count && after.changed == facts.changed;
+        let is_whole = count == facts.bytes
+            && after.bytes == count
+            && after.changed == facts.changed;
         if !is_whole || target.metadata()?.len() != count {
             return Err(TreeFault::Failed);
         }
@@ -121,7 +123,11 @@ impl<'a, R: Files> SystemTree<'a, R> {
     fn keep(&self, facts: &Facts, target: &R::File, to: &str) {
         let rights = facts.rights;
         let is_owned = lchown(self.rt, to, Some(rights.owner), Some(rights.group)).is_ok();
-        let mode = if is_owned { rights.mode } else { rights.mode & 0o777 };
+        let mode = if is_owned {
+            rights.mode
+        } else {
+            rights.mode & 0o777
+        };
         let _ = target.set_permissions(Permissions::from_mode(mode));
         if let Some(time) = system_time(facts.changed) {
             let _ = target.set_times(FileTimes::new().set_modified(time));

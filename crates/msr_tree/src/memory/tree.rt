@@ -31,9 +31,19 @@ const FOLDER: Facts = Facts {
     device: 0,
     number: 0,
     bytes: 0,
-    changed: Time { seconds: 0, nanoseconds: 0 },
-    touched: Time { seconds: 0, nanoseconds: 0 },
-    rights: Rights { owner: 0, group: 0, mode: 0o755 },
+    changed: Time {
+        seconds: 0,
+        nanoseconds: 0,
+    },
+    touched: Time {
+        seconds: 0,
+        nanoseconds: 0,
+    },
+    rights: Rights {
+        owner: 0,
+        group: 0,
+        mode: 0o755,
+    },
 };
 
 /// Files in memory.
@@ -142,7 +152,11 @@ impl MemoryTree {
             Some(call) => Some(Failure { call, ..failure }),
             None => None,
         };
-        if failure.call == 0 { Some(failure.ending) } else { None }
+        if failure.call == 0 {
+            Some(failure.ending)
+        } else {
+            None
+        }
     }
 
     /// Does a step, or what is done of it by a call that ends so.
@@ -192,7 +206,12 @@ impl MemoryTree {
     }
 
     /// Makes what a crash leaves under a name.
-    fn leave(&self, name: &str, choices: &mut Choices, after: &mut MemoryTree) -> Result<(), TreeFault>
+    fn leave(
+        &self,
+        name: &str,
+        choices: &mut Choices,
+        after: &mut MemoryTree,
+    ) -> Result<(), TreeFault>
         ensures left { OnOk result (LeavesName name.now self.now after.old after.new) }
         ensures err { IfErr result (λ fault. fault ≡ Memory) }
     {
@@ -223,9 +242,20 @@ impl MemoryTree {
     fn facts_of(&self, file: Found<'_>) -> Facts
         ensures { result.kind ≡ Regular }
     {
-        let dress = self.dresses.iter().rev().find(|dress| dress.made == file.made);
-        let time = Time { seconds: i64::try_from(file.made).unwrap_or(i64::MAX), nanoseconds: 0 };
-        let rights = Rights { owner: 0, group: 0, mode: 0o644 };
+        let dress = self
+            .dresses
+            .iter()
+            .rev()
+            .find(|dress| dress.made == file.made);
+        let time = Time {
+            seconds: i64::try_from(file.made).unwrap_or(i64::MAX),
+            nanoseconds: 0,
+        };
+        let rights = Rights {
+            owner: 0,
+            group: 0,
+            mode: 0o644,
+        };
         Facts {
             kind: Kind::Regular,
             device: 0,
