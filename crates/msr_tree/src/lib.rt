@@ -8,6 +8,6 @@ mod system;
 mod tree;
 
 pub use facts::{Facts, Kind, Rights, Time};
-pub use memory::{Choices, Ending, Failure, MemoryReader, MemoryTree};
-pub use system::SystemTree;
+pub use memory::{Choices, Ending, Failure, MemoryReader, MemoryTree, MemoryWriter};
+pub use system::{SystemTree, SystemWriter};
 pub use tree::{Tree, TreeFault};

@@ -7,8 +7,10 @@ pub(crate) mod deeds;
 mod failure;
 mod reader;
 mod tree;
+mod writer;
 
 pub use choices::Choices;
 pub use failure::{Ending, Failure};
 pub use reader::MemoryReader;
 pub use tree::MemoryTree;
+pub use writer::MemoryWriter;

@@ -4,13 +4,15 @@ ghost use Rattle.std.specs.Prelude.{◌≡◌};
 
 mod bytes;
 mod facts;
+mod writer;
 
 use crate::facts::{Facts, Kind, Time};
 use crate::paths::{folder_of, is_within};
 use crate::system::bytes::has_same_bytes;
 use crate::system::facts::{RIGHTS, facts_of, system_time};
+pub use crate::system::writer::SystemWriter;
 use crate::tree::{Tree, TreeFault};
-use msr_devices::{DeviceFault, FromRead};
+use msr_devices::{DeviceFault, FromRead, FromWrite};
 use std::alloc::Global;
 use std::fs::{File, FileTimes, OpenFile, OpenOptions, Permissions};
 use std::io::ErrorKind;
@@ -187,6 +189,8 @@ fn is_one_file(one: &Facts, other: &Facts) -> bool {
 impl<'a, R: Files> Tree for SystemTree<'a, R> {
     type Reader = FromRead<R::File>;
 
+    type Writer = SystemWriter<R::File>;
+
     // No memory has its steps.
     ghost went = { λ _ _. ⊥ };
 
@@ -197,6 +201,23 @@ impl<'a, R: Files> Tree for SystemTree<'a, R> {
     fn open(&mut self, path: &str) -> Result<FromRead<R::File>, TreeFault> {
         let (file, _) = self.regular(path)?;
         Ok(FromRead::new(file))
+    }
+
+    fn make(&mut self, path: &str) -> Result<SystemWriter<R::File>, TreeFault> {
+        let path = String::from_str(self.alloc, path)?;
+        let file = File::create_new(self.rt, path.as_str())?;
+        Ok(SystemWriter {
+            path,
+            sink: FromWrite::new(file),
+        })
+    }
+
+    fn finish(&mut self, path: &str, writer: SystemWriter<R::File>) -> Result<(), TreeFault> {
+        if writer.path.as_str() == path {
+            Ok(())
+        } else {
+            Err(TreeFault::Failed)
+        }
     }
 
     fn is_same(&mut self, one: &str, other: &str) -> Result<bool, TreeFault> {

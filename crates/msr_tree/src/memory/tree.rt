@@ -12,6 +12,7 @@ use crate::memory::deed::Deed;
 use crate::memory::deeds::{Found, find};
 use crate::memory::failure::{Ending, Failure};
 use crate::memory::reader::MemoryReader;
+use crate::memory::writer::MemoryWriter;
 use crate::paths::{folder_of, is_within};
 use crate::tree::{Tree, TreeFault};
 use std::alloc::Global;
@@ -293,6 +294,8 @@ impl MemoryTree {
 impl Tree for MemoryTree {
     type Reader = MemoryReader;
 
+    type Writer = MemoryWriter;
+
     ghost went = { λ tree past. past ≡ tree };
 
     fn look(&mut self, path: &str) -> Result<Option<Facts>, TreeFault> {
@@ -310,6 +313,24 @@ impl Tree for MemoryTree {
             Some(bytes) => Ok(MemoryReader::new(Vec::from_slice(self.alloc, bytes)?)),
             None => Err(self.refuse()),
         }
+    }
+
+    fn make(&mut self, path: &str) -> Result<MemoryWriter, TreeFault> {
+        let writer = MemoryWriter::new(self.alloc, self.own(path)?);
+        let made = Deed::Made(self.own(path)?, Vec::new(self.alloc));
+        if self.seen(path).is_some() {
+            return Err(self.refuse());
+        }
+        self.does(made)?;
+        Ok(writer)
+    }
+
+    fn finish(&mut self, path: &str, writer: MemoryWriter) -> Result<(), TreeFault> {
+        let own = self.own(path)?;
+        if writer.path.as_str() != path {
+            return Err(self.refuse());
+        }
+        self.does(Deed::Made(own, writer.into_bytes()))
     }
 
     fn is_same(&mut self, one: &str, other: &str) -> Result<bool, TreeFault> {
@@ -348,7 +369,8 @@ impl Tree for MemoryTree {
         if self.seen(from).is_none() {
             return Err(self.refuse());
         }
-        if self.seen(to).is_some() {
+        let is_taken = self.seen(to).is_some();
+        if is_taken {
             return Ok(false);
         }
         match self.next_ending() {
