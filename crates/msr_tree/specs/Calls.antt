@@ -44,7 +44,7 @@ Copies from to (Err why) old new = Stops why (PerhapsCopied from to old) old new
 
 -- a file gets a name that none has, or it is told that one has it
 abbrev pub RenamesNew : (from to : Path) → Result Bool TreeFault → (old new : List Step) → Type 0
-RenamesNew from to (Ok true) old new = new ≡ Renamed from to ∷ old
+RenamesNew from to (Ok true) old new = (now old to ≡ None) × (new ≡ Renamed from to ∷ old)
 RenamesNew from to (Ok false) old new = new ≡ old
 RenamesNew from to (Err why) old new =
     Stops why (λ left. PerhapsDone (Renamed from to) old left ⊎ (left ≡ Linked from to ∷ old)) old new
