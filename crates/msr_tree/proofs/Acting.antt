@@ -194,9 +194,9 @@ IfRenamed from to old new false = new ≡ old
 
 acts_renames : (names : List Path) (from to : Path) (result : Result Bool TreeFault) (old new : List Step) → Within names (Renamed from to) → Within names (Linked from to) → RenamesNew from to result old new → Acts names (IfRenamed from to) result old new
 acts_renames names from to (Ok true) old new within linked renames = record {
-  changes = subst (λ l. ChangesOnly names old l) (sym renames) (changes_step names (Renamed from to) old within);
+  changes = subst (λ l. ChangesOnly names old l) (sym renames.1) (changes_step names (Renamed from to) old within);
   cause = λ is. cc;
-  does = renames;
+  does = renames.1;
 }
 acts_renames names from to (Ok false) old new within linked renames = record {
   changes = subst (λ l. ChangesOnly names old l) (sym renames) (changes_none names old);

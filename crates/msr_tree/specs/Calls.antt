@@ -44,7 +44,7 @@ Copies from to (Err why) old new = Stops why (PerhapsCopied from to old) old new
 
 -- a file gets a name that none has, or it is told that one has it
 abbrev pub RenamesNew : (from to : Path) → Result Bool TreeFault → (old new : List Step) → Type 0
-RenamesNew from to (Ok true) old new = new ≡ Renamed from to ∷ old
+RenamesNew from to (Ok true) old new = (now old to ≡ None) × (new ≡ Renamed from to ∷ old)
 RenamesNew from to (Ok false) old new = new ≡ old
 RenamesNew from to (Err why) old new =
     Stops why (λ left. PerhapsDone (Renamed from to) old left ⊎ (left ≡ Linked from to ∷ old)) old new
@@ -79,3 +79,13 @@ pub record IsSameAs (one other : Path) (past : List Step) (same : Bool) : Type 0
 -- what can be read is what the name leads to
 abbrev pub Opens : Path → List Step → Device → Type 0
 Opens path past device = (bytes : List ℕ) × (seen past path ≡ Some bytes) × (device ≡ unused (Some bytes))
+
+-- a file is begun under a name that none has; it has no bytes
+abbrev pub Begins : {T : Type 0} → Path → (T → Device) → Result T TreeFault → (old new : List Step) → Type 0
+Begins path device (Ok writer) old new = (now old path ≡ None) × (new ≡ Made path [] ∷ old) × (device writer ≡ unused (Some []))
+Begins path device (Err why) old new = Stops why (PerhapsDone (Made path []) old) old new
+
+-- it gets the bytes that its writer took
+abbrev pub Finishes : {T : Type 0} → Path → Device → Result T TreeFault → (old new : List Step) → Type 0
+Finishes path device (Ok x) old new = (bytes : List ℕ) × (device.bytes ≡ Some bytes) × (new ≡ Made path bytes ∷ old)
+Finishes path device (Err why) old new = Stops why (λ left. (bytes : List ℕ) × PerhapsDone (Made path bytes) old left) old new

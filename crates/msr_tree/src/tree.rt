@@ -1,11 +1,13 @@
 //! What is done with names.
 ghost use Rattle.std.specs.Prelude.{◌≡◌, List, IfOk};
 ghost use Rattle.msr_devices.specs.Device.{CanCountCall};
-ghost use Rattle.msr_tree.specs.Calls.{Copies, Does, Goes, IsSameAs, Looks, MakesFolders, Opens, RenamesNew, Tells};
+ghost use Rattle.msr_tree.specs.Calls.{Begins, Copies, Does, Finishes, Goes, IsSameAs, Looks, MakesFolders, Opens, RenamesNew, Tells};
 ghost use Rattle.msr_tree.specs.Steps.{FileStored, FolderStored, Removed, Renamed, Step};
+ghost use Rattle.msr_tree.specs.declared.tree.TreeFault.TheVariants.{Memory};
 
 use crate::facts::{Facts, Time};
-use msr_devices::Source;
+use msr_devices::{Sink, Source};
+use std::alloc::AllocError;
 use thiserror::Error;
 
 /// Why a call has not done what it was to do.
@@ -18,10 +20,21 @@ pub enum TreeFault {
     Failed,
 }
 
+impl From<AllocError> for TreeFault {
+    ghost from_gives = { λ _ fault. fault ≡ Memory };
+
+    fn from(_: AllocError) -> TreeFault {
+        TreeFault::Memory
+    }
+}
+
 /// The names of a file system. Nobody else changes what they lead to. A call that fails has done its step or not.
 pub trait Tree {
     /// An open file to be read.
     type Reader: Source;
+
+    /// A file that is being made.
+    type Writer: Sink;
 
     /// The steps so far may be these, the last one first. A tree of which no steps are known may have none.
     ghost went: { Self → List Step → Type 0 };
@@ -35,6 +48,16 @@ pub trait Tree {
         ensures went { Goes (went self.old) (went self.new)
             (Tells (λ past reader. Opens path.now past (Self.Reader.device reader)) result) }
         ensures count { IfOk result (λ reader. CanCountCall (Self.Reader.device reader)) };
+
+    /// Makes a file under a name that nothing has. Until it is finished it has any bytes.
+    fn make(&mut self, path: &str) -> Result<Self::Writer, TreeFault>
+        ensures went { Goes (went self.old) (went self.new)
+            (Begins path.now (λ writer. Self.Writer.device writer) result) }
+        ensures count { IfOk result (λ writer. CanCountCall (Self.Writer.device writer)) };
+
+    /// Ends the making of the file of that name: it has the bytes that its writer took.
+    fn finish(&mut self, path: &str, writer: Self::Writer) -> Result<(), TreeFault>
+        ensures { Goes (went self.old) (went self.new) (Finishes path.now (Self.Writer.device writer) result) };
 
     /// Whether two regular files have the same bytes.
     fn is_same(&mut self, one: &str, other: &str) -> Result<bool, TreeFault>
