@@ -1,0 +1,4 @@
+pub mod Moves
+pub mod Names
+pub mod Phases
+pub mod Promise

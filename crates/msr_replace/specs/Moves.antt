@@ -1,0 +1,48 @@
+-- What is done with the names of a day.
+use Rattle.std.specs.Prelude.{◌≡◌, ◌⊎◌, ℕ, Bool, true, List, [], ◌∷◌, Option, None, Some, Result}
+use Rattle.msr_tree.specs.Acts.{Acts}
+use Rattle.msr_tree.specs.Steps.{AtEachMoment, IsReady, Leaves, MayLeave, Path, Step, seen}
+use Rattle.msr_tree.specs.declared.tree.TreeFault.{TreeFault}
+
+-- the bytes that are seen under a name are left by each crash
+abbrev pub Stores : Path → {T : Type 0} → (old new : List Step) → T → Type 0
+Stores name old new answer = (bytes : List ℕ) → seen old name ≡ Some bytes → Leaves new name (Some bytes)
+
+-- the bytes that are seen under one name are ready under another
+abbrev pub Prepares : (from to : Path) → {T : Type 0} → (old new : List Step) → T → Type 0
+Prepares from to old new answer = (bytes : List ℕ) → seen old from ≡ Some bytes → IsReady to bytes new
+
+abbrev pub PreparesIf : (from to : Path) → (old new : List Step) → Bool → Type 0
+PreparesIf from to old new answer = answer ≡ true → (bytes : List ℕ) → seen old from ≡ Some bytes → IsReady to bytes new
+
+abbrev pub PreparesIfNone : (from to : Path) → {R : Type 0} → (old new : List Step) → Option R → Type 0
+PreparesIfNone from to old new answer = answer ≡ None → (bytes : List ℕ) → seen old from ≡ Some bytes → IsReady to bytes new
+
+-- if this is the answer, what was ready under one name is left by each crash under the other
+abbrev pub Names : (from to : Path) → (old new : List Step) → Bool → Type 0
+Names from to old new answer = answer ≡ true → (bytes : List ℕ) → IsReady from bytes old → Leaves new to (Some bytes)
+
+-- if nothing is told that speaks against it, the bytes that are seen under one name are left by each crash under another
+abbrev pub KeepsAs : (from to : Path) → {R : Type 0} → (old new : List Step) → Option R → Type 0
+KeepsAs from to old new answer = answer ≡ None → (bytes : List ℕ) → seen old from ≡ Some bytes → Leaves new to (Some bytes)
+
+abbrev pub NamesIfNone : (from to : Path) → {R : Type 0} → (old new : List Step) → Option R → Type 0
+NamesIfNone from to old new answer = answer ≡ None → (bytes : List ℕ) → IsReady from bytes old → Leaves new to (Some bytes)
+
+-- if this is the answer, the same bytes are seen under both names
+abbrev pub IsSeenAs : (one other : Path) → (old new : List Step) → Bool → Type 0
+IsSeenAs one other old new answer = answer ≡ true → seen old one ≡ seen old other
+
+-- nothing is known
+abbrev pub Anything : {T : Type 0} → (old new : List Step) → T → Type 0
+Anything old new answer = Unit {0}
+
+-- each crash leaves one or the other under a name
+abbrev pub LeavesEither : Path → (one other : Option (List ℕ)) → List Step → Type 0
+LeavesEither name one other past = (after : Option (List ℕ)) → MayLeave past name after → (after ≡ one) ⊎ (after ≡ other)
+
+-- What is ready under one name gets another in place of what has it: at each moment a crash leaves the one or the other.
+pub record Takes {T : Type 0} (from to : Path) (result : Result T TreeFault) (old new : List Step) : Type 0 where
+  pub acts : Acts (to ∷ from ∷ []) (λ sooner later _. (bytes : List ℕ) → IsReady from bytes sooner → Leaves later to (Some bytes)) result old new
+  pub moments : (before : Option (List ℕ)) (bytes : List ℕ) → Leaves old to before → IsReady from bytes old
+      → AtEachMoment (LeavesEither to before (Some bytes)) old new

@@ -1,0 +1,14 @@
+//! Records of a day take the place of its file, which is set aside, and the way back. Nothing is lost at any moment.
+#![tactic(auto)]
+
+mod exchange;
+mod moves;
+mod names;
+mod preparing;
+mod told;
+
+pub use exchange::replace_day;
+pub use moves::Hindrance;
+pub use names::{DayNames, Place};
+pub use preparing::Verified;
+pub use told::{Refusal, Told};

@@ -1,0 +1,135 @@
+//! What stands ready beside the day's name, and what goes when a day is given up.
+ghost use Rattle.std.specs.Prelude.{[], ◌∷◌};
+ghost use Rattle.msr_tree.specs.Acts.{Acts};
+ghost use Rattle.msr_tree.specs.Calls.{Goes};
+ghost use Rattle.msr_replace.specs.Moves.{Anything, PreparesIf, PreparesIfNone};
+ghost use Rattle.msr_replace.specs.Names.{path_of};
+ghost use Rattle.msr_replace.specs.declared.names.Place.TheVariants.{DayPart, Note, Original, Records};
+
+use crate::names::{DayNames, Place};
+use crate::told::GivenUp;
+use msr_tree::{Facts, Kind, Tree, TreeFault};
+
+/// What the day's file and its records were before they were verified.
+#[derive(Clone, Copy)]
+pub struct Verified {
+    pub file: Facts,
+    pub records: Facts,
+}
+
+/// Whether it is the same regular file as before, with the same size and time of last change.
+fn is_still(now: Option<Facts>, before: &Facts) -> bool {
+    match now {
+        Some(now) => {
+            let is_one = now.device == before.device && now.number == before.number;
+            let is_unchanged = now.bytes == before.bytes && now.changed == before.changed;
+            now.kind == Kind::Regular && is_one && is_unchanged
+        }
+        None => false,
+    }
+}
+
+/// Whether file and records are those that were verified.
+pub(crate) fn are_still<T: Tree>(
+    tree: &mut T,
+    names: &DayNames,
+    verified: &Verified,
+) -> Result<bool, TreeFault>
+    ensures { Goes (T.went tree.old) (T.went tree.new) (Acts [] Anything result) }
+{
+    let file = tree.look(names.at(Place::Day))?;
+    let records = tree.look(names.at(Place::Records))?;
+    Ok(is_still(file, &verified.file) & is_still(records, &verified.records))
+}
+
+/// Whether the original was written to since it was verified: it has another size or time.
+pub(crate) fn was_written<T: Tree>(
+    tree: &mut T,
+    names: &DayNames,
+    verified: &Verified,
+) -> Result<bool, TreeFault>
+    ensures { Goes (T.went tree.old) (T.went tree.new) (Acts [] Anything result) }
+{
+    let original = tree.look(names.at(Place::Original))?;
+    Ok(!is_alike(original, &verified.file))
+}
+
+/// Whether a file has that size and time.
+fn is_alike(now: Option<Facts>, before: &Facts) -> bool {
+    match now {
+        Some(now) => now.bytes == before.bytes && now.changed == before.changed,
+        None => false,
+    }
+}
+
+/// Gives the records beside the day's name its file's owner, group, mode and time; they may not be had.
+fn is_dressed<T: Tree>(
+    tree: &mut T,
+    names: &DayNames,
+    verified: &Verified,
+) -> Result<bool, TreeFault>
+    ensures { Goes (T.went tree.old) (T.went tree.new) (Acts [] Anything result) }
+{
+    match tree.dress(
+        names.at(Place::DayPart),
+        &verified.file,
+        Some(verified.file.changed),
+    ) {
+        Ok(()) => Ok(true),
+        Err(TreeFault::Failed) => Ok(false),
+        Err(TreeFault::Memory) => Err(TreeFault::Memory),
+    }
+}
+
+/// The records stand beside the day's name, on the disk, dressed as its file, or they cannot be.
+fn dress_records<T: Tree>(
+    tree: &mut T,
+    names: &DayNames,
+    verified: &Verified,
+) -> Result<bool, TreeFault>
+    ensures { Goes (T.went tree.old) (T.went tree.new) (Acts (path_of names.now DayPart ∷ [])
+        (PreparesIf (path_of names.now Records) (path_of names.now DayPart)) result) }
+{
+    tree.copy(names.at(Place::Records), names.at(Place::DayPart))?;
+    if !is_dressed(tree, names, verified)? {
+        return Ok(false);
+    }
+    tree.store_file(names.at(Place::DayPart))?;
+    Ok(true)
+}
+
+/// The records are ready to take the place of the day's file, and both are those that were verified; or why not.
+pub(crate) fn prepare_records<T: Tree>(
+    tree: &mut T,
+    names: &DayNames,
+    verified: &Verified,
+) -> Result<Option<GivenUp>, TreeFault>
+    ensures { Goes (T.went tree.old) (T.went tree.new) (Acts (path_of names.now DayPart ∷ [])
+        (PreparesIfNone (path_of names.now Records) (path_of names.now DayPart)) result) }
+{
+    if !dress_records(tree, names, verified)? {
+        return Ok(Some(GivenUp::Undressed));
+    }
+    if !are_still(tree, names, verified)? {
+        return Ok(Some(GivenUp::Changed));
+    }
+    Ok(None)
+}
+
+/// The original in ASIDE goes, and the time that was noted of its records.
+pub(crate) fn forget<T: Tree>(tree: &mut T, names: &DayNames) -> Result<(), TreeFault>
+    ensures { Goes (T.went tree.old) (T.went tree.new)
+        (Acts (path_of names.now Note ∷ path_of names.now Original ∷ []) Anything result) }
+{
+    tree.remove(names.at(Place::Note))?;
+    tree.remove(names.at(Place::Original))
+}
+
+/// What was made of a day goes whose original has its place.
+pub(crate) fn leave<T: Tree>(tree: &mut T, names: &DayNames) -> Result<(), TreeFault>
+    ensures { Goes (T.went tree.old) (T.went tree.new)
+        (Acts (path_of names.now DayPart ∷ path_of names.now Note ∷ path_of names.now Original ∷ []) Anything result) }
+{
+    tree.remove(names.at(Place::DayPart))?;
+    forget(tree, names)
+}

@@ -1,0 +1,129 @@
+-- What a tree in memory does.
+use Rattle.std.proofs.Common.{◌≡◌, ◌⊎◌, inl, inr, ℕ, Bool, true, false, List, [], ◌∷◌, ◌++◌, map, reverse, refl, sym, ◌∙◌, ap, subst, Option, Some, None, option_map, if◌then◌else◌, ⊎_elim, Ok, Err, arith}
+use Rattle.std.specs.Str.{bytes_eq}
+use Rattle.std.specs.Prelude.{MatchOption, ⊤}
+use Rattle.std.proofs.lemmas.Bool.{cases_Bool}
+use Rattle.std.proofs.lemmas.List.{map-append, reverse-append}
+use Rattle.std.proofs.lemmas.Slice.Eq.{bytes_eq-Decides}
+use Rattle.msr_tree.specs.Memory.{LeavesName, settles, step_of, steps_of, target_of}
+use Rattle.msr_tree.specs.Calls.{Goes, MakesFolders, PerhapsDone, Stops}
+use Rattle.msr_tree.specs.declared.tree.TreeFault.{TreeFault}
+use Rattle.msr_tree.specs.declared.tree.TreeFault.TheVariants as fault
+use Rattle.msr_tree.specs.Steps.{Failed, File, FileStored, FolderMade, FolderStored, IfThenElse, IsAtRest, Leaves, Linked, Made, MayLead, MayLeave, Path, Removed, Renamed, Shows, Step, folder_of, now, seen}
+use Rattle.msr_tree.specs.declared.memory.deed.Deed.{Deed}
+use Rattle.msr_tree.proofs.Changes.{ready_settled, ready_stored}
+use Rattle.msr_tree.proofs.Crash.{is_self, leaves_seen, still}
+
+-- what was done last
+pub last_step : (deeds before : List Deed) (deed : Deed) → deeds ≡ before ++ (deed ∷ []) → steps_of deeds ≡ step_of deed ∷ steps_of before
+last_step deeds before deed is = ap steps_of is ∙ (ap reverse (map-append step_of before (deed ∷ [])) ∙ reverse-append (map step_of before) (step_of deed ∷ []))
+
+-- a step that does not store the folder of a name: it may lead where it might before
+pub lead_on : (step : Step) (past : List Step) (name : Path) (found : Option File) → settles step name ≡ false → MayLead past name found → MayLead (step ∷ past) name found
+lead_on (Made at bytes) past name found not may = inl may
+lead_on (Linked from to) past name found not may = inl may
+lead_on (Renamed from to) past name found not may = inl may
+lead_on (Removed at) past name found not may = inl may
+lead_on (FileStored at) past name found not may = inl may
+lead_on (FolderStored at) past name found not may = subst (λ test. IfThenElse test (found ≡ now past name) (MayLead past name found)) (sym not) may
+lead_on (FolderMade at) past name found not may = inl may
+lead_on Failed past name found not may = inl may
+
+-- one more file that is on the disk
+pub one_more_rests : (at : Path) (bytes : List ℕ) (past : List Step) → IsAtRest past → IsAtRest (FolderStored (folder_of at) ∷ FileStored at ∷ Made at bytes ∷ past)
+one_more_rests at bytes past rests name = elim (cases_Bool (bytes_eq name at)) [
+  | inl is ↦
+      let here : Leaves (FolderStored (folder_of at) ∷ FileStored at ∷ Made at bytes ∷ past) at (Some bytes) =
+      ready_settled at (folder_of at) bytes (FileStored at ∷ Made at bytes ∷ past) (is_self (folder_of at))
+      (ready_stored at bytes (Made at bytes ∷ past) (rw (is_self at) refl)) in
+      let shown : seen (Made at bytes ∷ past) name ≡ Some bytes = rw is refl in
+      subst (λ what. Leaves (FolderStored (folder_of at) ∷ FileStored at ∷ Made at bytes ∷ past) name what) (sym shown)
+      (subst (λ n. Leaves (FolderStored (folder_of at) ∷ FileStored at ∷ Made at bytes ∷ past) n (Some bytes)) (sym ((bytes_eq-Decides name at).0 is)) here)
+  | inr not ↦
+      let same : now (Made at bytes ∷ past) name ≡ now past name = rw not refl in
+      subst (λ found. Leaves (FolderStored (folder_of at) ∷ FileStored at ∷ Made at bytes ∷ past) name (option_map (λ file. file.bytes) found)) (sym same)
+      (still (FolderStored (folder_of at)) (FileStored at ∷ Made at bytes ∷ past) name _ refl (still (FileStored at) (Made at bytes ∷ past) name _ refl (still (Made at bytes) past name _ not (rests name))))
+]
+
+-- before the first step
+pub nothing_rests : IsAtRest []
+nothing_rests name after may = subst (λ found. Shows [] found after) may.leads may.shows
+
+-- a tree whose steps are known
+pub known : (R : List Step → List Step → Type 0) (old new : List Step) → R old new → Goes (λ past. past ≡ old) (λ past. past ≡ new) R
+known R old new does = record { from = λ past is. (old, refl, subst (λ p. R old p) (sym is) does) }
+
+-- a name without a file that is not given one stays without
+pub without : (step : Step) (past : List Step) (name : Path) → MatchOption (target_of step) ⊤ (λ to. bytes_eq name to ≡ false) → now past name ≡ None → now (step ∷ past) name ≡ None
+without (Made at bytes) past name not none = rw not none
+without (Linked from to) past name not none = rw not none
+without (Renamed from to) past name not none = rw not (two (bytes_eq name from))
+  where
+    two : (test : Bool) → (if test then None else now past name) ≡ None
+    two true = refl
+    two false = none
+without (Removed at) past name not none = two (bytes_eq name at)
+  where
+    two : (test : Bool) → (if test then None else now past name) ≡ None
+    two true = refl
+    two false = none
+without (FileStored at) past name not none = none
+without (FolderStored at) past name not none = none
+without (FolderMade at) past name not none = none
+without Failed past name not none = none
+
+-- A name after a crash while the names of some steps are still to be given: it is as it may be, or has no file, as it
+-- may be if the steps gave it none.
+pub record Sees (past rest : List Step) (after : List Step) (name : Path) : Type 0 where
+  pub so_far : MayLeave past name (seen after name) ⊎ ((seen after name ≡ None) × (now rest name ≡ None → MayLeave past name None))
+
+pub sees_none : (past : List Step) (name : Path) → Sees past past [] name
+sees_none past name = record { so_far = inr (refl, λ none. subst (λ found. MayLeave past name (option_map (λ file. file.bytes) found)) none (leaves_seen past name)) }
+
+pub sees_all : (past after : List Step) (name : Path) → Sees past [] after name → MayLeave past name (seen after name)
+sees_all past after name sees = ⊎_elim (λ may. may) (λ none. subst (λ s. MayLeave past name s) (sym none.0) (none.1 refl)) sees.so_far
+
+-- a step that gives no name a file
+pub sees_quiet : (step : Step) (past rest after : List Step) (name : Path) → target_of step ≡ None → Sees past (step ∷ rest) after name → Sees past rest after name
+sees_quiet step past rest after name quiet sees = record { so_far = ⊎_elim inl (λ none. inr (none.0, λ gone. none.1 (without step rest name (subst (λ t. MatchOption t ⊤ (λ to. bytes_eq name to ≡ false)) (sym quiet) tt) gone))) sees.so_far }
+
+-- a step that gives a name a file
+pub sees_given : (step : Step) (past rest old new : List Step) (to name : Path) → target_of step ≡ Some to → LeavesName to past old new → Sees past (step ∷ rest) old name → Sees past rest new name
+sees_given step past rest old new to name given left sees = elim (cases_Bool (bytes_eq name to)) [
+  | inl is ↦
+      let same = (bytes_eq-Decides name to).0 is in
+      record {
+        so_far = ⊎_elim
+            (λ may. inl (subst (λ n. MayLeave past n (seen new n)) (sym same) may))
+            (λ kept. ⊎_elim
+            (λ may. inl (subst (λ l. MayLeave past name (seen l name)) (sym kept.0) may))
+            (λ none. inr (ap (λ l. seen l name) kept.0 ∙ none.0, λ _. subst (λ n. MayLeave past n None) (sym same) kept.1))
+            sees.so_far)
+            left.left;
+      }
+  | inr not ↦
+      let stays = left.others name not in
+      record {
+        so_far = ⊎_elim
+            (λ may. inl (subst (λ s. MayLeave past name s) (sym stays) may))
+            (λ none. inr (stays ∙ none.0, λ gone. none.1 (without step rest name (subst (λ t. MatchOption t ⊤ (λ to. bytes_eq name to ≡ false)) (sym given) not) gone)))
+            sees.so_far;
+      }
+]
+
+-- a folder is made, or its making fails
+pub folder_made : (folder : Path) (old new : List Step) (told : Bool) → new ≡ FolderMade folder ∷ old → MakesFolders {T = Bool} (Ok told) old new
+folder_made folder old new told is = record { made = FolderMade folder ∷ []; since = is; are = tt; cause = λ err. cc }
+
+pub folder_in_the_way : (old new : List Step) (told : Bool) → new ≡ old → MakesFolders {T = Bool} (Ok told) old new
+folder_in_the_way old new told is = record { made = []; since = is; are = tt; cause = λ err. cc }
+
+pub folder_stops : (folder : Path) (why : TreeFault) (old new : List Step) → Stops why (PerhapsDone (FolderMade folder) old) old new → MakesFolders {T = Bool} (Err why) old new
+folder_stops folder fault.Memory old new is = record { made = []; since = is; are = tt; cause = λ err. cc }
+folder_stops folder fault.Failed old new stops =
+    ⊎_elim
+    (λ not. let is : new ≡ Failed ∷ old = stops.2 ∙ ap (λ l. Failed ∷ l) not in
+    record { made = Failed ∷ []; since = is; are = tt; cause = λ err. rw is (omega arith) })
+    (λ so. let is : new ≡ Failed ∷ FolderMade folder ∷ old = stops.2 ∙ ap (λ l. Failed ∷ l) so in
+    record { made = Failed ∷ FolderMade folder ∷ []; since = is; are = tt; cause = λ err. rw is (omega arith) })
+    stops.1

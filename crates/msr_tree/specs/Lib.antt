@@ -1,0 +1,4 @@
+pub mod Acts
+pub mod Calls
+pub mod Memory
+pub mod Steps

@@ -1,0 +1,13 @@
+//! Names of files, what is done with them, and what a crash may leave.
+#![tactic(auto)]
+
+mod facts;
+pub(crate) mod memory;
+mod paths;
+mod system;
+mod tree;
+
+pub use facts::{Facts, Kind, Rights, Time};
+pub use memory::{Choices, Ending, Failure, MemoryReader, MemoryTree, MemoryWriter};
+pub use system::{SystemTree, SystemWriter};
+pub use tree::{Tree, TreeFault};

@@ -1,0 +1,427 @@
+//! The tree in memory.
+ghost use Rattle.std.specs.Prelude.{◌≡◌, ◌∷◌, ℕ, List, [], None, string_bytes, option_map, IfErr, IfOk, IsSome, MatchOption, MatchResult, OnOk};
+ghost use Rattle.msr_tree.specs.Calls.{Does, Stops};
+ghost use Rattle.msr_tree.specs.Steps.{Failed, FileStored, FolderStored, IsAtRest, Made, MayLeave, Path, folder_of, now, seen};
+ghost use Rattle.msr_tree.specs.declared.facts.Kind.TheVariants.{Regular};
+ghost use Rattle.msr_tree.specs.declared.tree.TreeFault.TheVariants.{Memory};
+
+use crate::facts::{Facts, Kind, Rights, Time};
+use crate::memory::choices::Choices;
+use crate::memory::crash::left;
+use crate::memory::deed::Deed;
+use crate::memory::deeds::{Found, find};
+use crate::memory::failure::{Ending, Failure};
+use crate::memory::reader::MemoryReader;
+use crate::memory::writer::MemoryWriter;
+use crate::paths::{folder_of, is_within};
+use crate::tree::{Tree, TreeFault};
+use std::alloc::Global;
+use std::marker::Model;
+
+/// Owner, group, mode and time of the file that was made after so many steps.
+#[derive(Clone, Copy)]
+struct Dress {
+    made: usize,
+    rights: Rights,
+    time: Time,
+}
+
+/// What a look tells of a folder.
+const FOLDER: Facts = Facts {
+    kind: Kind::Folder,
+    device: 0,
+    number: 0,
+    bytes: 0,
+    changed: Time {
+        seconds: 0,
+        nanoseconds: 0,
+    },
+    touched: Time {
+        seconds: 0,
+        nanoseconds: 0,
+    },
+    rights: Rights {
+        owner: 0,
+        group: 0,
+        mode: 0o755,
+    },
+};
+
+/// Files in memory.
+#[derive(Drop)]
+pub struct MemoryTree {
+    alloc: Global,
+    deeds: Vec<Deed>,
+    dresses: Vec<Dress>,
+    failure: Option<Failure>,
+}
+
+impl Model for MemoryTree {
+    ghost use Rattle.std.specs.Prelude.{List};
+    ghost use Rattle.msr_tree.specs.Memory.{steps_of};
+    ghost use Rattle.msr_tree.specs.Steps.{Step};
+
+    ghost Value = { List Step };
+
+    ghost view = { λ tree. steps_of tree.deeds.items };
+}
+
+impl MemoryTree {
+    ghost use Rattle.msr_tree.specs.Memory.{LeavesName, step_of};
+
+    /// A tree without files.
+    pub fn new(alloc: Global) -> MemoryTree
+        ensures past { result ≡ [] }
+    {
+        MemoryTree {
+            alloc,
+            deeds: Vec::new(alloc),
+            dresses: Vec::new(alloc),
+            failure: None,
+        }
+    }
+
+    /// Lets a call fail, or none.
+    pub fn fail(&mut self, failure: Option<Failure>)
+        ensures { self.new ≡ self.old }
+    {
+        self.failure = failure;
+    }
+
+    /// The bytes under a name.
+    pub fn seen(&self, name: &str) -> Option<&[u8]>
+        ensures { option_map (λ bytes. bytes.now) result ≡ seen self.now name.now }
+    {
+        match find(self.deeds.as_slice(), name) {
+            Some(file) => Some(file.bytes),
+            None => None,
+        }
+    }
+
+    fn own(&self, path: &str) -> Result<String, TreeFault>
+        ensures { MatchResult result (λ own. string_bytes own ≡ path.now) (λ fault. fault ≡ Memory) }
+    {
+        match String::from_str(self.alloc, path) {
+            Ok(own) => Ok(own),
+            Err(_) => Err(TreeFault::Memory),
+        }
+    }
+
+    /// Notes what was done.
+    fn note(&mut self, deed: Deed) -> Result<(), TreeFault>
+        ensures { MatchResult result (λ _. self.new ≡ step_of deed ∷ self.old)
+            (λ fault. (fault ≡ Memory) × (self.new ≡ self.old)) }
+    {
+        match self.deeds.push(deed) {
+            Ok(()) => Ok(()),
+            Err(_) => Err(TreeFault::Memory),
+        }
+    }
+
+    /// Notes that a call fails that has done nothing.
+    fn refuse(&mut self) -> TreeFault
+        ensures { Stops result (λ left. left ≡ self.old) self.old self.new }
+    {
+        match self.note(Deed::Failed) {
+            Ok(()) => TreeFault::Failed,
+            Err(_) => TreeFault::Memory,
+        }
+    }
+
+    /// Notes what a call has done that fails.
+    fn refuse_after(&mut self, deed: Deed) -> TreeFault
+        ensures { Stops result (λ left. left ≡ step_of deed ∷ self.old) self.old self.new }
+    {
+        if self.note(deed).is_err() {
+            return TreeFault::Memory;
+        }
+        match self.note(Deed::Failed) {
+            Ok(()) => TreeFault::Failed,
+            Err(_) => {
+                self.deeds.pop();
+                TreeFault::Memory
+            }
+        }
+    }
+
+    /// How the next call ends if it is to fail.
+    fn next_ending(&mut self) -> Option<Ending>
+        ensures { self.new ≡ self.old }
+    {
+        let failure = self.failure?;
+        self.failure = match failure.call.checked_sub(1) {
+            Some(call) => Some(Failure { call, ..failure }),
+            None => None,
+        };
+        if failure.call == 0 {
+            Some(failure.ending)
+        } else {
+            None
+        }
+    }
+
+    /// Does a step, or what is done of it by a call that ends so.
+    fn ends(&mut self, ending: Option<Ending>, deed: Deed) -> Result<(), TreeFault>
+        ensures { Does (step_of deed) result self.old self.new }
+    {
+        match ending {
+            None => self.note(deed),
+            Some(Ending::Nothing) => Err(self.refuse()),
+            Some(Ending::Part | Ending::All) => Err(self.refuse_after(deed)),
+        }
+    }
+
+    /// Does a step, unless this call is to fail.
+    fn does(&mut self, deed: Deed) -> Result<(), TreeFault>
+        ensures { Does (step_of deed) result self.old self.new }
+    {
+        let ending = self.next_ending();
+        self.ends(ending, deed)
+    }
+
+    /// Counts a call that only tells something.
+    fn tells(&mut self) -> Result<(), TreeFault>
+        ensures { MatchResult result (λ _. self.new ≡ self.old)
+            (λ fault. Stops fault (λ left. left ≡ self.old) self.old self.new) }
+    {
+        match self.next_ending() {
+            None => Ok(()),
+            Some(_) => Err(self.refuse()),
+        }
+    }
+
+    /// A file that is there at the beginning, on the disk. After an `Err` the tree is of no use.
+    pub fn with(&mut self, name: &str, bytes: &[u8]) -> Result<(), TreeFault>
+        ensures past { OnOk result (self.new
+            ≡ FolderStored (folder_of name.now) ∷ FileStored name.now ∷ Made name.now bytes.now ∷ self.old) }
+        ensures rest { OnOk result (IsAtRest self.old → IsAtRest self.new) }
+        ensures err { IfErr result (λ fault. fault ≡ Memory) }
+    {
+        let made = Deed::Made(self.own(name)?, Vec::from_slice(self.alloc, bytes)?);
+        let file = Deed::FileStored(self.own(name)?);
+        let folder = Deed::FolderStored(self.own(folder_of(name))?);
+        self.note(made)?;
+        self.note(file)?;
+        self.note(folder)?;
+        Ok(())
+    }
+
+    /// Makes what a crash leaves under a name.
+    fn leave(
+        &self,
+        name: &str,
+        choices: &mut Choices,
+        after: &mut MemoryTree,
+    ) -> Result<(), TreeFault>
+        ensures left { OnOk result (LeavesName name.now self.now after.old after.new) }
+        ensures err { IfErr result (λ fault. fault ≡ Memory) }
+    {
+        match left(self.deeds.as_slice(), name, choices) {
+            Some(bytes) => after.with(name, bytes),
+            None => Ok(()),
+        }
+    }
+
+    /// The tree after a crash at this moment.
+    pub fn crash(&self, choices: &mut Choices) -> Result<MemoryTree, TreeFault>
+        ensures rest { IfOk result IsAtRest }
+        ensures left { IfOk result (λ after. (name : Path) → MayLeave self.now name (seen after name)) }
+        ensures err { IfErr result (λ fault. fault ≡ Memory) }
+    {
+        let mut after = MemoryTree::new(self.alloc);
+        let mut rest = self.deeds.as_slice();
+        while let Some((deed, before)) = rest.split_last() {
+            if let Some(name) = deed.target() {
+                self.leave(name, choices, &mut after)?;
+            }
+            rest = before;
+        }
+        Ok(after)
+    }
+
+    /// What a look tells of a file.
+    fn facts_of(&self, file: Found<'_>) -> Facts
+        ensures { result.kind ≡ Regular }
+    {
+        let dress = self
+            .dresses
+            .iter()
+            .rev()
+            .find(|dress| dress.made == file.made);
+        let time = Time {
+            seconds: i64::try_from(file.made).unwrap_or(i64::MAX),
+            nanoseconds: 0,
+        };
+        let rights = Rights {
+            owner: 0,
+            group: 0,
+            mode: 0o644,
+        };
+        Facts {
+            kind: Kind::Regular,
+            device: 0,
+            number: file.made as u64,
+            bytes: file.bytes.len() as u64,
+            changed: dress.map_or(time, |dress| dress.time),
+            touched: time,
+            rights: dress.map_or(rights, |dress| dress.rights),
+        }
+    }
+
+    /// Whether a folder was made, or a name below it got a file.
+    fn is_folder(&self, path: &str) -> bool {
+        self.deeds.iter().any(|deed| match deed {
+            Deed::FolderMade(folder) => is_within(path, folder.as_str()),
+            _ => deed.target().is_some_and(|name| is_within(path, name)),
+        })
+    }
+
+    /// A copy of a file that is cut, if there is the file.
+    fn cut(&self, from: &str, to: &str) -> Result<Option<Deed>, TreeFault>
+        ensures { MatchResult result (λ cut. MatchOption cut (now self.now from.now ≡ None)
+            (λ deed. IsSome (now self.now from.now) × (bytes : List ℕ) × (step_of deed ≡ Made to.now bytes)))
+            (λ fault. fault ≡ Memory) }
+    {
+        let Some(bytes) = self.seen(from) else {
+            return Ok(None);
+        };
+        let half = Vec::from_slice(self.alloc, &bytes[..bytes.len() / 2])?;
+        Ok(Some(Deed::Made(self.own(to)?, half)))
+    }
+}
+
+#[tactic(auto, using(crate::proofs::Deeds::known))]
+impl Tree for MemoryTree {
+    type Reader = MemoryReader;
+
+    type Writer = MemoryWriter;
+
+    ghost went = { λ tree past. past ≡ tree };
+
+    fn look(&mut self, path: &str) -> Result<Option<Facts>, TreeFault> {
+        self.tells()?;
+        match find(self.deeds.as_slice(), path) {
+            Some(file) => Ok(Some(self.facts_of(file))),
+            None if self.is_folder(path) => Ok(Some(FOLDER)),
+            None => Ok(None),
+        }
+    }
+
+    fn open(&mut self, path: &str) -> Result<MemoryReader, TreeFault> {
+        self.tells()?;
+        match self.seen(path) {
+            Some(bytes) => Ok(MemoryReader::new(Vec::from_slice(self.alloc, bytes)?)),
+            None => Err(self.refuse()),
+        }
+    }
+
+    fn make(&mut self, path: &str) -> Result<MemoryWriter, TreeFault> {
+        let writer = MemoryWriter::new(self.alloc, self.own(path)?);
+        let made = Deed::Made(self.own(path)?, Vec::new(self.alloc));
+        if self.seen(path).is_some() {
+            return Err(self.refuse());
+        }
+        self.does(made)?;
+        Ok(writer)
+    }
+
+    fn finish(&mut self, path: &str, writer: MemoryWriter) -> Result<(), TreeFault> {
+        let own = self.own(path)?;
+        if writer.path.as_str() != path {
+            return Err(self.refuse());
+        }
+        self.does(Deed::Made(own, writer.into_bytes()))
+    }
+
+    fn is_same(&mut self, one: &str, other: &str) -> Result<bool, TreeFault> {
+        self.tells()?;
+        match (self.seen(one), self.seen(other)) {
+            (Some(first), Some(second)) => Ok(first == second),
+            _ => Err(self.refuse()),
+        }
+    }
+
+    fn copy(&mut self, from: &str, to: &str) -> Result<(), TreeFault> {
+        let linked = Deed::Linked(self.own(from)?, self.own(to)?);
+        let Some(cut) = self.cut(from, to)? else {
+            return Err(self.refuse());
+        };
+        if self.seen(to).is_some() {
+            return Err(self.refuse());
+        }
+        match self.next_ending() {
+            Some(Ending::Part) => Err(self.refuse_after(cut)),
+            ending => self.ends(ending, linked),
+        }
+    }
+
+    fn rename(&mut self, from: &str, to: &str) -> Result<(), TreeFault> {
+        let renamed = Deed::Renamed(self.own(from)?, self.own(to)?);
+        if self.seen(from).is_none() {
+            return Err(self.refuse());
+        }
+        self.does(renamed)
+    }
+
+    fn rename_new(&mut self, from: &str, to: &str) -> Result<bool, TreeFault> {
+        let linked = Deed::Linked(self.own(from)?, self.own(to)?);
+        let renamed = Deed::Renamed(self.own(from)?, self.own(to)?);
+        if self.seen(from).is_none() {
+            return Err(self.refuse());
+        }
+        let is_taken = self.seen(to).is_some();
+        if is_taken {
+            return Ok(false);
+        }
+        match self.next_ending() {
+            Some(Ending::Part) => Err(self.refuse_after(linked)),
+            ending => {
+                self.ends(ending, renamed)?;
+                Ok(true)
+            }
+        }
+    }
+
+    fn remove(&mut self, path: &str) -> Result<(), TreeFault> {
+        let removed = Deed::Removed(self.own(path)?);
+        self.does(removed)
+    }
+
+    fn store_file(&mut self, path: &str) -> Result<(), TreeFault> {
+        let stored = Deed::FileStored(self.own(path)?);
+        if self.seen(path).is_none() {
+            return Err(self.refuse());
+        }
+        self.does(stored)
+    }
+
+    fn store_folder(&mut self, folder: &str) -> Result<(), TreeFault> {
+        let stored = Deed::FolderStored(self.own(folder)?);
+        self.does(stored)
+    }
+
+    fn make_folders(&mut self, _top: &str, folder: &str) -> Result<bool, TreeFault> {
+        let made = Deed::FolderMade(self.own(folder)?);
+        if self.seen(folder).is_some() {
+            return Ok(false);
+        }
+        self.does(made)?;
+        Ok(true)
+    }
+
+    fn dress(&mut self, path: &str, facts: &Facts, time: Option<Time>) -> Result<(), TreeFault> {
+        self.tells()?;
+        let Some(file) = find(self.deeds.as_slice(), path) else {
+            return Err(self.refuse());
+        };
+        let dress = Dress {
+            made: file.made,
+            rights: facts.rights,
+            time: time.unwrap_or(self.facts_of(file).changed),
+        };
+        match self.dresses.push(dress) {
+            Ok(()) => Ok(()),
+            Err(_) => Err(TreeFault::Memory),
+        }
+    }
+}

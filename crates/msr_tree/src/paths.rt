@@ -1,0 +1,21 @@
+//! The folders of paths.
+ghost use Rattle.std.specs.Prelude.{◌≡◌};
+ghost use Rattle.msr_tree.specs.Steps.{folder_of};
+
+/// The folder of a path, empty if it has no slash.
+pub(crate) fn folder_of(path: &str) -> &str
+    ensures { result.now ≡ folder_of path.now }
+{
+    match path.rsplit_once('/') {
+        Some((folder, _)) => folder,
+        None => "",
+    }
+}
+
+/// Whether a path is a folder's own, or leads through it.
+pub(crate) fn is_within(folder: &str, path: &str) -> bool {
+    match path.strip_prefix(folder) {
+        Some(rest) => rest.is_empty() || rest.starts_with('/'),
+        None => false,
+    }
+}

@@ -1,0 +1,321 @@
+//! The names of the system's files. No contract can say what a file gives, so that each call makes what it notes is read
+//! here, and not proved: README.md, "What is trusted of the system's tree".
+ghost use Rattle.std.specs.Prelude.{◌≡◌};
+
+mod bytes;
+mod facts;
+mod writer;
+
+use crate::facts::{Facts, Kind, Time};
+use crate::paths::{folder_of, is_within};
+use crate::system::bytes::has_same_bytes;
+use crate::system::facts::{RIGHTS, facts_of, system_time};
+pub use crate::system::writer::SystemWriter;
+use crate::tree::{Tree, TreeFault};
+use msr_devices::{DeviceFault, FromRead, FromWrite};
+use std::alloc::Global;
+use std::fs::{File, FileTimes, OpenFile, OpenOptions, Permissions};
+use std::io::ErrorKind;
+use std::os::unix::fs::{OpenOptionsExt, PermissionsExt, lchown};
+use std::rt::Files;
+use std::{fs, io};
+
+impl From<io::Error> for TreeFault {
+    fn from(error: io::Error) -> TreeFault {
+        match error.kind() {
+            ErrorKind::OutOfMemory => TreeFault::Memory,
+            _ => TreeFault::Failed,
+        }
+    }
+}
+
+impl From<DeviceFault> for TreeFault {
+    fn from(fault: DeviceFault) -> TreeFault {
+        match fault {
+            DeviceFault::Failed => TreeFault::Failed,
+            DeviceFault::Memory => TreeFault::Memory,
+        }
+    }
+}
+
+/// The system's files.
+#[derive(Drop)]
+pub struct SystemTree<'a, R: Files> {
+    rt: &'a R,
+    alloc: Global,
+}
+
+impl<'a, R: Files> SystemTree<'a, R> {
+    pub fn new(rt: &'a R, alloc: Global) -> SystemTree<'a, R> {
+        SystemTree { rt, alloc }
+    }
+
+    /// What stands under a name.
+    fn found(&self, path: &str) -> Result<Option<Facts>, TreeFault> {
+        match fs::symlink_metadata(self.rt, path) {
+            Ok(metadata) => Ok(Some(facts_of(&metadata))),
+            Err(error) if tells_none(error.kind()) => Ok(None),
+            Err(error) => Err(error.into()),
+        }
+    }
+
+    /// Opens a regular file, with what is told of it. Nothing else is opened, since opening a pipe waits for somebody who
+    /// writes to it.
+    fn regular(&self, path: &str) -> Result<(R::File, Facts), TreeFault> {
+        let looked = match self.found(path)? {
+            Some(facts) if facts.kind == Kind::Regular => facts,
+            _ => return Err(TreeFault::Failed),
+        };
+        let file = File::open(self.rt, path)?;
+        let opened = facts_of(&file.metadata()?);
+        if is_one_file(&looked, &opened) {
+            Ok((file, opened))
+        } else {
+            Err(TreeFault::Failed)
+        }
+    }
+
+    /// Gives a file another name.
+    fn link(&self, from: &str, to: &str) -> Linked {
+        match fs::hard_link(self.rt, from, to) {
+            Ok(()) => Linked::Done,
+            Err(error) if error.kind() == ErrorKind::AlreadyExists => Linked::HasName,
+            Err(_) => Linked::Refused,
+        }
+    }
+
+    /// Copies a file under a name that nothing has. What is half done is removed.
+    fn copy_bytes(&self, from: &str, to: &str) -> Result<(), TreeFault> {
+        let (mut source, facts) = self.regular(from)?;
+        let mut target = OpenOptions::new()
+            .read(true)
+            .write(true)
+            .create_new(true)
+            .mode(0o600)
+            .open(self.rt, to)?;
+        let copied = self.fill(&mut source, &facts, &mut target, to);
+        if copied.is_err() {
+            let _ = fs::remove_file(self.rt, to);
+        }
+        copied
+    }
+
+    /// Copies a file's bytes, if it does not change meanwhile, with what the system lets it keep, and stores them.
+    fn fill(
+        &self,
+        source: &mut R::File,
+        facts: &Facts,
+        target: &mut R::File,
+        to: &str,
+    ) -> Result<(), TreeFault> {
+        let count = io::copy(source, target)?;
+        let after = facts_of(&source.metadata()?);
+        let is_whole = count == facts.bytes
+            && after.bytes == count
+            && after.changed == facts.changed;
+        if !is_whole || target.metadata()?.len() != count {
+            return Err(TreeFault::Failed);
+        }
+        self.keep(facts, target, to);
+        Ok(target.sync_all()?)
+    }
+
+    /// Gives a copy the owner, group, mode and time of its file, as far as the system lets it. Without the owner it gets
+    /// none of the owner's special rights.
+    fn keep(&self, facts: &Facts, target: &R::File, to: &str) {
+        let rights = facts.rights;
+        let is_owned = lchown(self.rt, to, Some(rights.owner), Some(rights.group)).is_ok();
+        let mode = if is_owned {
+            rights.mode
+        } else {
+            rights.mode & 0o777
+        };
+        let _ = target.set_permissions(Permissions::from_mode(mode));
+        if let Some(time) = system_time(facts.changed) {
+            let _ = target.set_times(FileTimes::new().set_modified(time));
+        }
+    }
+
+    /// Makes a folder, unless there is one, or something else is in the way, as a link to a folder.
+    fn make_folder(&self, path: &str) -> Result<bool, TreeFault> {
+        match fs::create_dir(self.rt, path) {
+            Ok(()) => Ok(true),
+            Err(error) if error.kind() == ErrorKind::AlreadyExists => {
+                let found = self.found(path)?;
+                Ok(found.is_some_and(|facts| facts.kind == Kind::Folder))
+            }
+            Err(error) => Err(error.into()),
+        }
+    }
+
+    /// Makes the folders below another one that lead to a folder, the highest first, unless something is in the way.
+    fn make_below(&self, top: &str, folder: &str) -> Result<bool, TreeFault> {
+        for end in top.len()..folder.len() {
+            if let Some((above, rest)) = folder.split_at_checked(end)
+                && top.len() < end
+                && rest.starts_with('/')
+                && !self.make_folder(above)?
+            {
+                return Ok(false);
+            }
+        }
+        self.make_folder(folder)
+    }
+
+    fn store(&self, folder: &str) -> Result<(), TreeFault> {
+        Ok(File::open(self.rt, folder)?.sync_all()?)
+    }
+}
+
+/// How a file got another name.
+enum Linked {
+    Done,
+    /// Something has the name.
+    HasName,
+    /// The system gives it none.
+    Refused,
+}
+
+/// Whether such an error tells that nothing stands under a name.
+fn tells_none(kind: ErrorKind) -> bool {
+    matches!(kind, ErrorKind::NotFound | ErrorKind::NotADirectory)
+}
+
+fn is_one_file(one: &Facts, other: &Facts) -> bool {
+    one.device == other.device && one.number == other.number
+}
+
+#[tactic(auto, using(crate::proofs::Unknown::unknown))]
+impl<'a, R: Files> Tree for SystemTree<'a, R> {
+    type Reader = FromRead<R::File>;
+
+    type Writer = SystemWriter<R::File>;
+
+    // No memory has its steps.
+    ghost went = { λ _ _. ⊥ };
+
+    fn look(&mut self, path: &str) -> Result<Option<Facts>, TreeFault> {
+        self.found(path)
+    }
+
+    fn open(&mut self, path: &str) -> Result<FromRead<R::File>, TreeFault> {
+        let (file, _) = self.regular(path)?;
+        Ok(FromRead::new(file))
+    }
+
+    fn make(&mut self, path: &str) -> Result<SystemWriter<R::File>, TreeFault> {
+        let path = String::from_str(self.alloc, path)?;
+        let file = File::create_new(self.rt, path.as_str())?;
+        Ok(SystemWriter {
+            path,
+            sink: FromWrite::new(file),
+        })
+    }
+
+    fn finish(&mut self, path: &str, writer: SystemWriter<R::File>) -> Result<(), TreeFault> {
+        if writer.path.as_str() == path {
+            Ok(())
+        } else {
+            Err(TreeFault::Failed)
+        }
+    }
+
+    fn is_same(&mut self, one: &str, other: &str) -> Result<bool, TreeFault> {
+        let (first, first_facts) = self.regular(one)?;
+        let (second, second_facts) = self.regular(other)?;
+        if is_one_file(&first_facts, &second_facts) {
+            return Ok(true);
+        }
+        if first_facts.bytes != second_facts.bytes {
+            return Ok(false);
+        }
+        let mut first = FromRead::new(first);
+        let mut second = FromRead::new(second);
+        Ok(has_same_bytes(self.alloc, &mut first, &mut second)?)
+    }
+
+    fn copy(&mut self, from: &str, to: &str) -> Result<(), TreeFault> {
+        match self.found(from)? {
+            Some(facts) if facts.kind == Kind::Regular => {}
+            _ => return Err(TreeFault::Failed),
+        }
+        match self.link(from, to) {
+            Linked::Done => Ok(()),
+            Linked::HasName => Err(TreeFault::Failed),
+            Linked::Refused => self.copy_bytes(from, to),
+        }
+    }
+
+    fn rename(&mut self, from: &str, to: &str) -> Result<(), TreeFault> {
+        fs::rename(self.rt, from, to)?;
+        // Between two names of one file a rename does nothing.
+        if self.found(from)?.is_some() {
+            fs::remove_file(self.rt, from)?;
+        }
+        Ok(())
+    }
+
+    fn rename_new(&mut self, from: &str, to: &str) -> Result<bool, TreeFault> {
+        match self.link(from, to) {
+            Linked::Done => fs::remove_file(self.rt, from)?,
+            Linked::HasName => return Ok(false),
+            Linked::Refused => {
+                if self.found(to)?.is_some() {
+                    return Ok(false);
+                }
+                fs::rename(self.rt, from, to)?;
+            }
+        }
+        Ok(true)
+    }
+
+    fn remove(&mut self, path: &str) -> Result<(), TreeFault> {
+        match fs::remove_file(self.rt, path) {
+            Ok(()) => Ok(()),
+            Err(error) if tells_none(error.kind()) => Ok(()),
+            Err(error) => Err(error.into()),
+        }
+    }
+
+    fn store_file(&mut self, path: &str) -> Result<(), TreeFault> {
+        let (file, _) = self.regular(path)?;
+        Ok(file.sync_all()?)
+    }
+
+    fn store_folder(&mut self, folder: &str) -> Result<(), TreeFault> {
+        self.store(folder)
+    }
+
+    fn make_folders(&mut self, top: &str, folder: &str) -> Result<bool, TreeFault> {
+        if !is_within(top, folder) {
+            return Err(TreeFault::Failed);
+        }
+        if top.len() < folder.len() && !self.make_below(top, folder)? {
+            return Ok(false);
+        }
+        let mut at = folder;
+        while top.len() < at.len() {
+            self.store(at)?;
+            at = folder_of(at);
+        }
+        self.store(top)?;
+        Ok(true)
+    }
+
+    fn dress(&mut self, path: &str, facts: &Facts, time: Option<Time>) -> Result<(), TreeFault> {
+        let (file, _) = self.regular(path)?;
+        let rights = facts.rights;
+        lchown(self.rt, path, Some(rights.owner), Some(rights.group))?;
+        file.set_permissions(Permissions::from_mode(rights.mode & RIGHTS))?;
+        if let Some(time) = time {
+            let modified = system_time(time).ok_or(TreeFault::Failed)?;
+            file.set_times(FileTimes::new().set_modified(modified))?;
+        }
+        let dressed = facts_of(&file.metadata()?);
+        if dressed.rights == rights && time.is_none_or(|time| dressed.changed == time) {
+            Ok(())
+        } else {
+            Err(TreeFault::Failed)
+        }
+    }
+}

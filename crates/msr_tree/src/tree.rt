@@ -1,0 +1,99 @@
+//! What is done with names.
+ghost use Rattle.std.specs.Prelude.{◌≡◌, List, IfOk};
+ghost use Rattle.msr_devices.specs.Device.{CanCountCall};
+ghost use Rattle.msr_tree.specs.Calls.{Begins, Copies, Does, Finishes, Goes, IsSameAs, Looks, MakesFolders, Opens, RenamesNew, Tells};
+ghost use Rattle.msr_tree.specs.Steps.{FileStored, FolderStored, Removed, Renamed, Step};
+ghost use Rattle.msr_tree.specs.declared.tree.TreeFault.TheVariants.{Memory};
+
+use crate::facts::{Facts, Time};
+use msr_devices::{Sink, Source};
+use std::alloc::AllocError;
+use thiserror::Error;
+
+/// Why a call has not done what it was to do.
+#[derive(Clone, Copy, Debug, PartialEq, Eq, Error)]
+pub enum TreeFault {
+    #[error("out of memory")]
+    Memory,
+    /// The system refused it.
+    #[error("the file system failed")]
+    Failed,
+}
+
+impl From<AllocError> for TreeFault {
+    ghost from_gives = { λ _ fault. fault ≡ Memory };
+
+    fn from(_: AllocError) -> TreeFault {
+        TreeFault::Memory
+    }
+}
+
+/// The names of a file system. Nobody else changes what they lead to. A call that fails has done its step or not.
+pub trait Tree {
+    /// An open file to be read.
+    type Reader: Source;
+
+    /// A file that is being made.
+    type Writer: Sink;
+
+    /// The steps so far may be these, the last one first. A tree of which no steps are known may have none.
+    ghost went: { Self → List Step → Type 0 };
+
+    /// What stands under a name, links not followed.
+    fn look(&mut self, path: &str) -> Result<Option<Facts>, TreeFault>
+        ensures { Goes (went self.old) (went self.new) (Tells (Looks path.now) result) };
+
+    /// Opens a regular file to be read from its start.
+    fn open(&mut self, path: &str) -> Result<Self::Reader, TreeFault>
+        ensures went { Goes (went self.old) (went self.new)
+            (Tells (λ past reader. Opens path.now past (Self.Reader.device reader)) result) }
+        ensures count { IfOk result (λ reader. CanCountCall (Self.Reader.device reader)) };
+
+    /// Makes a file under a name that nothing has. Until it is finished it has any bytes.
+    fn make(&mut self, path: &str) -> Result<Self::Writer, TreeFault>
+        ensures went { Goes (went self.old) (went self.new)
+            (Begins path.now (λ writer. Self.Writer.device writer) result) }
+        ensures count { IfOk result (λ writer. CanCountCall (Self.Writer.device writer)) };
+
+    /// Ends the making of the file of that name: it has the bytes that its writer took.
+    fn finish(&mut self, path: &str, writer: Self::Writer) -> Result<(), TreeFault>
+        ensures { Goes (went self.old) (went self.new) (Finishes path.now (Self.Writer.device writer) result) };
+
+    /// Whether two regular files have the same bytes.
+    fn is_same(&mut self, one: &str, other: &str) -> Result<bool, TreeFault>
+        ensures { Goes (went self.old) (went self.new) (Tells (IsSameAs one.now other.now) result) };
+
+    /// Gives a file another name, if nothing has it: by a link, or else by a copy, which is whole and keeps owner, group,
+    /// mode and time as far as the system lets it.
+    fn copy(&mut self, from: &str, to: &str) -> Result<(), TreeFault>
+        ensures { Goes (went self.old) (went self.new) (Copies from.now to.now result) };
+
+    /// Gives a file another name in place of its own and of what has it.
+    fn rename(&mut self, from: &str, to: &str) -> Result<(), TreeFault>
+        ensures { Goes (went self.old) (went self.new) (Does (Renamed from.now to.now) result) };
+
+    /// Gives a file another name in place of its own, or tells that something has that one.
+    fn rename_new(&mut self, from: &str, to: &str) -> Result<bool, TreeFault>
+        ensures { Goes (went self.old) (went self.new) (RenamesNew from.now to.now result) };
+
+    /// Takes a name away, if something has it.
+    fn remove(&mut self, path: &str) -> Result<(), TreeFault>
+        ensures { Goes (went self.old) (went self.new) (Does (Removed path.now) result) };
+
+    /// Waits until the bytes of a file are on the disk. A file system that cannot wait for that fails.
+    fn store_file(&mut self, path: &str) -> Result<(), TreeFault>
+        ensures { Goes (went self.old) (went self.new) (Does (FileStored path.now) result) };
+
+    /// Waits until the names in a folder are on the disk.
+    fn store_folder(&mut self, folder: &str) -> Result<(), TreeFault>
+        ensures { Goes (went self.old) (went self.new) (Does (FolderStored folder.now) result) };
+
+    /// Makes a folder below another one, with all that lead to it, and stores them; or tells that a link, or what is no
+    /// folder, is in the way.
+    fn make_folders(&mut self, top: &str, folder: &str) -> Result<bool, TreeFault>
+        ensures { Goes (went self.old) (went self.new) (MakesFolders result) };
+
+    /// Gives a file the owner, group, mode and time that are asked for.
+    fn dress(&mut self, path: &str, facts: &Facts, time: Option<Time>) -> Result<(), TreeFault>
+        ensures { Goes (went self.old) (went self.new) (Tells (λ _ _. Unit {0}) result) };
+}
