@@ -1,6 +1,6 @@
 -- What is left by a crash once a name is stored.
 use Rattle.std.proofs.Common.{◌≡◌, inl, inr, ⊎_elim, true, List, [], ℕ, ◌∷◌, Option, Some, sym, subst, ◌∙◌, ap, refl, Result, Ok, Err, IfOk, arith}
-use Rattle.msr_tree.specs.Calls.{Copied, Does, Goes, PerhapsDone, Stops}
+use Rattle.msr_tree.specs.Calls.{Copied, DoesStep, Goes, PerhapsDone, Stops}
 use Rattle.msr_tree.specs.declared.tree.TreeFault.{TreeFault}
 use Rattle.msr_tree.specs.declared.tree.TreeFault.TheVariants as fault
 use Rattle.msr_tree.specs.Steps.{AtEachMoment, Failed, FileStored, FolderStored, IsReady, Leaves, Path, Renamed, Step, now, seen, stands_in}
@@ -61,21 +61,21 @@ stopped_moments : (to : Path) (one other : Option (List ℕ)) (p q : List Step) 
 stopped_moments to one other p q Left fault.Memory first so stops = done (LeavesEither to one other) p q [] stops first
 stopped_moments to one other p q Left fault.Failed first so stops = subst (λ l. AtEachMoment (LeavesEither to one other) p l) (sym stops.2) (noted to one other p stops.0 (so stops.0 stops.1))
 
-moments_of : {T : Type 0} (from to : Path) (before : Option (List ℕ)) (bytes : List ℕ) (result : Result T TreeFault) (p q : List Step) → Leaves p to before → IsReady from bytes p → Does (Renamed from to) result p q → AtEachMoment (LeavesEither to before (Some bytes)) p q
+moments_of : {T : Type 0} (from to : Path) (before : Option (List ℕ)) (bytes : List ℕ) (result : Result T TreeFault) (p q : List Step) → Leaves p to before → IsReady from bytes p → DoesStep (Renamed from to) result p q → AtEachMoment (LeavesEither to before (Some bytes)) p q
 moments_of from to before bytes (Ok x) p q holds ready does = took_after from to before bytes p q holds ready (inr does)
 moments_of from to before bytes (Err why) p q holds ready does =
     stopped_moments to before (Some bytes) p q _ why (λ after is. inl (holds after is)) (λ left may. took_after from to before bytes p left holds ready may) does
 
-pub took_stopped : (from to : Path) {T : Type 0} (why : TreeFault) (one two : List Step → Type 0) {given : Step} → given ≡ Renamed from to → Goes one two (Does given (stopping T why)) → Goes one two (Takes from to (stopping T why))
+pub took_stopped : (from to : Path) {T : Type 0} (why : TreeFault) (one two : List Step → Type 0) {given : Step} → given ≡ Renamed from to → Goes one two (DoesStep given (stopping T why)) → Goes one two (Takes from to (stopping T why))
 took_stopped from to {T = T} why one two {given = given} same goes = goes_as _ _ one two
     (λ p q does. record {
       acts = record { changes = (acts_does {T = T} (to ∷ from ∷ []) (Renamed from to) (stopping T why) p q (within_renamed from to) does).changes; cause = (acts_does {T = T} (to ∷ from ∷ []) (Renamed from to) (stopping T why) p q (within_renamed from to) does).cause; does = tt };
       moments = λ before bytes holds ready. moments_of {T = T} from to before bytes (stopping T why) p q holds ready does;
     })
-    (subst (λ s. Goes one two (Does s (stopping T why))) same goes)
+    (subst (λ s. Goes one two (DoesStep s (stopping T why))) same goes)
 
 -- what each crash leaves once the folder is stored
-folder_moments : {T : Type 0} (to folder : Path) (before other : Option (List ℕ)) (result : Result T TreeFault) (q r : List Step) → LeavesEither to before other q → Does (FolderStored folder) result q r → AtEachMoment (LeavesEither to before other) q r
+folder_moments : {T : Type 0} (to folder : Path) (before other : Option (List ℕ)) (result : Result T TreeFault) (q r : List Step) → LeavesEither to before other q → DoesStep (FolderStored folder) result q r → AtEachMoment (LeavesEither to before other) q r
 folder_moments to folder before other (Ok x) q r either does =
     done (LeavesEither to before other) q r (FolderStored folder ∷ []) does (either, either_still to before other (FolderStored folder) q refl either)
 folder_moments to folder before other (Err why) q r either does =
@@ -87,10 +87,10 @@ folder_moments to folder before other (Err why) q r either does =
     does
 
 pub took_place : {T : Type 0} (from to folder : Path) (result : Result T TreeFault) (one mid two : List Step → Type 0) {given : Step} → given ≡ Renamed from to → {stored : Step} → stored ≡ FolderStored folder → (x : T) → stands_in folder to ≡ true
-    → Goes one mid (Does given (giving x)) → Goes mid two (Does stored result) → Goes one two (Takes from to result)
+    → Goes one mid (DoesStep given (giving x)) → Goes mid two (DoesStep stored result) → Goes one two (Takes from to result)
 took_place {T = T} from to folder result one mid two {given = given} same {stored = stored} is x inside first second =
-    let renamed : Goes one mid (Does (Renamed from to) (giving x)) = subst (λ s. Goes one mid (Does s (giving x))) same first in
-    let settled : Goes mid two (Does (FolderStored folder) result) = subst (λ s. Goes mid two (Does s result)) is second in
+    let renamed : Goes one mid (DoesStep (Renamed from to) (giving x)) = subst (λ s. Goes one mid (DoesStep s (giving x))) same first in
+    let settled : Goes mid two (DoesStep (FolderStored folder) result) = subst (λ s. Goes mid two (DoesStep s result)) is second in
     record {
       from = λ new went.
           let later = settled.from new went in

@@ -19,8 +19,8 @@ abbrev pub PreparesIfNone : (from to : Path) → {R : Type 0} → (old new : Lis
 PreparesIfNone from to old new answer = answer ≡ None → (bytes : List ℕ) → seen old from ≡ Some bytes → IsReady to bytes new
 
 -- if this is the answer, what was ready under one name is left by each crash under the other
-abbrev pub Names : (from to : Path) → (old new : List Step) → Bool → Type 0
-Names from to old new answer = answer ≡ true → (bytes : List ℕ) → IsReady from bytes old → Leaves new to (Some bytes)
+abbrev pub GivesName : (from to : Path) → (old new : List Step) → Bool → Type 0
+GivesName from to old new answer = answer ≡ true → (bytes : List ℕ) → IsReady from bytes old → Leaves new to (Some bytes)
 
 -- if nothing is told that speaks against it, the bytes that are seen under one name are left by each crash under another
 abbrev pub KeepsAs : (from to : Path) → {R : Type 0} → (old new : List Step) → Option R → Type 0

@@ -18,15 +18,15 @@ pub record Names : Type 0 where
   pub aside : Path
   pub out : Path
 
-abbrev pub path_of : Names → Place → Path
-path_of names Day = names.day
-path_of names DayPart = names.day_part
-path_of names Original = names.original
-path_of names OriginalPart = names.original_part
-path_of names Records = names.records
-path_of names RecordsPart = names.records_part
-path_of names Note = names.note
-path_of names NotePart = names.note_part
+abbrev pub path_at : Names → Place → Path
+path_at names Day = names.day
+path_at names DayPart = names.day_part
+path_at names Original = names.original
+path_at names OriginalPart = names.original_part
+path_at names Records = names.records
+path_at names RecordsPart = names.records_part
+path_at names Note = names.note
+path_at names NotePart = names.note_part
 
 abbrev pub folder_at : Names → Place → Path
 folder_at names Day = names.root
@@ -53,5 +53,5 @@ is_place one other = number one == number other
 
 -- No two are the same, and each stands in its folder.
 pub record AreNames (names : Names) : Type 0 where
-  pub apart : (one other : Place) → is_place one other ≡ false → bytes_eq (path_of names one) (path_of names other) ≡ false
-  pub inside : (place : Place) → stands_in (folder_at names place) (path_of names place) ≡ true
+  pub apart : (one other : Place) → is_place one other ≡ false → bytes_eq (path_at names one) (path_at names other) ≡ false
+  pub inside : (place : Place) → stands_in (folder_at names place) (path_at names place) ≡ true

@@ -3,7 +3,7 @@ use Rattle.std.specs.Prelude.{◌<◌, ◌≡◌, ◌⊎◌, ℕ, List, [], ◌�
 use Rattle.msr_tree.specs.Steps.{AtEachMoment, ChangesOnly, Leaves, MayLeave, Path, Step, failures, seen}
 use Rattle.msr_tree.specs.declared.tree.TreeFault.{TreeFault}
 use Rattle.msr_tree.specs.declared.tree.TreeFault.TheVariants.{Failed}
-use Rattle.msr_replace.specs.Names.{Names, path_of}
+use Rattle.msr_replace.specs.Names.{Names, path_at}
 use Rattle.msr_replace.specs.declared.names.Place.{Place}
 use Rattle.msr_replace.specs.declared.names.Place.TheVariants.{Day}
 use Rattle.msr_replace.specs.declared.told.Told.{Told}
@@ -16,19 +16,19 @@ IsUnderEither one other bytes past = (after beside : Option (List ℕ)) → MayL
 
 -- Each crash leaves one of the two contents in ROOT, whole, and each of the two in ROOT or under its own name.
 pub record KeepsBoth (names : Names) (one : Place) (a : List ℕ) (other : Place) (b : List ℕ) (past : List Step) : Type 0 where
-  pub day : (after : Option (List ℕ)) → MayLeave past (path_of names Day) after → (after ≡ Some a) ⊎ (after ≡ Some b)
-  pub first : IsUnderEither (path_of names Day) (path_of names one) a past
-  pub second : IsUnderEither (path_of names Day) (path_of names other) b past
+  pub day : (after : Option (List ℕ)) → MayLeave past (path_at names Day) after → (after ≡ Some a) ⊎ (after ≡ Some b)
+  pub first : IsUnderEither (path_at names Day) (path_at names one) a past
+  pub second : IsUnderEither (path_at names Day) (path_at names other) b past
 
 -- Each crash leaves the other's content in ROOT, and the one under its own name.
 pub record HaveChanged (names : Names) (one : Place) (a b : List ℕ) (past : List Step) : Type 0 where
-  pub day : Leaves past (path_of names Day) (Some b)
-  pub waits : Leaves past (path_of names one) (Some a)
+  pub day : Leaves past (path_at names Day) (Some b)
+  pub waits : Leaves past (path_at names one) (Some a)
 
 -- what an answer says of the two contents
 pub record Says (names : Names) (one : Place) (a b : List ℕ) (new : List Step) (told : Told) : Type 0 where
   pub done : told ≡ Done → HaveChanged names one a b new
-  pub same : told ≡ Same → Leaves new (path_of names Day) (Some b)
+  pub same : told ≡ Same → Leaves new (path_at names Day) (Some b)
 
 -- the names of the day
 abbrev pub all : Names → List Path
@@ -45,4 +45,4 @@ pub record Keeps (names : Names) (one other : Place) (Before : (a b : List ℕ) 
 -- both are kept, and what has the other name is the other file
 pub record AreKept (names : Names) (one other : Place) (a b : List ℕ) (past : List Step) : Type 0 where
   pub keeps : KeepsBoth names one a other b past
-  pub comes : IfSome (seen past (path_of names other)) (λ bytes. bytes ≡ b)
+  pub comes : IfSome (seen past (path_at names other)) (λ bytes. bytes ≡ b)

@@ -2,7 +2,7 @@
 //! moment each crash leaves one of the two in ROOT, whole, and each of the two in ROOT or under its own name.
 ghost use Rattle.msr_tree.specs.Calls.{Goes};
 ghost use Rattle.msr_replace.specs.Names.{AreNames};
-ghost use Rattle.msr_replace.specs.Phases.{AreHome, AreSame, AreSeen, HavePlaces, IsAside, IsInPlace, IsPrepared, MayGoBack};
+ghost use Rattle.msr_replace.specs.Phases.{AreHome, HaveOneContent, AreSeenApart, HavePlaces, IsAside, IsInPlace, IsPrepared, MayGoBack};
 ghost use Rattle.msr_replace.specs.Promise.{AreKept, Keeps};
 ghost use Rattle.msr_replace.specs.declared.names.Place.TheVariants.{Original, Records};
 
@@ -35,7 +35,7 @@ pub fn replace_day<T: Tree>(
 fn drop_same<T: Tree>(tree: &mut T, names: &DayNames) -> Result<Told, TreeFault>
     requires { AreNames names.now }
     ensures { Goes (T.went tree.old) (T.went tree.new)
-        (Keeps names.now Original Records (AreSame names.now Original Records) result) }
+        (Keeps names.now Original Records (HaveOneContent names.now Original Records) result) }
 {
     settle(tree, names, Place::Day)?;
     drop_settled(tree, names)
@@ -61,7 +61,7 @@ fn settle_both<T: Tree>(
 ) -> Result<Told, TreeFault>
     requires { AreNames names.now }
     ensures { Goes (T.went tree.old) (T.went tree.new)
-        (Keeps names.now Original Records (AreSeen names.now Original Records) result) }
+        (Keeps names.now Original Records (AreSeenApart names.now Original Records) result) }
 {
     settle(tree, names, Place::Day)?;
     settle(tree, names, Place::Records)?;

@@ -2,8 +2,8 @@
 ghost use Rattle.std.specs.Prelude.{[], ◌∷◌};
 ghost use Rattle.msr_tree.specs.Acts.{Acts};
 ghost use Rattle.msr_tree.specs.Calls.{Goes};
-ghost use Rattle.msr_replace.specs.Moves.{Anything, IsSeenAs, KeepsAs, Names, NamesIfNone, Prepares, Stores, Takes};
-ghost use Rattle.msr_replace.specs.Names.{AreNames, path_of};
+ghost use Rattle.msr_replace.specs.Moves.{Anything, IsSeenAs, KeepsAs, GivesName, NamesIfNone, Prepares, Stores, Takes};
+ghost use Rattle.msr_replace.specs.Names.{AreNames, path_at};
 ghost use Rattle.msr_replace.specs.declared.names.Place.TheVariants.{Day, DayPart};
 
 use crate::names::{DayNames, Place};
@@ -31,7 +31,7 @@ pub(crate) enum Dress {
 /// Waits until a file and its name are on the disk.
 pub(crate) fn settle<T: Tree>(tree: &mut T, names: &DayNames, place: Place) -> Result<(), TreeFault>
     requires { AreNames names.now }
-    ensures { Goes (T.went tree.old) (T.went tree.new) (Acts [] (Stores (path_of names.now place)) result) }
+    ensures { Goes (T.went tree.old) (T.went tree.new) (Acts [] (Stores (path_at names.now place)) result) }
 {
     tree.store_file(names.at(place))?;
     tree.store_folder(names.folder(place))
@@ -45,7 +45,7 @@ pub(crate) fn copy_stored<T: Tree>(
     to: Place,
 ) -> Result<(), TreeFault>
     ensures { Goes (T.went tree.old) (T.went tree.new)
-        (Acts (path_of names.now to ∷ []) (Prepares (path_of names.now from) (path_of names.now to)) result) }
+        (Acts (path_at names.now to ∷ []) (Prepares (path_at names.now from) (path_at names.now to)) result) }
 {
     tree.copy(names.at(from), names.at(to))?;
     tree.store_file(names.at(to))
@@ -60,8 +60,8 @@ fn name_new<T: Tree>(
 ) -> Result<bool, TreeFault>
     requires { AreNames names.now }
     ensures { Goes (T.went tree.old) (T.went tree.new)
-        (Acts (path_of names.now place ∷ path_of names.now part ∷ [])
-        (Names (path_of names.now part) (path_of names.now place)) result) }
+        (Acts (path_at names.now place ∷ path_at names.now part ∷ [])
+        (GivesName (path_at names.now part) (path_at names.now place)) result) }
 {
     if tree.rename_new(names.at(part), names.at(place))? {
         tree.store_folder(names.folder(place))?;
@@ -106,7 +106,7 @@ fn is_copy<T: Tree>(
     dress: Dress,
 ) -> Result<bool, TreeFault>
     ensures { Goes (T.went tree.old) (T.went tree.new)
-        (Acts [] (IsSeenAs (path_of names.now one) (path_of names.now other)) result) }
+        (Acts [] (IsSeenAs (path_at names.now one) (path_at names.now other)) result) }
 {
     if !look_alike(tree, names, one, other, dress)? {
         return Ok(false);
@@ -123,7 +123,7 @@ fn is_kept<T: Tree>(
 ) -> Result<Option<Hindrance>, TreeFault>
     requires { AreNames names.now }
     ensures { Goes (T.went tree.old) (T.went tree.new)
-        (Acts [] (KeepsAs (path_of names.now Day) (path_of names.now place)) result) }
+        (Acts [] (KeepsAs (path_at names.now Day) (path_at names.now place)) result) }
 {
     if !is_copy(tree, names, Place::Day, place, dress)? {
         return Ok(Some(Hindrance::Taken));
@@ -142,8 +142,8 @@ fn copy_as<T: Tree>(
 ) -> Result<Option<Hindrance>, TreeFault>
     requires { AreNames names.now }
     ensures { Goes (T.went tree.old) (T.went tree.new)
-        (Acts (path_of names.now place ∷ path_of names.now part ∷ [])
-        (KeepsAs (path_of names.now Day) (path_of names.now place)) result) }
+        (Acts (path_at names.now place ∷ path_at names.now part ∷ [])
+        (KeepsAs (path_at names.now Day) (path_at names.now place)) result) }
 {
     copy_stored(tree, names, Place::Day, part)?;
     if look_alike(tree, names, Place::Day, part, dress)? {
@@ -161,8 +161,8 @@ fn named_as<T: Tree>(
 ) -> Result<Option<Hindrance>, TreeFault>
     requires { AreNames names.now }
     ensures { Goes (T.went tree.old) (T.went tree.new)
-        (Acts (path_of names.now place ∷ path_of names.now part ∷ [])
-        (NamesIfNone (path_of names.now part) (path_of names.now place)) result) }
+        (Acts (path_at names.now place ∷ path_at names.now part ∷ [])
+        (NamesIfNone (path_at names.now part) (path_at names.now place)) result) }
 {
     if name_new(tree, names, part, place)? {
         return Ok(None);
@@ -180,8 +180,8 @@ fn keep_at<T: Tree>(
 ) -> Result<Option<Hindrance>, TreeFault>
     requires { AreNames names.now }
     ensures { Goes (T.went tree.old) (T.went tree.new)
-        (Acts (path_of names.now place ∷ path_of names.now part ∷ [])
-        (KeepsAs (path_of names.now Day) (path_of names.now place)) result) }
+        (Acts (path_at names.now place ∷ path_at names.now part ∷ [])
+        (KeepsAs (path_at names.now Day) (path_at names.now place)) result) }
 {
     if tree.look(names.at(place))?.is_some() {
         return is_kept(tree, names, place, dress);
@@ -199,8 +199,8 @@ pub(crate) fn keep_as<T: Tree>(
 ) -> Result<Option<Hindrance>, TreeFault>
     requires { AreNames names.now }
     ensures { Goes (T.went tree.old) (T.went tree.new)
-        (Acts (path_of names.now place ∷ path_of names.now part ∷ [])
-        (KeepsAs (path_of names.now Day) (path_of names.now place)) result) }
+        (Acts (path_at names.now place ∷ path_at names.now part ∷ [])
+        (KeepsAs (path_at names.now Day) (path_at names.now place)) result) }
 {
     if tree.make_folders(names.top(place), names.folder(place))? {
         return keep_at(tree, names, place, part, dress);
@@ -211,7 +211,7 @@ pub(crate) fn keep_as<T: Tree>(
 /// The records, or the original, get the name of the day in ROOT, on the disk.
 pub(crate) fn take_place<T: Tree>(tree: &mut T, names: &DayNames) -> Result<(), TreeFault>
     requires { AreNames names.now }
-    ensures { Goes (T.went tree.old) (T.went tree.new) (Takes (path_of names.now DayPart) (path_of names.now Day) result) }
+    ensures { Goes (T.went tree.old) (T.went tree.new) (Takes (path_at names.now DayPart) (path_at names.now Day) result) }
 {
     tree.rename(names.at(Place::DayPart), names.at(Place::Day))?;
     tree.store_folder(names.folder(Place::Day))

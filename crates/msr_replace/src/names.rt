@@ -1,6 +1,6 @@
 //! The names that the files of a day have.
 ghost use Rattle.std.specs.Prelude.{◌≡◌};
-ghost use Rattle.msr_replace.specs.Names.{folder_at, path_of};
+ghost use Rattle.msr_replace.specs.Names.{folder_at, path_at};
 
 use std::marker::Model;
 
@@ -63,7 +63,7 @@ impl Model for DayNames {
 impl DayNames {
     /// The path of a name.
     pub(crate) fn at(&self, place: Place) -> &str
-        ensures { result.now ≡ path_of self.now place }
+        ensures { result.now ≡ path_at self.now place }
     {
         match place {
             Place::Day => self.day.as_str(),

@@ -3,7 +3,7 @@ ghost use Rattle.std.specs.Prelude.{[], ◌∷◌};
 ghost use Rattle.msr_tree.specs.Acts.{Acts};
 ghost use Rattle.msr_tree.specs.Calls.{Goes};
 ghost use Rattle.msr_replace.specs.Moves.{Anything, PreparesIf, PreparesIfNone};
-ghost use Rattle.msr_replace.specs.Names.{path_of};
+ghost use Rattle.msr_replace.specs.Names.{path_at};
 ghost use Rattle.msr_replace.specs.declared.names.Place.TheVariants.{DayPart, Note, Original, Records};
 
 use crate::names::{DayNames, Place};
@@ -87,8 +87,8 @@ fn dress_records<T: Tree>(
     names: &DayNames,
     verified: &Verified,
 ) -> Result<bool, TreeFault>
-    ensures { Goes (T.went tree.old) (T.went tree.new) (Acts (path_of names.now DayPart ∷ [])
-        (PreparesIf (path_of names.now Records) (path_of names.now DayPart)) result) }
+    ensures { Goes (T.went tree.old) (T.went tree.new) (Acts (path_at names.now DayPart ∷ [])
+        (PreparesIf (path_at names.now Records) (path_at names.now DayPart)) result) }
 {
     tree.copy(names.at(Place::Records), names.at(Place::DayPart))?;
     if !is_dressed(tree, names, verified)? {
@@ -104,8 +104,8 @@ pub(crate) fn prepare_records<T: Tree>(
     names: &DayNames,
     verified: &Verified,
 ) -> Result<Option<GivenUp>, TreeFault>
-    ensures { Goes (T.went tree.old) (T.went tree.new) (Acts (path_of names.now DayPart ∷ [])
-        (PreparesIfNone (path_of names.now Records) (path_of names.now DayPart)) result) }
+    ensures { Goes (T.went tree.old) (T.went tree.new) (Acts (path_at names.now DayPart ∷ [])
+        (PreparesIfNone (path_at names.now Records) (path_at names.now DayPart)) result) }
 {
     if !dress_records(tree, names, verified)? {
         return Ok(Some(GivenUp::Undressed));
@@ -119,7 +119,7 @@ pub(crate) fn prepare_records<T: Tree>(
 /// The original in ASIDE goes, and the time that was noted of its records.
 pub(crate) fn forget<T: Tree>(tree: &mut T, names: &DayNames) -> Result<(), TreeFault>
     ensures { Goes (T.went tree.old) (T.went tree.new)
-        (Acts (path_of names.now Note ∷ path_of names.now Original ∷ []) Anything result) }
+        (Acts (path_at names.now Note ∷ path_at names.now Original ∷ []) Anything result) }
 {
     tree.remove(names.at(Place::Note))?;
     tree.remove(names.at(Place::Original))
@@ -128,7 +128,7 @@ pub(crate) fn forget<T: Tree>(tree: &mut T, names: &DayNames) -> Result<(), Tree
 /// What was made of a day goes whose original has its place.
 pub(crate) fn leave<T: Tree>(tree: &mut T, names: &DayNames) -> Result<(), TreeFault>
     ensures { Goes (T.went tree.old) (T.went tree.new)
-        (Acts (path_of names.now DayPart ∷ path_of names.now Note ∷ path_of names.now Original ∷ []) Anything result) }
+        (Acts (path_at names.now DayPart ∷ path_at names.now Note ∷ path_at names.now Original ∷ []) Anything result) }
 {
     tree.remove(names.at(Place::DayPart))?;
     forget(tree, names)

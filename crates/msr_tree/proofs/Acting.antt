@@ -1,7 +1,7 @@
 -- One call, and then another.
 use Rattle.std.proofs.Common.{◌≡◌, ◌<◌, ◌≤◌, ◌+◌, ◌⊎◌, inl, inr, ⊎_elim, ℕ, suc, Bool, true, false, IsSome, List, [], ◌∷◌, ◌++◌, refl, sym, ◌∙◌, ap, subst, Result, Ok, Err, IsErrOf, IfOk, arith}
 use Rattle.msr_tree.specs.Acts.{Acts}
-use Rattle.msr_tree.specs.Calls.{IsSameAs, Copied, Copies, Does, Goes, PerhapsCopied, PerhapsDone, RenamesNew, Stops, Tells, MakesFolders, AreOfFolders}
+use Rattle.msr_tree.specs.Calls.{IsSameAs, Copied, Copies, DoesStep, Goes, PerhapsCopied, PerhapsDone, RenamesNew, Stops, Tells, MakesFolders, AreOfFolders}
 use Rattle.std.specs.Str.{bytes_eq}
 use Rattle.msr_tree.specs.Steps.{ChangesOnly, Failed, FileStored, FolderMade, FolderStored, IsNoneOf, Linked, Made, Path, Removed, Renamed, Spares, Step, failures, now, touches}
 use Rattle.msr_tree.specs.declared.tree.TreeFault.{TreeFault}
@@ -60,7 +60,7 @@ perhaps_changes names step old left within may = ⊎_elim
     may
 
 -- a call of one step
-pub acts_does : {T : Type 0} (names : List Path) (step : Step) (result : Result T TreeFault) (old new : List Step) → Within names step → Does step result old new → Acts names (λ old new answer. new ≡ step ∷ old) result old new
+pub acts_does : {T : Type 0} (names : List Path) (step : Step) (result : Result T TreeFault) (old new : List Step) → Within names step → DoesStep step result old new → Acts names (λ old new answer. new ≡ step ∷ old) result old new
 acts_does names step (Ok x) old new within does = record {
   changes = subst (λ l. ChangesOnly names old l) (sym does) (changes_step names step old within);
   cause = λ is. cc;
@@ -117,7 +117,7 @@ told_as few names First Done first result one two fails more so goes = record {
 pub goes_as : (R S : (old new : List Step) → Type 0) (one two : List Step → Type 0) → ((p q : List Step) → R p q → S p q) → Goes one two R → Goes one two S
 goes_as R S one two so goes = record { from = λ new went. let before = goes.from new went in (before.0, before.1, so before.0 new before.2) }
 
-pub goes_does : {T : Type 0} (names : List Path) (step : Step) (result : Result T TreeFault) (one two : List Step → Type 0) → Within names step → Goes one two (Does step result) → Goes one two (Acts names (λ old new answer. new ≡ step ∷ old) result)
+pub goes_does : {T : Type 0} (names : List Path) (step : Step) (result : Result T TreeFault) (one two : List Step → Type 0) → Within names step → Goes one two (DoesStep step result) → Goes one two (Acts names (λ old new answer. new ≡ step ∷ old) result)
 goes_does names step result one two within goes = goes_as _ _ one two (λ p q does. acts_does names step result p q within does) goes
 
 pub goes_tells : {T : Type 0} (names : List Path) (Says : List Step → T → Type 0) (result : Result T TreeFault) (one two : List Step → Type 0) → Goes one two (Tells Says result) → Goes one two (Acts names (λ old new answer. (new ≡ old) × Says old answer) result)
@@ -160,10 +160,6 @@ then_given names First Second Done a result one mid two so first goes =
     when_ok : {B : Type 0} {P Q : B → Type 0} (r : Result B TreeFault) → ((b : B) → P b → Q b) → IfOk r P → IfOk r Q
     when_ok (Ok b) f p = f b p
     when_ok (Err why) f p = tt
-
--- a step changes the names that it touches
-pub within_none : (names : List Path) (step : Step) → ((name : Path) → touches step name ≡ false) → Within names step
-within_none names step none name apart = none name
 
 copied_changes : (names : List Path) (from to : Path) (old left : List Step) → ((name : Path) → IsNoneOf name names → bytes_eq name to ≡ false) → PerhapsCopied from to old left → ChangesOnly names old left
 copied_changes names from to old left apart may = ⊎_elim
@@ -210,8 +206,8 @@ pub goes_renames : (names : List Path) (from to : Path) (result : Result Bool Tr
 goes_renames names from to result one two within linked goes = goes_as _ _ one two (λ p q renames. acts_renames names from to result p q within linked renames) goes
 
 -- the same calls, by other names of the same paths
-pub goes_step : {T : Type 0} (names : List Path) (given step : Step) (result : Result T TreeFault) (one two : List Step → Type 0) → given ≡ step → Within names step → Goes one two (Does given result) → Goes one two (Acts names (λ old new answer. new ≡ step ∷ old) result)
-goes_step names given step result one two same within goes = goes_does names step result one two within (subst (λ s. Goes one two (Does s result)) same goes)
+pub goes_step : {T : Type 0} (names : List Path) (given step : Step) (result : Result T TreeFault) (one two : List Step → Type 0) → given ≡ step → Within names step → Goes one two (DoesStep given result) → Goes one two (Acts names (λ old new answer. new ≡ step ∷ old) result)
+goes_step names given step result one two same within goes = goes_does names step result one two within (subst (λ s. Goes one two (DoesStep s result)) same goes)
 
 pub goes_copied : {T : Type 0} (names : List Path) (given_from given_to from to : Path) (result : Result T TreeFault) (one two : List Step → Type 0) → given_from ≡ from → given_to ≡ to → ((name : Path) → IsNoneOf name names → bytes_eq name to ≡ false) → Goes one two (Copies given_from given_to result)
     → Goes one two (Acts names (λ old new answer. IsSome (now old from) × Copied from to old new) result)

@@ -70,21 +70,6 @@ ready_settled name folder bytes past inside ready after may =
 pub ready_renamed : (from to : Path) (bytes : List ℕ) (past : List Step) → IsReady from bytes past → IsReady to bytes (Renamed from to ∷ past)
 ready_renamed from to bytes past ready = record { file = ready.file; leads = rw (is_self to) ready.leads; has = ready.has; stored = ready.stored }
 
--- What holds of a tree in which names are left alone holds at each moment.
-module _ (P : List Step → Type 0) (names : List Path) (so : (step : Step) (past : List Step) → ((name : Path) → IsNoneOf name names → touches step name ≡ false) → P past → P (step ∷ past)) where
-  throughout : (old made : List Step) → ((name : Path) → IsNoneOf name names → Spares name made) → P old → Throughout P old made
-  throughout old [] spares holds = holds
-  throughout old (step ∷ made) spares holds =
-      let before = throughout old made (λ name none. (spares name none).0) holds in
-      (before, so step (made ++ old) (λ name none. (spares name none).1) (last old made before))
-    where
-      last : (old made : List Step) → Throughout P old made → P (made ++ old)
-      last old [] holds = holds
-      last old (step ∷ made) holds = holds.1
-
-  pub each_moment : (old new : List Step) → ChangesOnly names old new → P old → AtEachMoment P old new
-  each_moment old new changes holds = record { made = changes.made; since = changes.since; holds = throughout old changes.made changes.spares holds }
-
 -- What holds at each moment holds with what was changed until then.
 module _ (P Q : List Step → Type 0) (names : List Path) (old : List Step) (so : (past : List Step) → P past → ChangesOnly names old past → Q past) where
   with_made : (made : List Step) → ((name : Path) → IsNoneOf name names → Spares name made) → Throughout P old made → Throughout Q old made

@@ -3,7 +3,7 @@ use Rattle.std.proofs.Common.{◌≡◌, ◌⊎◌, inl, inr, ⊎_elim, ℕ, Boo
 use Rattle.std.specs.Str.{bytes_eq}
 use Rattle.std.proofs.lemmas.Bool.{cases_Bool}
 use Rattle.std.proofs.lemmas.Slice.Eq.{bytes_eq-Decides}
-use Rattle.msr_tree.specs.Steps.{Failed, File, FileStored, FolderMade, FolderStored, IfThenElse, IsAtRest, IsStored, Leaves, Linked, Made, MayLead, MayLeave, Path, Removed, Renamed, Shows, Step, now, seen, stands_in, touches}
+use Rattle.msr_tree.specs.Steps.{Failed, File, FileStored, FolderMade, FolderStored, IfThenElse, IsAtRest, IsStored, Leaves, Linked, Made, MayLead, MayLeave, Path, Removed, Renamed, ShowsAfter, Step, now, seen, stands_in, touches}
 
 both : {P Q : Type 0} (test : Bool) → P → Q → IfThenElse test P Q
 both true p q = p
@@ -28,7 +28,7 @@ leads_now (FolderStored at ∷ past) name = both (stands_in at name) refl (leads
 leads_now (FolderMade at ∷ past) name = inr refl
 leads_now (Failed ∷ past) name = inr refl
 
-shows_seen : (past : List Step) (found : Option File) → Shows past found (option_map (λ file. file.bytes) found)
+shows_seen : (past : List Step) (found : Option File) → ShowsAfter past found (option_map (λ file. file.bytes) found)
 shows_seen past None = refl
 shows_seen past (Some file) = λ stored. refl
 
@@ -47,7 +47,7 @@ stays (FolderStored at) past file stored = stored
 stays (FolderMade at) past file stored = stored
 stays Failed past file stored = stored
 
-fewer : (step : Step) (past : List Step) (found : Option File) (after : Option (List ℕ)) → Shows (step ∷ past) found after → Shows past found after
+fewer : (step : Step) (past : List Step) (found : Option File) (after : Option (List ℕ)) → ShowsAfter (step ∷ past) found after → ShowsAfter past found after
 fewer step past None after shows = shows
 fewer step past (Some file) after shows = λ stored. shows (stays step past file stored)
 
@@ -63,11 +63,11 @@ leads (FolderMade at) past name found may = may
 leads Failed past name found may = may
 
 -- after a step a crash may leave what it might before, or what the name leads to now
-pub leaves : (step : Step) (past : List Step) (name : Path) (after : Option (List ℕ)) → MayLeave (step ∷ past) name after → MayLeave past name after ⊎ Shows (step ∷ past) (now (step ∷ past) name) after
+pub leaves : (step : Step) (past : List Step) (name : Path) (after : Option (List ℕ)) → MayLeave (step ∷ past) name after → MayLeave past name after ⊎ ShowsAfter (step ∷ past) (now (step ∷ past) name) after
 leaves step past name after may =
     ⊎_elim
     (λ before. inl (record { found = may.found; leads = before; shows = fewer step past may.found after may.shows }))
-    (λ same. inr (subst (λ found. Shows (step ∷ past) found after) same may.shows))
+    (λ same. inr (subst (λ found. ShowsAfter (step ∷ past) found after) same may.shows))
     (leads step past name may.found may.leads)
 
 -- a step that leaves a name alone
@@ -78,19 +78,19 @@ quiet step past name after same may =
     (λ shows. record {
       found = now past name;
       leads = leads_now past name;
-      shows = fewer step past (now past name) after (subst (λ found. Shows (step ∷ past) found after) same shows);
+      shows = fewer step past (now past name) after (subst (λ found. ShowsAfter (step ∷ past) found after) same shows);
     })
     (leaves step past name after may)
 
 -- once its folder is stored, a name leads where it leads now
-pub settled : (at : Path) (past : List Step) (name : Path) (after : Option (List ℕ)) → stands_in at name ≡ true → MayLeave (FolderStored at ∷ past) name after → Shows past (now past name) after
+pub settled : (at : Path) (past : List Step) (name : Path) (after : Option (List ℕ)) → stands_in at name ≡ true → MayLeave (FolderStored at ∷ past) name after → ShowsAfter past (now past name) after
 settled at past name after beside may =
     fewer (FolderStored at) past (now past name) after
-    (subst (λ found. Shows (FolderStored at ∷ past) found after) (chosen _ _ (stands_in at name) beside may.leads) may.shows)
+    (subst (λ found. ShowsAfter (FolderStored at ∷ past) found after) (chosen _ _ (stands_in at name) beside may.leads) may.shows)
 
 -- a name that leads to a stored file shows it
-pub is_of : (past : List Step) (found : Option File) (file : File) (after : Option (List ℕ)) → found ≡ Some file → IsStored past file → Shows past found after → after ≡ Some file.bytes
-is_of past found file after is stored shows = let whole : Shows past (Some file) after = subst (λ f. Shows past f after) is shows in whole stored
+pub is_of : (past : List Step) (found : Option File) (file : File) (after : Option (List ℕ)) → found ≡ Some file → IsStored past file → ShowsAfter past found after → after ≡ Some file.bytes
+is_of past found file after is stored shows = let whole : ShowsAfter past (Some file) after = subst (λ f. ShowsAfter past f after) is shows in whole stored
 
 -- what is seen under a name is in a file
 pub file_of : (found : Option File) (bytes : List ℕ) → option_map (λ file. file.bytes) found ≡ Some bytes → (file : File) × (found ≡ Some file) × (file.bytes ≡ bytes)

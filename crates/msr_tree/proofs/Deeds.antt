@@ -5,18 +5,18 @@ use Rattle.std.specs.Prelude.{MatchOption, ⊤}
 use Rattle.std.proofs.lemmas.Bool.{cases_Bool}
 use Rattle.std.proofs.lemmas.List.{map-append, reverse-append}
 use Rattle.std.proofs.lemmas.Slice.Eq.{bytes_eq-Decides}
-use Rattle.msr_tree.specs.Memory.{LeavesName, settles, step_of, steps_of, target_of}
+use Rattle.msr_tree.specs.Memory.{LeavesName, settles, step_of, steps_kept, target_of}
 use Rattle.msr_tree.specs.Calls.{Goes, MakesFolders, PerhapsDone, Stops}
 use Rattle.msr_tree.specs.declared.tree.TreeFault.{TreeFault}
 use Rattle.msr_tree.specs.declared.tree.TreeFault.TheVariants as fault
-use Rattle.msr_tree.specs.Steps.{Failed, File, FileStored, FolderMade, FolderStored, IfThenElse, IsAtRest, Leaves, Linked, Made, MayLead, MayLeave, Path, Removed, Renamed, Shows, Step, folder_of, now, seen}
+use Rattle.msr_tree.specs.Steps.{Failed, File, FileStored, FolderMade, FolderStored, IfThenElse, IsAtRest, Leaves, Linked, Made, MayLead, MayLeave, Path, Removed, Renamed, ShowsAfter, Step, folder_above, now, seen}
 use Rattle.msr_tree.specs.declared.memory.deed.Deed.{Deed}
 use Rattle.msr_tree.proofs.Changes.{ready_settled, ready_stored}
 use Rattle.msr_tree.proofs.Crash.{is_self, leaves_seen, still}
 
 -- what was done last
-pub last_step : (deeds before : List Deed) (deed : Deed) → deeds ≡ before ++ (deed ∷ []) → steps_of deeds ≡ step_of deed ∷ steps_of before
-last_step deeds before deed is = ap steps_of is ∙ (ap reverse (map-append step_of before (deed ∷ [])) ∙ reverse-append (map step_of before) (step_of deed ∷ []))
+pub last_step : (deeds before : List Deed) (deed : Deed) → deeds ≡ before ++ (deed ∷ []) → steps_kept deeds ≡ step_of deed ∷ steps_kept before
+last_step deeds before deed is = ap steps_kept is ∙ (ap reverse (map-append step_of before (deed ∷ [])) ∙ reverse-append (map step_of before) (step_of deed ∷ []))
 
 -- a step that does not store the folder of a name: it may lead where it might before
 pub lead_on : (step : Step) (past : List Step) (name : Path) (found : Option File) → settles step name ≡ false → MayLead past name found → MayLead (step ∷ past) name found
@@ -30,24 +30,24 @@ lead_on (FolderMade at) past name found not may = inl may
 lead_on Failed past name found not may = inl may
 
 -- one more file that is on the disk
-pub one_more_rests : (at : Path) (bytes : List ℕ) (past : List Step) → IsAtRest past → IsAtRest (FolderStored (folder_of at) ∷ FileStored at ∷ Made at bytes ∷ past)
+pub one_more_rests : (at : Path) (bytes : List ℕ) (past : List Step) → IsAtRest past → IsAtRest (FolderStored (folder_above at) ∷ FileStored at ∷ Made at bytes ∷ past)
 one_more_rests at bytes past rests name = elim (cases_Bool (bytes_eq name at)) [
   | inl is ↦
-      let here : Leaves (FolderStored (folder_of at) ∷ FileStored at ∷ Made at bytes ∷ past) at (Some bytes) =
-      ready_settled at (folder_of at) bytes (FileStored at ∷ Made at bytes ∷ past) (is_self (folder_of at))
+      let here : Leaves (FolderStored (folder_above at) ∷ FileStored at ∷ Made at bytes ∷ past) at (Some bytes) =
+      ready_settled at (folder_above at) bytes (FileStored at ∷ Made at bytes ∷ past) (is_self (folder_above at))
       (ready_stored at bytes (Made at bytes ∷ past) (rw (is_self at) refl)) in
       let shown : seen (Made at bytes ∷ past) name ≡ Some bytes = rw is refl in
-      subst (λ what. Leaves (FolderStored (folder_of at) ∷ FileStored at ∷ Made at bytes ∷ past) name what) (sym shown)
-      (subst (λ n. Leaves (FolderStored (folder_of at) ∷ FileStored at ∷ Made at bytes ∷ past) n (Some bytes)) (sym ((bytes_eq-Decides name at).0 is)) here)
+      subst (λ what. Leaves (FolderStored (folder_above at) ∷ FileStored at ∷ Made at bytes ∷ past) name what) (sym shown)
+      (subst (λ n. Leaves (FolderStored (folder_above at) ∷ FileStored at ∷ Made at bytes ∷ past) n (Some bytes)) (sym ((bytes_eq-Decides name at).0 is)) here)
   | inr not ↦
       let same : now (Made at bytes ∷ past) name ≡ now past name = rw not refl in
-      subst (λ found. Leaves (FolderStored (folder_of at) ∷ FileStored at ∷ Made at bytes ∷ past) name (option_map (λ file. file.bytes) found)) (sym same)
-      (still (FolderStored (folder_of at)) (FileStored at ∷ Made at bytes ∷ past) name _ refl (still (FileStored at) (Made at bytes ∷ past) name _ refl (still (Made at bytes) past name _ not (rests name))))
+      subst (λ found. Leaves (FolderStored (folder_above at) ∷ FileStored at ∷ Made at bytes ∷ past) name (option_map (λ file. file.bytes) found)) (sym same)
+      (still (FolderStored (folder_above at)) (FileStored at ∷ Made at bytes ∷ past) name _ refl (still (FileStored at) (Made at bytes ∷ past) name _ refl (still (Made at bytes) past name _ not (rests name))))
 ]
 
 -- before the first step
 pub nothing_rests : IsAtRest []
-nothing_rests name after may = subst (λ found. Shows [] found after) may.leads may.shows
+nothing_rests name after may = subst (λ found. ShowsAfter [] found after) may.leads may.shows
 
 -- a tree whose steps are known
 pub known : (R : List Step → List Step → Type 0) (old new : List Step) → R old new → Goes (λ past. past ≡ old) (λ past. past ≡ new) R

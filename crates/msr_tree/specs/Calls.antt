@@ -21,9 +21,9 @@ abbrev pub PerhapsDone : Step → (old left : List Step) → Type 0
 PerhapsDone step old left = (left ≡ old) ⊎ (left ≡ step ∷ old)
 
 -- a call that succeeds has done its step, and one that fails may have
-abbrev pub Does : {T : Type 0} → Step → Result T TreeFault → (old new : List Step) → Type 0
-Does step (Ok x) old new = new ≡ step ∷ old
-Does step (Err why) old new = Stops why (PerhapsDone step old) old new
+abbrev pub DoesStep : {T : Type 0} → Step → Result T TreeFault → (old new : List Step) → Type 0
+DoesStep step (Ok x) old new = new ≡ step ∷ old
+DoesStep step (Err why) old new = Stops why (PerhapsDone step old) old new
 
 -- a call that changes nothing, and what its answer says
 abbrev pub Tells : {T : Type 0} → (List Step → T → Type 0) → Result T TreeFault → (old new : List Step) → Type 0

@@ -16,8 +16,8 @@ step_of (deed.FolderMade at) = FolderMade (string_bytes at)
 step_of deed.Failed = Failed
 
 -- it keeps the last step at the end
-abbrev pub steps_of : List Deed → List Step
-steps_of deeds = reverse (map step_of deeds)
+abbrev pub steps_kept : List Deed → List Step
+steps_kept deeds = reverse (map step_of deeds)
 
 abbrev pub file_of : Found → File
 file_of found = record { bytes = found.bytes.now; made = found.made }

@@ -6,12 +6,12 @@ use Rattle.std.specs.List.{before_last}
 abbrev pub Path : Type 0
 Path = List ℕ
 
-abbrev pub is_slash : ℕ → Bool
-is_slash byte = byte == 47
+abbrev pub is_separator : ℕ → Bool
+is_separator byte = byte == 47
 
 -- what stands before the last slash
-abbrev pub folder_of : Path → Path
-folder_of path = before_last is_slash path
+abbrev pub folder_above : Path → Path
+folder_above path = before_last is_separator path
 
 -- Something that was done. `Failed` is a call that failed, whatever it has done before it did.
 pub data Step : Type 0 where
@@ -52,7 +52,7 @@ IfThenElse true P Q = P
 IfThenElse false P Q = Q
 
 abbrev pub stands_in : (folder name : Path) → Bool
-stands_in folder name = bytes_eq (folder_of name) folder
+stands_in folder name = bytes_eq (folder_above name) folder
 
 -- A crash may leave a name that leads to what it led to when its folder was stored last, or at any moment since. What
 -- others lead to then has no part in it.
@@ -69,15 +69,15 @@ IsStored (FileStored at ∷ past) file = IsStored past file ⊎ (now past at ≡
 IsStored (step ∷ past) file = IsStored past file
 
 -- what is seen of it after the crash: a file that is not stored may be anything
-abbrev pub Shows : List Step → Option File → (after : Option (List ℕ)) → Type 0
-Shows past None after = after ≡ None
-Shows past (Some file) after = IsStored past file → after ≡ Some file.bytes
+abbrev pub ShowsAfter : List Step → Option File → (after : Option (List ℕ)) → Type 0
+ShowsAfter past None after = after ≡ None
+ShowsAfter past (Some file) after = IsStored past file → after ≡ Some file.bytes
 
 -- what a crash may leave under a name
 pub record MayLeave (past : List Step) (name : Path) (after : Option (List ℕ)) : Type 0 where
   pub found : Option File
   pub leads : MayLead past name found
-  pub shows : Shows past found after
+  pub shows : ShowsAfter past found after
 
 -- a crash leaves this under a name, and nothing else
 abbrev pub Leaves : List Step → Path → Option (List ℕ) → Type 0

@@ -1,10 +1,10 @@
 //! The folders of paths.
 ghost use Rattle.std.specs.Prelude.{◌≡◌};
-ghost use Rattle.msr_tree.specs.Steps.{folder_of};
+ghost use Rattle.msr_tree.specs.Steps.{folder_above};
 
 /// The folder of a path, empty if it has no slash.
-pub(crate) fn folder_of(path: &str) -> &str
-    ensures { result.now ≡ folder_of path.now }
+pub(crate) fn folder_above(path: &str) -> &str
+    ensures { result.now ≡ folder_above path.now }
 {
     match path.rsplit_once('/') {
         Some((folder, _)) => folder,

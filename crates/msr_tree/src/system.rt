@@ -7,7 +7,7 @@ mod facts;
 mod writer;
 
 use crate::facts::{Facts, Kind, Time};
-use crate::paths::{folder_of, is_within};
+use crate::paths::{folder_above, is_within};
 use crate::system::bytes::has_same_bytes;
 use crate::system::facts::{RIGHTS, facts_of, system_time};
 pub use crate::system::writer::SystemWriter;
@@ -296,7 +296,7 @@ impl<'a, R: Files> Tree for SystemTree<'a, R> {
         let mut at = folder;
         while top.len() < at.len() {
             self.store(at)?;
-            at = folder_of(at);
+            at = folder_above(at);
         }
         self.store(top)?;
         Ok(true)

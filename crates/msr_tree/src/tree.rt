@@ -1,7 +1,7 @@
 //! What is done with names.
 ghost use Rattle.std.specs.Prelude.{◌≡◌, List, IfOk};
 ghost use Rattle.msr_devices.specs.Device.{CanCountCall};
-ghost use Rattle.msr_tree.specs.Calls.{Begins, Copies, Does, Finishes, Goes, IsSameAs, Looks, MakesFolders, Opens, RenamesNew, Tells};
+ghost use Rattle.msr_tree.specs.Calls.{Begins, Copies, DoesStep, Finishes, Goes, IsSameAs, Looks, MakesFolders, Opens, RenamesNew, Tells};
 ghost use Rattle.msr_tree.specs.Steps.{FileStored, FolderStored, Removed, Renamed, Step};
 ghost use Rattle.msr_tree.specs.declared.tree.TreeFault.TheVariants.{Memory};
 
@@ -70,7 +70,7 @@ pub trait Tree {
 
     /// Gives a file another name in place of its own and of what has it.
     fn rename(&mut self, from: &str, to: &str) -> Result<(), TreeFault>
-        ensures { Goes (went self.old) (went self.new) (Does (Renamed from.now to.now) result) };
+        ensures { Goes (went self.old) (went self.new) (DoesStep (Renamed from.now to.now) result) };
 
     /// Gives a file another name in place of its own, or tells that something has that one.
     fn rename_new(&mut self, from: &str, to: &str) -> Result<bool, TreeFault>
@@ -78,15 +78,15 @@ pub trait Tree {
 
     /// Takes a name away, if something has it.
     fn remove(&mut self, path: &str) -> Result<(), TreeFault>
-        ensures { Goes (went self.old) (went self.new) (Does (Removed path.now) result) };
+        ensures { Goes (went self.old) (went self.new) (DoesStep (Removed path.now) result) };
 
     /// Waits until the bytes of a file are on the disk. A file system that cannot wait for that fails.
     fn store_file(&mut self, path: &str) -> Result<(), TreeFault>
-        ensures { Goes (went self.old) (went self.new) (Does (FileStored path.now) result) };
+        ensures { Goes (went self.old) (went self.new) (DoesStep (FileStored path.now) result) };
 
     /// Waits until the names in a folder are on the disk.
     fn store_folder(&mut self, folder: &str) -> Result<(), TreeFault>
-        ensures { Goes (went self.old) (went self.new) (Does (FolderStored folder.now) result) };
+        ensures { Goes (went self.old) (went self.new) (DoesStep (FolderStored folder.now) result) };
 
     /// Makes a folder below another one, with all that lead to it, and stores them; or tells that a link, or what is no
     /// folder, is in the way.

@@ -1,26 +1,26 @@
 //! What a crash leaves of the steps of a tree in memory.
 ghost use Rattle.std.specs.Prelude.{◌≡◌, ◌∷◌, option_map, Some, true, false};
-ghost use Rattle.msr_tree.specs.Memory.{file_of, settles, step_of, steps_of};
-ghost use Rattle.msr_tree.specs.Steps.{IsStored, MayLead, MayLeave, Shows};
+ghost use Rattle.msr_tree.specs.Memory.{file_of, settles, step_of, steps_kept};
+ghost use Rattle.msr_tree.specs.Steps.{IsStored, MayLead, MayLeave, ShowsAfter};
 
 use crate::memory::choices::Choices;
 use crate::memory::deed::Deed;
 use crate::memory::deeds::{Found, find};
-use crate::paths::folder_of;
+use crate::paths::folder_above;
 
 /// Whether a step stores the folder of a name.
 fn settles(deed: &Deed, name: &str) -> bool
     ensures { result ≡ settles (step_of deed.now) name.now }
 {
     match deed {
-        Deed::FolderStored(at) => folder_of(name) == at.as_str(),
+        Deed::FolderStored(at) => folder_above(name) == at.as_str(),
         _ => false,
     }
 }
 
 /// The file to which a name leads after a crash.
 fn lead<'a>(deeds: &'a [Deed], name: &str, choices: &mut Choices) -> Option<Found<'a>>
-    ensures { MayLead (steps_of deeds.now) name.now (option_map file_of result) }
+    ensures { MayLead (steps_kept deeds.now) name.now (option_map file_of result) }
 {
     let mut rest = deeds;
     while let Some((deed, before)) = rest.split_last() {
@@ -34,8 +34,8 @@ fn lead<'a>(deeds: &'a [Deed], name: &str, choices: &mut Choices) -> Option<Foun
 
 /// Whether a step stores the bytes of a file.
 fn stores(deed: &Deed, before: &[Deed], file: Found<'_>) -> bool
-    ensures { result ≡ false → IsStored (step_of deed.now ∷ steps_of before.now) (file_of file.entry)
-        → IsStored (steps_of before.now) (file_of file.entry) }
+    ensures { result ≡ false → IsStored (step_of deed.now ∷ steps_kept before.now) (file_of file.entry)
+        → IsStored (steps_kept before.now) (file_of file.entry) }
 {
     match deed {
         Deed::FileStored(at) => match find(before, at.as_str()) {
@@ -48,7 +48,7 @@ fn stores(deed: &Deed, before: &[Deed], file: Found<'_>) -> bool
 
 /// Whether the bytes of a file are on the disk.
 fn is_stored(deeds: &[Deed], file: Found<'_>) -> bool
-    ensures { IsStored (steps_of deeds.now) (file_of file.entry) → result ≡ true }
+    ensures { IsStored (steps_kept deeds.now) (file_of file.entry) → result ≡ true }
 {
     let mut rest = deeds;
     while let Some((deed, before)) = rest.split_last() {
@@ -62,7 +62,7 @@ fn is_stored(deeds: &[Deed], file: Found<'_>) -> bool
 
 /// What is seen of a file after a crash.
 fn shown<'a>(deeds: &[Deed], file: Found<'a>, choices: &mut Choices) -> Option<&'a [u8]>
-    ensures { Shows (steps_of deeds.now) (Some (file_of file.entry)) (option_map (λ bytes. bytes.now) result) }
+    ensures { ShowsAfter (steps_kept deeds.now) (Some (file_of file.entry)) (option_map (λ bytes. bytes.now) result) }
 {
     if is_stored(deeds, file) {
         return Some(file.bytes);
@@ -77,7 +77,7 @@ fn shown<'a>(deeds: &[Deed], file: Found<'a>, choices: &mut Choices) -> Option<&
 
 /// What is seen under a name after a crash.
 pub(super) fn left<'a>(deeds: &'a [Deed], name: &str, choices: &mut Choices) -> Option<&'a [u8]>
-    ensures { MayLeave (steps_of deeds.now) name.now (option_map (λ bytes. bytes.now) result) }
+    ensures { MayLeave (steps_kept deeds.now) name.now (option_map (λ bytes. bytes.now) result) }
 {
     let file = lead(deeds, name, choices)?;
     shown(deeds, file, choices)

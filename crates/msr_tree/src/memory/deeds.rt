@@ -1,6 +1,6 @@
 //! The steps of a tree in memory, and what names lead to after them.
 ghost use Rattle.std.specs.Prelude.{◌≡◌, option_map};
-ghost use Rattle.msr_tree.specs.Memory.{file_of, steps_of};
+ghost use Rattle.msr_tree.specs.Memory.{file_of, steps_kept};
 ghost use Rattle.msr_tree.specs.Steps.{now};
 
 use crate::memory::deed::Deed;
@@ -14,7 +14,7 @@ pub(crate) struct Found<'a> {
 
 /// The file that a name leads to after these steps.
 pub(crate) fn find<'a>(deeds: &'a [Deed], name: &str) -> Option<Found<'a>>
-    ensures { option_map file_of result ≡ now (steps_of deeds.now) name.now }
+    ensures { option_map file_of result ≡ now (steps_kept deeds.now) name.now }
 {
     let mut wanted = name;
     let mut rest = deeds;

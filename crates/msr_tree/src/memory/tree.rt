@@ -1,7 +1,7 @@
 //! The tree in memory.
 ghost use Rattle.std.specs.Prelude.{◌≡◌, ◌∷◌, ℕ, List, [], None, string_bytes, option_map, IfErr, IfOk, IsSome, MatchOption, MatchResult, OnOk};
-ghost use Rattle.msr_tree.specs.Calls.{Does, Stops};
-ghost use Rattle.msr_tree.specs.Steps.{Failed, FileStored, FolderStored, IsAtRest, Made, MayLeave, Path, folder_of, now, seen};
+ghost use Rattle.msr_tree.specs.Calls.{DoesStep, Stops};
+ghost use Rattle.msr_tree.specs.Steps.{Failed, FileStored, FolderStored, IsAtRest, Made, MayLeave, Path, folder_above, now, seen};
 ghost use Rattle.msr_tree.specs.declared.facts.Kind.TheVariants.{Regular};
 ghost use Rattle.msr_tree.specs.declared.tree.TreeFault.TheVariants.{Memory};
 
@@ -13,7 +13,7 @@ use crate::memory::deeds::{Found, find};
 use crate::memory::failure::{Ending, Failure};
 use crate::memory::reader::MemoryReader;
 use crate::memory::writer::MemoryWriter;
-use crate::paths::{folder_of, is_within};
+use crate::paths::{folder_above, is_within};
 use crate::tree::{Tree, TreeFault};
 use std::alloc::Global;
 use std::marker::Model;
@@ -58,12 +58,12 @@ pub struct MemoryTree {
 
 impl Model for MemoryTree {
     ghost use Rattle.std.specs.Prelude.{List};
-    ghost use Rattle.msr_tree.specs.Memory.{steps_of};
+    ghost use Rattle.msr_tree.specs.Memory.{steps_kept};
     ghost use Rattle.msr_tree.specs.Steps.{Step};
 
     ghost Value = { List Step };
 
-    ghost view = { λ tree. steps_of tree.deeds.items };
+    ghost view = { λ tree. steps_kept tree.deeds.items };
 }
 
 impl MemoryTree {
@@ -160,9 +160,9 @@ impl MemoryTree {
         }
     }
 
-    /// Does a step, or what is done of it by a call that ends so.
+    /// DoesStep a step, or what is done of it by a call that ends so.
     fn ends(&mut self, ending: Option<Ending>, deed: Deed) -> Result<(), TreeFault>
-        ensures { Does (step_of deed) result self.old self.new }
+        ensures { DoesStep (step_of deed) result self.old self.new }
     {
         match ending {
             None => self.note(deed),
@@ -171,9 +171,9 @@ impl MemoryTree {
         }
     }
 
-    /// Does a step, unless this call is to fail.
+    /// DoesStep a step, unless this call is to fail.
     fn does(&mut self, deed: Deed) -> Result<(), TreeFault>
-        ensures { Does (step_of deed) result self.old self.new }
+        ensures { DoesStep (step_of deed) result self.old self.new }
     {
         let ending = self.next_ending();
         self.ends(ending, deed)
@@ -193,13 +193,13 @@ impl MemoryTree {
     /// A file that is there at the beginning, on the disk. After an `Err` the tree is of no use.
     pub fn with(&mut self, name: &str, bytes: &[u8]) -> Result<(), TreeFault>
         ensures past { OnOk result (self.new
-            ≡ FolderStored (folder_of name.now) ∷ FileStored name.now ∷ Made name.now bytes.now ∷ self.old) }
+            ≡ FolderStored (folder_above name.now) ∷ FileStored name.now ∷ Made name.now bytes.now ∷ self.old) }
         ensures rest { OnOk result (IsAtRest self.old → IsAtRest self.new) }
         ensures err { IfErr result (λ fault. fault ≡ Memory) }
     {
         let made = Deed::Made(self.own(name)?, Vec::from_slice(self.alloc, bytes)?);
         let file = Deed::FileStored(self.own(name)?);
-        let folder = Deed::FolderStored(self.own(folder_of(name))?);
+        let folder = Deed::FolderStored(self.own(folder_above(name))?);
         self.note(made)?;
         self.note(file)?;
         self.note(folder)?;

@@ -4,7 +4,7 @@ use Rattle.msr_tree.specs.Steps.{now, seen}
 use Rattle.msr_tree.proofs.Acting.{giving, goes_same, then_ok, then_stopped}
 use Rattle.msr_tree.proofs.Changes.{seen_kept}
 use Rattle.msr_replace.specs.Moves.{Anything}
-use Rattle.msr_replace.specs.Phases.{AreSame, AreSeen}
+use Rattle.msr_replace.specs.Phases.{HaveOneContent, AreSeenApart}
 use Rattle.msr_replace.specs.Promise.{AreKept, KeepsBoth}
 use Rattle.msr_tree.proofs.Moments.{at_end}
 use Rattle.msr_replace.proofs.Phases.{keeps_end, keeps_stopped, keeps_then, quiet_moments, says_nothing, seen_apart}
@@ -42,7 +42,7 @@ returns-then-branch g c =
     let both = then_ok {A = Bool} {B = Bool} {C = Bool} [] (Anything {T = Bool}) _ (λ old new x. x ≡ true → seen new names.day ≡ seen new names.records) c.in_ok-are_still.field-0 c.in_ok-is_same.field-0 c.in_ok-is_same.field-0 _ _ _
     (λ p q r any same x y. λ is. subst (λ s. seen s names.day ≡ seen s names.records) (sym same.0) (same.1.yes is)) c.in_ok-are_still.ensures second in
     keeps_then names Original Records [] (AreKept names Original Records) (λ n none. tt)
-    (λ a b p q kept ch. quiet_moments names Original Records [] a b p q tt tt tt kept.keeps ch) _ (AreSame names Original Records) c.in_ok-is_same.field-0 _ _ _ _
+    (λ a b p q kept ch. quiet_moments names Original Records [] a b p q tt tt tt kept.keeps ch) _ (HaveOneContent names Original Records) c.in_ok-is_same.field-0 _ _ _ _
     (λ a b p q kept same ch. record {
       kept = record {
         keeps = at_end (KeepsBoth names Original a Records b) p q (quiet_moments names Original Records [] a b p q tt tt tt kept.keeps ch);
@@ -58,5 +58,5 @@ returns g c =
     let both = then_ok {A = Bool} {B = Bool} {C = Bool} [] (Anything {T = Bool}) _ (λ old new x. IsSome (now new names.records) × (x ≡ false → seen new names.day ≢ seen new names.records)) c.in_ok-are_still.field-0 c.in_ok-is_same.field-0 c.in_ok-is_same.field-0 _ _ _
     (λ p q r any same x y. (subst (λ s. IsSome (now s names.records)) (sym same.0) same.1.has_other, λ is. subst (λ s. seen s names.day ≢ seen s names.records) (sym same.0) (same.1.no is))) c.in_ok-are_still.ensures second in
     keeps_then names Original Records [] (AreKept names Original Records) (λ n none. tt)
-    (λ a b p q kept ch. quiet_moments names Original Records [] a b p q tt tt tt kept.keeps ch) _ (AreSeen names Original Records) c.in_ok-is_same.field-0 _ _ _ _
+    (λ a b p q kept ch. quiet_moments names Original Records [] a b p q tt tt tt kept.keeps ch) _ (AreSeenApart names Original Records) c.in_ok-is_same.field-0 _ _ _ _
     (λ a b p q kept differ ch. seen_apart names Original Records a b p q kept ch differ.0 (differ.1 c.if-branch.false)) both c.settle_both.ensures

@@ -4,7 +4,7 @@ use Rattle.msr_tree.specs.Steps.{Removed}
 use Rattle.msr_tree.proofs.Acting.{goes_more, goes_step, goes_within, then_given, then_ok, then_stopped}
 use Rattle.msr_tree.proofs.Changes.{ready_kept}
 use Rattle.msr_replace.specs.Moves.{Anything, KeepsAs, NamesIfNone, Prepares}
-use Rattle.msr_replace.specs.Names.{path_of}
+use Rattle.msr_replace.specs.Names.{path_at}
 use Rattle.msr_replace.specs.declared.moves.Hindrance.{Hindrance}
 use Rattle.msr_replace.specs.declared.names.Place.TheVariants.{Day}
 use Rattle.msr_replace.proofs.moves.copy_as.Goals as goal
@@ -12,18 +12,18 @@ use Rattle.msr_replace.proofs.moves.copy_as.Goals as goal
 pub returns-in_err-look_alike : goal.returns-in_err-look_alike
 returns-in_err-look_alike g c =
     let p = err_from_is_err_and c.from_residual-in_err-look_alike.result c.from_residual-in_err-look_alike.ensures.1 in
-    let day = path_of c.args.names.now Day in
-    let part = path_of c.args.names.now c.args.part in
-    let name = path_of c.args.names.now c.args.place in
+    let day = path_at c.args.names.now Day in
+    let part = path_at c.args.names.now c.args.part in
+    let name = path_at c.args.names.now c.args.place in
     let first = goes_within {T = Unit {0}} (part ∷ []) (name ∷ part ∷ []) (Prepares day part) _ _ _ (λ n none. (none.1.0, tt)) c.in_ok-copy_stored.ensures in
     let second = goes_within {T = Bool} [] (name ∷ part ∷ []) (Anything {T = Bool}) _ _ _ (λ n none. tt) c.in_err-look_alike.ensures in
     rw (p.1, p.2) (then_stopped {A = Unit {0}} {B = Bool} {C = Option Hindrance} (name ∷ part ∷ []) _ _ (KeepsAs day name) _ _ _ _ _ first second)
 
 pub returns-then-branch : goal.returns-then-branch
 returns-then-branch g c =
-    let day = path_of c.args.names.now Day in
-    let part = path_of c.args.names.now c.args.part in
-    let name = path_of c.args.names.now c.args.place in
+    let day = path_at c.args.names.now Day in
+    let part = path_at c.args.names.now c.args.part in
+    let name = path_at c.args.names.now c.args.place in
     let l = name ∷ part ∷ [] in
     let first = goes_within {T = Unit {0}} (part ∷ []) l (Prepares day part) _ _ _ (λ n none. (none.1.0, tt)) c.in_ok-copy_stored.ensures in
     let second = goes_within {T = Bool} [] l (Anything {T = Bool}) _ _ _ (λ n none. tt) c.in_ok-look_alike.ensures in
@@ -35,9 +35,9 @@ returns-then-branch g c =
 pub returns-in_err-remove : goal.returns-in_err-remove
 returns-in_err-remove g c =
     let p = err_from_is_err_and c.from_residual-in_err-remove.result c.from_residual-in_err-remove.ensures.1 in
-    let day = path_of c.args.names.now Day in
-    let part = path_of c.args.names.now c.args.part in
-    let name = path_of c.args.names.now c.args.place in
+    let day = path_at c.args.names.now Day in
+    let part = path_at c.args.names.now c.args.part in
+    let name = path_at c.args.names.now c.args.place in
     let l = name ∷ part ∷ [] in
     let first = goes_more {T = Unit {0}} (part ∷ []) l (Prepares day part) _ _ _ (λ n none. (none.1.0, tt)) c.in_ok-copy_stored.ensures in
     let second = goes_more {T = Bool} [] l (Anything {T = Bool}) _ _ _ (λ n none. tt) c.in_ok-look_alike.ensures in
@@ -48,9 +48,9 @@ returns-in_err-remove g c =
 
 pub returns : goal.returns
 returns g c =
-    let day = path_of c.args.names.now Day in
-    let part = path_of c.args.names.now c.args.part in
-    let name = path_of c.args.names.now c.args.place in
+    let day = path_at c.args.names.now Day in
+    let part = path_at c.args.names.now c.args.part in
+    let name = path_at c.args.names.now c.args.place in
     let l = name ∷ part ∷ [] in
     let first = goes_more {T = Unit {0}} (part ∷ []) l (Prepares day part) _ _ _ (λ n none. (none.1.0, tt)) c.in_ok-copy_stored.ensures in
     let second = goes_more {T = Bool} [] l (Anything {T = Bool}) _ _ _ (λ n none. tt) c.in_ok-look_alike.ensures in

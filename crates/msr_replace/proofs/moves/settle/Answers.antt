@@ -2,7 +2,7 @@ use Rattle.std.proofs.Common.{[], ◌≡◌, ◌∷◌, refl, subst}
 use Rattle.std.proofs.lemmas.Result.{err_from_is_err_and}
 use Rattle.msr_tree.specs.Steps.{FileStored, FolderStored}
 use Rattle.msr_tree.proofs.Acting.{goes_does, stopped_as, then_given}
-use Rattle.msr_replace.specs.Names.{folder_at, path_of}
+use Rattle.msr_replace.specs.Names.{folder_at, path_at}
 use Rattle.msr_replace.specs.Moves.{Stores}
 use Rattle.msr_replace.proofs.Moved.{settled_by}
 use Rattle.msr_replace.proofs.moves.settle.Goals as goal
@@ -14,7 +14,7 @@ returns-in_err-store_file g c =
 
 pub returns : goal.returns
 returns g c =
-    let name = path_of c.args.names.now c.args.place in
+    let name = path_at c.args.names.now c.args.place in
     let folder = folder_at c.args.names.now c.args.place in
     let first = goes_does {T = Unit {0}} [] (FileStored c.at.result.now) _ _ _ (λ other none. refl) c.in_ok-store_file.ensures in
     let second = goes_does {T = Unit {0}} [] (FolderStored c.folder.result.now) _ _ _ (λ other none. refl) c.store_folder.ensures in

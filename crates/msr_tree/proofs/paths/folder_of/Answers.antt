@@ -1,6 +1,6 @@
 use Rattle.std.proofs.Common.{rules}
 use Rattle.msr_tree.proofs.FolderLemmas.{folder_from_rsplit}
-use Rattle.msr_tree.proofs.paths.folder_of.Goals as goal
+use Rattle.msr_tree.proofs.paths.folder_above.Goals as goal
 
 pub returns-in-Some : goal.returns-in-Some
 returns-in-Some c =

@@ -1,5 +1,5 @@
 use Rattle.std.proofs.Common.{length}
-use Rattle.msr_tree.specs.Memory.{steps_of}
+use Rattle.msr_tree.specs.Memory.{steps_kept}
 use Rattle.msr_tree.specs.Steps.{IsAtRest, Path}
 use Rattle.msr_tree.proofs.Deeds.{Sees}
 use Rattle.msr_tree.proofs.memory.tree.MemoryTree.crash.Given as goal
@@ -8,4 +8,4 @@ abbrev pub decreases-loop-deed : goal.decreases-loop-deed
 decreases-loop-deed l = length l.rest
 
 abbrev pub invariant-loop-deed : goal.invariant-loop-deed
-invariant-loop-deed l = record { rests : IsAtRest l.after; sees : (name : Path) → Sees l.self (steps_of l.rest) l.after name }
+invariant-loop-deed l = record { rests : IsAtRest l.after; sees : (name : Path) → Sees l.self (steps_kept l.rest) l.after name }
