@@ -1,5 +1,5 @@
 -- How tasks end: done, stopped, or before they begin.
-use Rattle.std.specs.Prelude.{◌↔◌, ⊤, IsTrue}
+use Rattle.std.specs.Prelude.{◌↔◌, ⊤, IsTrue, vec_len}
 use Rattle.std.proofs.Common.{◌≡◌, ℕ, Bool, List, [], codes, refl, subst, sym, inl, inr, append-nil, Result, Ok, Err}
 use Rattle.msr_devices.specs.Device.{Device, HasLeft, Takes}
 use Rattle.msr_devices.proofs.Chaining.{left_of, takes_append, takes_none}
@@ -203,7 +203,7 @@ check_unread out stop is = record {
 }
 
 pub archive_done : (asked : Archiving) (out0 out : Device) (walked : Walked) → Walks asked.days out0 out (Ok walked) →
-    WalksArchive asked out0 out (Ok (done_of_archive (is_whole asked.below.items) walked))
+    WalksArchive asked out0 out (Ok (done_of_archive (is_whole (vec_len asked.below)) walked))
 archive_done asked out0 out walked does = record {
   printed = does.printed;
   prints = does.prints;
@@ -224,7 +224,7 @@ archive_unbegun asked out stop (inr refused) = rw refused (archive_stops asked o
     (stops_entries asked.days out out device_fault.Memory (none_told asked.days out))))
 
 pub verify_done : (asked : Verifying) (out0 out : Device) (found : WalkFound) → Verifies out0 out (Ok found) →
-    VerifiesArchive asked out0 out (Ok (done_of_verifying (is_whole asked.below.items) found))
+    VerifiesArchive asked out0 out (Ok (done_of_verifying (is_whole (vec_len asked.below)) found))
 verify_done asked out0 out found does = record {
   printed = does.printed;
   prints = does.prints;

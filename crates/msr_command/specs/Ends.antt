@@ -1,5 +1,5 @@
 -- How a task ends: what was read and printed, for what the files of the system hold.
-use Rattle.std.specs.Prelude.{if◌then◌else◌, ◌≡◌, ◌≢◌, ◌⊎◌, ◌↔◌, ◌<◌, ◌≤◌, ◌&&◌, ℕ, ⊤, Bool, false, true, IsTrue, List, [], ◌==◌, codes, length, map, slice_get, string_bytes, IsSomeAnd, Option, None, Result, Ok, Err}
+use Rattle.std.specs.Prelude.{if◌then◌else◌, ◌≡◌, ◌≢◌, ◌⊎◌, ◌↔◌, ◌<◌, ◌≤◌, ◌&&◌, ℕ, ⊤, Bool, false, true, IsTrue, List, [], ◌==◌, codes, length, map, slice_get, string_bytes, vec_len, IsSomeAnd, Option, None, Result, Ok, Err}
 use Rattle.std.specs.Borrow.{Bor}
 use Rattle.std.specs.declared.io.Error.{Error}
 use Rattle.msr_devices.specs.Device.{Device, CountsError, HasFailed, HasLeft, Takes}
@@ -241,12 +241,12 @@ pub record IsEndOf {W : Type 0} (done_of : W → Done) (ends : W → Type 0) (do
   pub is : done ≡ done_of found
 
 -- the whole archive is walked if no folder of it is asked for
-abbrev pub is_whole : {F : Type 0} → (below : List F) → Bool
-is_whole below = length below == 0
+abbrev pub is_whole : (folders : ℕ) → Bool
+is_whole folders = folders == 0
 
 abbrev pub ArchiveEnds : Archiving → (printed : List ℕ) → Result Done TaskFault → Type 0
 ArchiveEnds asked printed result =
-    Ends (IsEndOf (done_of_archive (is_whole asked.below.items)) (λ found. WalkEnds asked.days printed (Ok found)))
+    Ends (IsEndOf (done_of_archive (is_whole (vec_len asked.below))) (λ found. WalkEnds asked.days printed (Ok found)))
     (λ stop. stop ≡ Overlap) (λ fault. WalkEnds asked.days printed (Err fault)) printed result
 
 -- Walking an archive, and what was printed.
@@ -257,7 +257,7 @@ pub record WalksArchive (asked : Archiving) (out0 out : Device) (result : Result
 
 abbrev pub VerifyEnds : Verifying → (printed : List ℕ) → Result Done TaskFault → Type 0
 VerifyEnds asked printed result =
-    Ends (IsEndOf (done_of_verifying (is_whole asked.below.items)) (λ found. VerifyingEnds printed (Ok found)))
+    Ends (IsEndOf (done_of_verifying (is_whole (vec_len asked.below))) (λ found. VerifyingEnds printed (Ok found)))
     (λ stop. stop ≡ Overlap) (λ fault. VerifyingEnds printed (Err fault)) printed result
 
 -- Verifying the repack of an archive, and what was printed.
