@@ -86,15 +86,18 @@ module _ {A B C : Type 0} (names : List Path) (First : (old new : List Step) →
   and_then second result fails so first goes = record {
     from = λ new went.
         let later = goes.from new went in
-        let sooner = first.from later.0 later.1 in
-        (sooner.0, sooner.1, record {
-          changes = changes_then names sooner.0 later.0 new sooner.2.changes later.2.changes;
-          cause = λ is.
-              let few = no_fewer names sooner.0 later.0 sooner.2.changes in
-              let more = later.2.cause (fails is) in
-              omega arith;
-          does = so sooner.0 later.0 new sooner.2.does later.2.does sooner.2.changes later.2.changes;
-        });
+        let sooner = first.from later.0 later.1 in (
+          sooner.0,
+          sooner.1,
+          record {
+            changes = changes_then names sooner.0 later.0 new sooner.2.changes later.2.changes;
+            cause = λ is.
+                let few = no_fewer names sooner.0 later.0 sooner.2.changes in
+                let more = later.2.cause (fails is) in
+                omega arith;
+            does = so sooner.0 later.0 new sooner.2.does later.2.does sooner.2.changes later.2.changes;
+          },
+        );
   }
 
 -- what is done of a call that is answered in other words
@@ -105,12 +108,15 @@ pub told_as : {A B : Type 0} (few names : List Path) (First : (old new : List St
     → Goes one two (Acts few First first) → Goes one two (Acts names Done result)
 told_as few names First Done first result one two fails more so goes = record {
   from = λ new went.
-      let before = goes.from new went in
-      (before.0, before.1, record {
-        changes = record { made = before.2.changes.made; since = before.2.changes.since; spares = λ name none. before.2.changes.spares name (more name none) };
-        cause = λ is. before.2.cause (fails is);
-        does = so before.0 new before.2.does before.2.changes;
-      });
+      let before = goes.from new went in (
+        before.0,
+        before.1,
+        record {
+          changes = record { made = before.2.changes.made; since = before.2.changes.since; spares = λ name none. before.2.changes.spares name (more name none) };
+          cause = λ is. before.2.cause (fails is);
+          does = so before.0 new before.2.does before.2.changes;
+        },
+      );
 }
 
 -- the same in other words
