@@ -1,5 +1,5 @@
 -- The states between which the files of a day change places.
-use Rattle.std.specs.Prelude.{◌≡◌, List, ℕ, None, Some}
+use Rattle.std.specs.Prelude.{◌≡◌, List, ℕ, Some}
 use Rattle.msr_tree.specs.Steps.{IsReady, Leaves, Step, seen}
 use Rattle.msr_replace.specs.Names.{Names, path_at}
 use Rattle.msr_replace.specs.Promise.{AreKept, KeepsBoth}

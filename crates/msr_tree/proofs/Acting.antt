@@ -1,5 +1,5 @@
 -- One call, and then another.
-use Rattle.std.proofs.Common.{◌≡◌, ◌<◌, ◌≤◌, ◌+◌, ◌⊎◌, inl, inr, ⊎_elim, ℕ, suc, Bool, true, false, IsSome, List, [], ◌∷◌, ◌++◌, refl, sym, ◌∙◌, ap, subst, Result, Ok, Err, IsErrOf, IfOk, arith}
+use Rattle.std.proofs.Common.{◌≡◌, ◌<◌, ◌≤◌, inl, inr, ⊎_elim, Bool, true, false, IsSome, List, [], ◌∷◌, ◌++◌, refl, sym, ap, subst, Result, Ok, Err, IsErrOf, IfOk, arith}
 use Rattle.msr_tree.specs.Acts.{Acts}
 use Rattle.msr_tree.specs.Calls.{IsSameAs, Copied, Copies, DoesStep, Goes, PerhapsCopied, PerhapsDone, RenamesNew, Stops, Tells, MakesFolders, AreOfFolders}
 use Rattle.std.specs.Str.{bytes_eq}

@@ -1,9 +1,8 @@
 -- What stays of a name while others change.
-use Rattle.std.proofs.Common.{◌≡◌, ◌⊎◌, inl, inr, ⊎_elim, ℕ, Bool, true, false, List, [], ◌∷◌, ◌++◌, refl, sym, ◌∙◌, ap, subst, Option, Some, None, option_map, append_assoc}
+use Rattle.std.proofs.Common.{◌≡◌, inr, ℕ, true, List, [], ◌∷◌, ◌++◌, refl, sym, ◌∙◌, ap, subst, Option, Some, option_map, append_assoc}
 use Rattle.std.proofs.lemmas.List.{append_cancel_right}
-use Rattle.std.specs.Str.{bytes_eq}
-use Rattle.msr_tree.specs.Steps.{AtEachMoment, ChangesOnly, FileStored, FolderStored, IsNoneOf, IsReady, IsStored, Leaves, MayLeave, Path, Renamed, Spares, Step, Throughout, now, seen, stands_in, touches}
-use Rattle.msr_tree.proofs.Crash.{file_of, is_of, is_self, leaves, quiet, settled, stays, still, untouched}
+use Rattle.msr_tree.specs.Steps.{AtEachMoment, ChangesOnly, FileStored, FolderStored, IsNoneOf, IsReady, IsStored, Leaves, MayLeave, Path, Renamed, Spares, Step, Throughout, now, seen, stands_in}
+use Rattle.msr_tree.proofs.Crash.{file_of, is_of, is_self, quiet, settled, stays, still, untouched}
 
 spares_more : (name : Path) (one two : List Step) → Spares name one → Spares name two → Spares name (two ++ one)
 spares_more name one [] a b = a

@@ -1,9 +1,8 @@
 -- What a step changes of what a crash may leave.
-use Rattle.std.proofs.Common.{◌≡◌, ◌⊎◌, inl, inr, ⊎_elim, ℕ, Bool, true, false, ◌||◌, List, [], ◌∷◌, ◌++◌, length, refl, if◌then◌else◌, sym, ◌∙◌, ap, subst, Option, Some, None, option_map}
+use Rattle.std.proofs.Common.{◌≡◌, ◌⊎◌, inl, inr, ⊎_elim, ℕ, Bool, true, false, ◌||◌, List, [], ◌∷◌, refl, if◌then◌else◌, subst, Option, Some, None, option_map}
 use Rattle.std.specs.Str.{bytes_eq}
-use Rattle.std.proofs.lemmas.Bool.{cases_Bool}
 use Rattle.std.proofs.lemmas.Slice.Eq.{bytes_eq-Decides}
-use Rattle.msr_tree.specs.Steps.{Failed, File, FileStored, FolderMade, FolderStored, IfThenElse, IsAtRest, IsStored, Leaves, Linked, Made, MayLead, MayLeave, Path, Removed, Renamed, ShowsAfter, Step, now, seen, stands_in, touches}
+use Rattle.msr_tree.specs.Steps.{Failed, File, FileStored, FolderMade, FolderStored, IfThenElse, IsStored, Leaves, Linked, Made, MayLead, MayLeave, Path, Removed, Renamed, ShowsAfter, Step, now, seen, stands_in, touches}
 
 both : {P Q : Type 0} (test : Bool) → P → Q → IfThenElse test P Q
 both true p q = p

@@ -1,5 +1,5 @@
 -- What a function over a tree does.
-use Rattle.std.specs.Prelude.{◌<◌, ◌≡◌, List, IfOk, IsErrOf, Result}
+use Rattle.std.specs.Prelude.{◌<◌, List, IfOk, IsErrOf, Result}
 use Rattle.msr_tree.specs.Steps.{ChangesOnly, Path, Step, failures}
 use Rattle.msr_tree.specs.declared.tree.TreeFault.{TreeFault}
 use Rattle.msr_tree.specs.declared.tree.TreeFault.TheVariants.{Failed}
