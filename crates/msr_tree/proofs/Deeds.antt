@@ -18,17 +18,6 @@ use Rattle.msr_tree.proofs.Crash.{is_self, leaves_seen, still}
 pub last_step : (deeds before : List Deed) (deed : Deed) → deeds ≡ before ++ (deed ∷ []) → steps_kept deeds ≡ step_of deed ∷ steps_kept before
 last_step deeds before deed is = ap steps_kept is ∙ (ap reverse (map-append step_of before (deed ∷ [])) ∙ reverse-append (map step_of before) (step_of deed ∷ []))
 
--- a step that does not store the folder of a name: it may lead where it might before
-pub lead_on : (step : Step) (past : List Step) (name : Path) (found : Option File) → settles step name ≡ false → MayLead past name found → MayLead (step ∷ past) name found
-lead_on (Made at bytes) past name found not may = inl may
-lead_on (Linked from to) past name found not may = inl may
-lead_on (Renamed from to) past name found not may = inl may
-lead_on (Removed at) past name found not may = inl may
-lead_on (FileStored at) past name found not may = inl may
-lead_on (FolderStored at) past name found not may = subst (λ test. IfThenElse test (found ≡ now past name) (MayLead past name found)) (sym not) may
-lead_on (FolderMade at) past name found not may = inl may
-lead_on Failed past name found not may = inl may
-
 -- one more file that is on the disk
 pub one_more_rests : (at : Path) (bytes : List ℕ) (past : List Step) → IsAtRest past → IsAtRest (FolderStored (folder_above at) ∷ FileStored at ∷ Made at bytes ∷ past)
 one_more_rests at bytes past rests name = elim (cases_Bool (bytes_eq name at)) [
@@ -80,13 +69,6 @@ pub record Sees (past rest : List Step) (after : List Step) (name : Path) : Type
 pub sees_none : (past : List Step) (name : Path) → Sees past past [] name
 sees_none past name = record { so_far = inr (refl, λ none. subst (λ found. MayLeave past name (option_map (λ file. file.bytes) found)) none (leaves_seen past name)) }
 
-pub sees_all : (past after : List Step) (name : Path) → Sees past [] after name → MayLeave past name (seen after name)
-sees_all past after name sees = ⊎_elim (λ may. may) (λ none. subst (λ s. MayLeave past name s) (sym none.0) (none.1 refl)) sees.so_far
-
--- a step that gives no name a file
-pub sees_quiet : (step : Step) (past rest after : List Step) (name : Path) → target_of step ≡ None → Sees past (step ∷ rest) after name → Sees past rest after name
-sees_quiet step past rest after name quiet sees = record { so_far = ⊎_elim inl (λ none. inr (none.0, λ gone. none.1 (without step rest name (subst (λ t. MatchOption t ⊤ (λ to. bytes_eq name to ≡ false)) (sym quiet) tt) gone))) sees.so_far }
-
 -- a step that gives a name a file
 pub sees_given : (step : Step) (past rest old new : List Step) (to name : Path) → target_of step ≡ Some to → LeavesName to past old new → Sees past (step ∷ rest) old name → Sees past rest new name
 sees_given step past rest old new to name given left sees = elim (cases_Bool (bytes_eq name to)) [
@@ -114,9 +96,6 @@ sees_given step past rest old new to name given left sees = elim (cases_Bool (by
 -- a folder is made, or its making fails
 pub folder_made : (folder : Path) (old new : List Step) (told : Bool) → new ≡ FolderMade folder ∷ old → MakesFolders {T = Bool} (Ok told) old new
 folder_made folder old new told is = record { made = FolderMade folder ∷ []; since = is; are = tt; cause = λ err. cc }
-
-pub folder_in_the_way : (old new : List Step) (told : Bool) → new ≡ old → MakesFolders {T = Bool} (Ok told) old new
-folder_in_the_way old new told is = record { made = []; since = is; are = tt; cause = λ err. cc }
 
 pub folder_stops : (folder : Path) (why : TreeFault) (old new : List Step) → Stops why (PerhapsDone (FolderMade folder) old) old new → MakesFolders {T = Bool} (Err why) old new
 folder_stops folder fault.Memory old new is = record { made = []; since = is; are = tt; cause = λ err. cc }

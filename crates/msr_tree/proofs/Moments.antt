@@ -2,19 +2,10 @@
 use Rattle.std.proofs.Common.{◌≡◌, ◌⊎◌, ⊎_elim, List, [], ◌∷◌, ◌++◌, sym, ◌∙◌, ap, subst, append_assoc}
 use Rattle.msr_tree.specs.Steps.{AtEachMoment, Step, Throughout}
 
--- one step more
-pub on : (step : Step) (mid new so_far : List Step) → new ≡ step ∷ mid → mid ≡ so_far → new ≡ step ∷ so_far
-on step mid new so_far is before = is ∙ ap (λ l. step ∷ l) before
-
 module _ (P : List Step → Type 0) where
   -- after these steps
   pub done : (old new made : List Step) → new ≡ made ++ old → Throughout P old made → AtEachMoment P old new
   done old new made is holds = record { made = made; since = is; holds = holds }
-
-  -- after them and perhaps one more
-  pub perhaps : (step : Step) (old mid new made : List Step) → mid ≡ made ++ old → (new ≡ mid) ⊎ (new ≡ step ∷ mid) → Throughout P old (step ∷ made) → AtEachMoment P old new
-  perhaps step old mid new made is ends holds =
-      ⊎_elim (λ not. done old new made (not ∙ is) holds.0) (λ so. done old new (step ∷ made) (so ∙ ap (λ l. step ∷ l) is) holds) ends
 
   last : (old made : List Step) → Throughout P old made → P (made ++ old)
   last old [] holds = holds
@@ -34,11 +25,3 @@ module _ (P : List Step → Type 0) where
       done old new (two.made ++ one.made)
       (two.since ∙ ap (λ l. two.made ++ l) one.since ∙ sym (append_assoc two.made one.made old))
       (more old one.made two.made one.holds (subst (λ l. Throughout P l two.made) one.since two.holds))
-
--- what holds as long as something else does
-pub follows : (P Q : List Step → Type 0) → ((past : List Step) → P past → Q past) → (old new : List Step) → AtEachMoment P old new → AtEachMoment Q old new
-follows P Q so old new each = record { made = each.made; since = each.since; holds = go each.made each.holds }
-  where
-    go : (made : List Step) → Throughout P old made → Throughout Q old made
-    go [] holds = so old holds
-    go (step ∷ made) holds = (go made holds.0, so (step ∷ made ++ old) holds.1)
