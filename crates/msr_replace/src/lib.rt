@@ -5,10 +5,12 @@ mod exchange;
 mod moves;
 mod names;
 mod preparing;
+mod restore;
 mod told;
 
 pub use exchange::replace_day;
 pub use moves::Hindrance;
 pub use names::{DayNames, Place};
 pub use preparing::Verified;
+pub use restore::restore_day;
 pub use told::{Refusal, Told};

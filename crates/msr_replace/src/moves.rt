@@ -72,7 +72,7 @@ fn name_new<T: Tree>(
 }
 
 /// Whether two names lead to regular files, dressed alike if that is asked for.
-fn look_alike<T: Tree>(
+pub(crate) fn look_alike<T: Tree>(
     tree: &mut T,
     names: &DayNames,
     one: Place,

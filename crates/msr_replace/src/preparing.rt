@@ -6,6 +6,7 @@ ghost use Rattle.msr_replace.specs.Moves.{Anything, PreparesIf, PreparesIfNone};
 ghost use Rattle.msr_replace.specs.Names.{path_at};
 ghost use Rattle.msr_replace.specs.declared.names.Place.TheVariants.{DayPart, Note, Original, Records};
 
+use crate::moves::{Dress, Hindrance, copy_stored, look_alike};
 use crate::names::{DayNames, Place};
 use crate::told::GivenUp;
 use msr_tree::{Facts, Kind, Tree, TreeFault};
@@ -132,4 +133,45 @@ pub(crate) fn leave<T: Tree>(tree: &mut T, names: &DayNames) -> Result<(), TreeF
 {
     tree.remove(names.at(Place::DayPart))?;
     forget(tree, names)
+}
+
+/// The original is ready to take the place of the records in ROOT, or cannot be as it was.
+pub(crate) fn prepare_original<T: Tree>(
+    tree: &mut T,
+    names: &DayNames,
+) -> Result<Option<Hindrance>, TreeFault>
+    ensures { Goes (T.went tree.old) (T.went tree.new) (Acts (path_at names.now DayPart ∷ [])
+        (PreparesIfNone (path_at names.now Original) (path_at names.now DayPart)) result) }
+{
+    copy_stored(tree, names, Place::Original, Place::DayPart)?;
+    if look_alike(tree, names, Place::Original, Place::DayPart, Dress::Same)? {
+        return Ok(None);
+    }
+    tree.remove(names.at(Place::DayPart))?;
+    Ok(Some(Hindrance::Dress))
+}
+
+/// Whether the records in ROOT have another time than they were given: that of the original, or the one that was noted.
+pub(crate) fn was_touched<T: Tree>(tree: &mut T, names: &DayNames) -> Result<bool, TreeFault>
+    ensures { Goes (T.went tree.old) (T.went tree.new) (Acts [] Anything result) }
+{
+    let given = time_given(tree, names)?;
+    let day = tree.look(names.at(Place::Day))?;
+    Ok(!has_time(day, given))
+}
+
+fn time_given<T: Tree>(tree: &mut T, names: &DayNames) -> Result<Option<Facts>, TreeFault>
+    ensures { Goes (T.went tree.old) (T.went tree.new) (Acts [] Anything result) }
+{
+    if let Some(note) = tree.look(names.at(Place::Note))? {
+        return Ok(Some(note));
+    }
+    tree.look(names.at(Place::Original))
+}
+
+fn has_time(now: Option<Facts>, given: Option<Facts>) -> bool {
+    match (now, given) {
+        (Some(now), Some(given)) => now.changed == given.changed,
+        _ => false,
+    }
 }
