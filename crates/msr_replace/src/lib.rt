@@ -6,6 +6,7 @@ mod moves;
 mod names;
 mod preparing;
 mod restore;
+mod start;
 mod told;
 
 pub use exchange::replace_day;
@@ -13,4 +14,5 @@ pub use moves::Hindrance;
 pub use names::{DayNames, Place};
 pub use preparing::Verified;
 pub use restore::restore_day;
+pub use start::{begins_again, begins_at_rest, goes_both_ways};
 pub use told::{Refusal, Told};

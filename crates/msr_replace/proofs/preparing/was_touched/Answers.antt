@@ -1,12 +1,9 @@
-use Rattle.std.proofs.Common.{[], ℕ, List, Bool, Option, Some, None, ◌≡◌, ◌∷◌, ◌∙◌, refl, sym, subst}
+use Rattle.std.proofs.Common.{[], Bool, Option}
 use Rattle.std.proofs.lemmas.Result.{err_from_is_err_and}
 use Rattle.msr_tree.specs.declared.facts.Facts.{Facts}
 use Rattle.msr_tree.specs.Calls.{Looks}
-use Rattle.msr_tree.specs.Steps.{Removed, seen}
-use Rattle.msr_tree.proofs.Acting.{giving, goes_more, goes_step, goes_tells, goes_within, stopped_as, then_given, then_ok, then_stopped, told_as}
-use Rattle.msr_tree.proofs.Changes.{ready_kept}
-use Rattle.msr_replace.specs.Moves.{Anything, Prepares, PreparesIfNone}
-use Rattle.msr_replace.specs.declared.moves.Hindrance.{Hindrance}
+use Rattle.msr_tree.proofs.Acting.{goes_tells, then_ok, then_stopped}
+use Rattle.msr_replace.specs.Moves.{Anything}
 use Rattle.msr_replace.proofs.preparing.was_touched.Goals as goal
 
 pub returns-in_err-day : goal.returns-in_err-day

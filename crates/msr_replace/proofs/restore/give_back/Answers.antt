@@ -1,13 +1,12 @@
-use Rattle.std.proofs.Common.{[], ℕ, Bool, List, Option, Some, None, ◌≡◌, ◌∷◌, ◌∙◌, refl, sym, subst, ap}
+use Rattle.std.proofs.Common.{[], Bool, Some}
 use Rattle.std.proofs.lemmas.Result.{err_from_is_err_and}
-use Rattle.msr_tree.specs.Steps.{ChangesOnly, Leaves, Step, seen}
-use Rattle.msr_tree.proofs.Acting.{giving, goes_more, stopping, then_ok, then_stopped}
-use Rattle.msr_tree.proofs.Changes.{leaves_kept, seen_kept}
+use Rattle.msr_tree.proofs.Acting.{giving}
+use Rattle.msr_tree.proofs.Changes.{leaves_kept}
 use Rattle.msr_replace.specs.Moves.{Anything}
-use Rattle.msr_replace.specs.Phases.{AreHome, HavePlaces, IsInPlace}
-use Rattle.msr_replace.proofs.Phases.{home_moments, in_place_moments, keeps_end, keeps_stopped, keeps_then, places_moments, says_nothing}
+use Rattle.msr_replace.specs.Phases.{AreHome}
+use Rattle.msr_replace.proofs.Phases.{home_moments, keeps_end, keeps_stopped, keeps_then, says_nothing}
 use Rattle.msr_replace.specs.declared.told.Told.TheVariants as told
-use Rattle.msr_replace.specs.declared.names.Place.TheVariants.{Day, Note, Original, Records}
+use Rattle.msr_replace.specs.declared.names.Place.TheVariants.{Original, Records}
 use Rattle.msr_replace.proofs.restore.give_back.Goals as goal
 
 pub returns-in_err-was_touched : goal.returns-in_err-was_touched

@@ -2,7 +2,7 @@ use Rattle.std.proofs.Common.{[], Some, ◌∷◌, refl}
 use Rattle.std.proofs.lemmas.Result.{err_from_is_err_and}
 use Rattle.msr_tree.proofs.Changes.{leaves_kept}
 use Rattle.msr_replace.specs.Moves.{PreparesIfNone}
-use Rattle.msr_replace.specs.Phases.{AreHome, IsAside, IsPrepared}
+use Rattle.msr_replace.specs.Phases.{IsAside, IsPrepared}
 use Rattle.msr_replace.proofs.Phases.{home_moments, is_seen, keeps_end, keeps_stopped, keeps_then, says_nothing}
 use Rattle.msr_replace.specs.declared.names.Place.TheVariants.{Day, DayPart, Original, Records}
 use Rattle.msr_tree.proofs.Acting.{giving}
