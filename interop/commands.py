@@ -31,7 +31,8 @@ HINT_OF_LENGTHS = b"hint: msrepack writes records of %d, %d, %d, %d, %d, %d, %d,
 Task = namedtuple("Task", "command names length kinds tolerance strict json below resume check only_smaller bytes")
 Device = namedtuple("Device", "most fails")
 # What a run is given beside its words.
-Given = namedtuple("Given", "content reading writing redirected redirecting odd unsaid is_terminal")
+# The last is the file that tells what standard output had at each read, if one does.
+Given = namedtuple("Given", "content reading writing redirected redirecting odd unsaid is_terminal reads", defaults=(None,))
 # The status, what is printed (or any first part of it, of at least so many bytes), the complaint; what stands in files
 # then, and if printing fails; whether each line is printed by itself.
 FIELDS = "status printed complaint loose files failed lines least"
@@ -238,6 +239,24 @@ def decided(content, task):
     return task.length * (whole + sum(max(0, len(frontiers) - 2) for frontiers in last))
 
 
+def out_after(content, task):
+    """How many bytes are out when all of this has come: the records of all segments that have ended. None of the last one
+    is decided while it has fewer samples than the smallest full record."""
+    segments = model.read_all(content, task.tolerance, task.strict).segments
+    if segments and len(segments[-1].samples) >= (task.length - 64) // 4:
+        raise Unsaid("what is out of a segment that goes on")
+    return task.length * len(model.packed(segments[:-1], task.length, task.kinds)[0])
+
+
+def at_reads(given, task):
+    """The file that tells what was out at each read of standard input, of which the last finds nothing."""
+    if not given.reads:
+        return {}
+    calls = calls_for(given.content, given.reading)
+    counts = [out_after(b"".join(calls[:number]), task) for number in range(len(calls) + 1)]
+    return {given.reads: " ".join(map(str, ["reads", *counts])).encode() + b"\n"}
+
+
 def feed(task, given):
     [report_name] = task.names
     read = inputs("-", given)
@@ -253,7 +272,8 @@ def feed(task, given):
         elif fault:
             yield Outcome(1, records, told(fault), True, empty, empty)
         else:
-            yield Outcome(0, records, b"", files={report_name: report.encode()}, failed=empty)
+            files = {report_name: report.encode(), **at_reads(given, task)}
+            yield Outcome(0, records, b"", files=files, failed=empty)
 
 
 def list_segments(task, given):

@@ -43,6 +43,7 @@ GONE = "names that stand in a folder's list and are gone when they are looked at
 SETTINGS_LEFT = {name: DURING for name in ("earlier", "later", "gone", "made", "other", "taken", "when", "linked", "stays")}
 # Those that are made by the system.
 SETTINGS = {"from", "into", "cut", "reading", "writing", "redirected", "redirecting", "folder", "names", "held", "terminal"}
+SETTINGS_LEFT["reads"] = "what was printed at each read: feed_live.py looks at that"
 NAMES_LEFT = {"cut": "a folder whose list fails before its end", "marked": GONE, "day": GONE}
 A_FEW = "an output that takes only some bytes in each call"
 NOBODY_SEES = "what is printed to a device, where nobody sees it"

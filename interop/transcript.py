@@ -320,10 +320,11 @@ class Script:
         words = before.split()
         told = dict(word.split("=", 1) for word in words if word != "terminal")
         devices = [device(told.pop(name, "")) for name in ("reading", "writing")]
-        source, into, *redirects = [told.pop(name, None) for name in ("from", "into", "redirected", "redirecting")]
+        names = ("from", "into", "reads", "redirected", "redirecting")
+        source, into, reads, *redirects = [told.pop(name, None) for name in names]
         content = (self.read(source) if source else b"")[: int(told.pop("cut", sys.maxsize))]
         unsaid = {path for path, held in self.loose.items() if held}
-        return Given(content, *devices, *redirects, walks.Odd(**told), unsaid, "terminal" in words), into
+        return Given(content, *devices, *redirects, walks.Odd(**told), unsaid, "terminal" in words, reads), into
 
     def run(self, before, words):
         """What a run may print; another program may have a file locked meanwhile."""

@@ -9,6 +9,7 @@ mod each;
 mod files;
 mod inputs;
 mod names;
+mod noted;
 mod odd_files;
 mod questions;
 mod records;

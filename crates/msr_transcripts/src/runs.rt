@@ -1,11 +1,13 @@
 //! Runs of msrepack over streams of memory.
 
+use crate::noted::{NotedSink, NotedSource};
 use crate::settings::Settings;
 use crate::stage::Stage;
 use msr_arguments::read_words;
 use msr_command::run;
 use msr_devices::{TestSink, TestSource};
 use msr_options::Errors;
+use std::cell::Cell;
 use std::fs::{File, OpenOptions};
 
 /// What came of a run: what it printed, unless a file keeps that, its complaint, and its status.
@@ -57,8 +59,10 @@ fn answer_with(stage: &mut Stage<'_>, settings: &Settings<'_>, words: &[&str]) -
     let alloc = stage.alloc();
     let _held = held(stage, settings.held);
     let input = given(stage, settings);
-    let mut source = TestSource::new(input.as_slice(), settings.reading);
-    let mut sink = TestSink::new(Vec::new(alloc), settings.writing);
+    let written = Cell::new(0);
+    let source = TestSource::new(input.as_slice(), settings.reading);
+    let mut source = NotedSource::new(alloc, source, &written);
+    let mut sink = NotedSink::new(TestSink::new(Vec::new(alloc), settings.writing), &written);
     let mut errors = Errors {
         to: Vec::new(alloc),
         is_terminal: settings.is_terminal,
@@ -80,6 +84,10 @@ fn answer_with(stage: &mut Stage<'_>, settings: &Settings<'_>, words: &[&str]) -
         stage.note(printed.extend_from_slice(sink.bytes()).is_ok());
     } else {
         stage.write(settings.into, sink.bytes());
+    }
+    if !settings.reads.is_empty() {
+        let line = stage.made(source.line(alloc));
+        stage.write(settings.reads, line.as_str().as_bytes());
     }
     Answer {
         printed,

@@ -20,6 +20,9 @@ pub struct Settings<'a> {
     pub cut: usize,
     /// `into=FILE`: keeps what is printed.
     pub into: &'a str,
+    /// `reads=FILE`: that file gets in a line, after the word `reads`, how many bytes standard output had at each read of
+    /// standard input.
+    pub reads: &'a str,
     /// `held=FILE`: another program has locked it.
     pub held: &'a str,
     /// `reading=MOST@CALL`: standard input moves at most MOST bytes in a call, and fails at that call, from 0; `3`
@@ -54,6 +57,7 @@ impl<'a> Settings<'a> {
             from: "",
             cut: usize::MAX,
             into: "",
+            reads: "",
             held: "",
             reading: PLAIN,
             writing: PLAIN,
@@ -69,6 +73,7 @@ impl<'a> Settings<'a> {
             "from" => self.from = value,
             "cut" => self.cut = stage.count(value),
             "into" => self.into = value,
+            "reads" => self.reads = value,
             "held" => self.held = value,
             "reading" => self.reading = behavior(stage, value),
             "writing" => self.writing = behavior(stage, value),
