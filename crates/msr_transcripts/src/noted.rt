@@ -1,4 +1,5 @@
 //! A source and a sink of memory, of which is noted how much was written whenever something is read.
+ghost use Rattle.std.specs.Prelude.{◌≡◌};
 
 use msr_devices::{Sink, Source, TestSink, TestSource};
 use std::alloc::{AllocError, Global};
@@ -14,7 +15,7 @@ pub struct NotedSink<'a> {
 
 impl<'a> NotedSink<'a> {
     pub fn new(sink: TestSink, written: &'a Cell<usize>) -> NotedSink<'a>
-        ensures { ⟦<NotedSink<'a> as Sink>⟧.device result ≡ ⟦<TestSink as Sink>⟧.device sink.entry }
+        ensures { ⟦<NotedSink<'a> as Sink>⟧.device result ≡ ⟦<TestSink as Sink>⟧.device sink }
     {
         NotedSink { sink, written }
     }
