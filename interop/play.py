@@ -146,7 +146,7 @@ class Player(transcript.Script):
         if told.keys() - SETTINGS - SETTINGS_LEFT.keys():
             raise transcript.NoStep
         into = told.pop("into", None)
-        changed = [*outputs_of(words), *filter(None, (into, *map(told.get, ("later", "taken", "linked"))))]
+        changed = [*outputs_of(words), *filter(None, (into, *map(told.get, ("later", "taken", "linked", "reads"))))]
         why = self.why_left(told)
         if why or any(map(self.is_unknown, [*words, *told.values()])):
             self.skip(changed, why or FOLLOWS)
