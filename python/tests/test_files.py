@@ -326,7 +326,7 @@ class Segments(Given):
         lines = whole.splitlines(keepends=True)
         others = ["", "random", "\x00\x7f\n", whole[:-1], whole + "\n", whole + whole, lines[0], "".join(lines[:2]), *lines[2:]]
         others += [whole.replace('"samples":300', told) for told in ('"samples":301', '"samples":"300"', '"sample":300', '"samples":-1')]
-        others += [whole.replace(*pair) for pair in (('"gap"', '"gaps"'), ("T00", "T24"), ('"D"', '"X"'), ("XX", "XXX"), ("2020-01-01", "2020-02-30"))]
+        others += [whole.replace(*pair) for pair in (('"gap"', '"gaps"'), (":00:00.", ":60:00."), ('"D"', '"X"'), ("XX", "XXX"), ("2020-01-01", "2020-02-30"))]
         others += [whole.replace('"read":5', '"read":true'), "[]\n", "5\n", "\n".join(reversed(lines))]
         for told in others:
             path = self.path("told", told.encode())
