@@ -63,8 +63,9 @@ enter_tree() {
     files=$(find bin lib share -type f)
 }
 
-# PREFIX as a unit quotes it, in double quotes, and as sed puts it in the place of a text.
-quoted() { printf '%s\n' "$prefix" | sed 's/[\\"]/\\&/g; s/%/%%/g; s/[\\&|]/\\&/g'; }
+# PREFIX as it stands in a unit, and as sed puts it in the place of a text. (systemd runs no program of which the name has
+# a quote or a backslash.)
+quoted() { printf '%s\n' "$prefix" | sed 's/%/%%/g; s/[\\&|]/\\&/g'; }
 
 # copy MODE FILE TO
 copy() {
