@@ -1,6 +1,7 @@
 #!/bin/sh
 # install.sh PREFIX               installs msrepack below the folder PREFIX, as /usr/local or ~/.local: what this folder
-#                                 holds, or in a clone, where this is release/install.sh, what release/tree makes of it
+#                                 holds, or in a clone, where this is release/install.sh, what release/tree makes of it.
+#                                 Units of systemd get the name of PREFIX; they are not enabled
 # install.sh --uninstall PREFIX   removes what was installed there, all or the part to which a killed install.sh came, and
 #                                 the folders that were made for it, PREFIX too
 #
@@ -48,7 +49,7 @@ finish() {
 trap finish EXIT
 trap 'exit 1' HUP INT TERM
 
-# Enters the folder with bin and share.
+# Enters the folder with bin, lib and share.
 enter_tree() {
     if [ -d bin ]; then
         sha256sum --check --quiet SHA256SUMS
@@ -58,8 +59,20 @@ enter_tree() {
         ./tree "$program" "$tree"
         cd "$tree"
     fi
-    folders=$(find bin share -type d)
-    files=$(find bin share -type f)
+    folders=$(find bin lib share -type d)
+    files=$(find bin lib share -type f)
+}
+
+# PREFIX as it stands in a unit, and as sed puts it in the place of a text. (systemd runs no program of which the name has
+# a quote or a backslash.)
+quoted() { printf '%s\n' "$prefix" | sed 's/%/%%/g; s/[\\&|]/\\&/g'; }
+
+# copy MODE FILE TO
+copy() {
+    case $2 in
+        lib/systemd/*.service) sed "s|@PREFIX@|$(quoted)|g" "$2" >"$3" && chmod "$1" "$3" ;;
+        *) install -m "$1" "$2" "$3" ;;
+    esac
 }
 
 # The names that $begun may have: in PREFIX, and beside it and each folder above it.
@@ -111,7 +124,7 @@ install_all() {
     for file in $files; do
         if [ -x "$file" ]; then mode=755; else mode=644; fi
         part=$prefix/$file.part
-        install -m $mode "$file" "$part" && mv -f "$part" "$prefix/$file" || fail "cannot write $prefix/$file"
+        copy $mode "$file" "$part" && mv -f "$part" "$prefix/$file" || fail "cannot write $prefix/$file"
         part=
     done
 }
