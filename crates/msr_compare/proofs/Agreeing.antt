@@ -4,18 +4,20 @@ use Rattle.msr_devices.specs.Device.{Device}
 use Rattle.msr_input.specs.Rows.{RowReading, row_settings}
 use Rattle.msr_input.specs.declared.settings.Settings.{Settings}
 use Rattle.msr_compare.specs.declared.comparison.Difference.{Difference}
+use Rattle.msr_compare.specs.Seen.{Sight, nothing_seen}
 use Rattle.msr_compare.specs.Symbols.{Symbol}
 use Rattle.msr_compare.specs.Sides.{Standing, HasTaken, IsFetched, weight}
 use Rattle.msr_compare.specs.Meetings.{HaveFetched, HaveMet, HaveTaken, IsFoundAhead, PassesAlike, PassesOnly, StandStill}
 
 -- a side that passed what is ahead
-pass_one : {settings : Settings} {start now : Device} {side new : Standing} {done : List Symbol} (front : List Symbol)
-    → HasTaken settings start now side done → side.ahead ≡ front ++ new.ahead → PassesOnly side new
-    → HasTaken settings start now new (done ++ front)
-pass_one {settings} {start} {now} {side} {new} {done} front h ahead only = record {
+pass_one : {seen : Sight} {settings : Settings} {start now : Device} {side new : Standing} {done : List Symbol}
+    (front : List Symbol) → HasTaken seen settings start now side done → side.ahead ≡ front ++ new.ahead
+    → PassesOnly side new → HasTaken seen settings start now new (done ++ front)
+pass_one {new = new} {done} front h ahead only = record {
   records = h.records;
   answers = h.answers;
   read = rw only.reading h.read;
+  is_seen = rw only.reading h.is_seen;
   settings_are = ap row_settings only.reading ∙ h.settings_are;
   bounded = h.bounded;
   joining = h.joining;
@@ -27,30 +29,32 @@ pass_one {settings} {start} {now} {side} {new} {done} front h ahead only = recor
   end = λ e. rw only.reading (h.end (sym only.ended ∙ e));
 }
 
-pub fetched_both : {settings : Settings} {start_one one_now start_other other_now : Device} {one other : Standing}
-    {done : List Symbol} → IsFetched settings start_one one_now one done
-    → IsFetched settings start_other other_now other done
-    → HaveFetched settings start_one one_now start_other other_now one other
+pub fetched_both : {seen : Sight} {settings : Settings} {start_one one_now start_other other_now : Device}
+    {one other : Standing} {done : List Symbol} → IsFetched seen settings start_one one_now one done
+    → IsFetched nothing_seen settings start_other other_now other done
+    → HaveFetched seen settings start_one one_now start_other other_now one other
 fetched_both {done = done} f g = record {
   taken = record { done = done; one_taken = f.taken; other_taken = g.taken };
   one_some = f.some;
   other_some = g.some;
 }
 
-pub pass_both : {settings : Settings} {start_one one_now start_other other_now : Device}
-    {one other new_one new_other : Standing} → HaveFetched settings start_one one_now start_other other_now one other
+pub pass_both : {seen : Sight} {settings : Settings} {start_one one_now start_other other_now : Device}
+    {one other new_one new_other : Standing}
+    → HaveFetched seen settings start_one one_now start_other other_now one other
     → PassesAlike one other new_one new_other
-    → HaveTaken settings start_one one_now start_other other_now new_one new_other
+    → HaveTaken seen settings start_one one_now start_other other_now new_one new_other
 pass_both h p = record {
   done = h.taken.done ++ p.front;
   one_taken = pass_one p.front h.taken.one_taken p.one_is p.one_passes;
   other_taken = pass_one p.front h.taken.other_taken p.other_is p.other_passes;
 }
 
-pub met_so : {settings : Settings} {start_one one_now start_other other_now : Device}
+pub met_so : {seen : Sight} {settings : Settings} {start_one one_now start_other other_now : Device}
     {one other new_one new_other : Standing} (found : Option Difference)
-    → HaveFetched settings start_one one_now start_other other_now one other → StandStill one other new_one new_other
-    → IsFoundAhead one other found → HaveMet settings start_one one_now start_other other_now new_one new_other found
+    → HaveFetched seen settings start_one one_now start_other other_now one other
+    → StandStill one other new_one new_other
+    → IsFoundAhead one other found → HaveMet seen settings start_one one_now start_other other_now new_one new_other found
 met_so found h still is = rw (still.one_still, still.other_still) (record { fetched = h; is_found = is })
 
 -- less is left of a side that passed something

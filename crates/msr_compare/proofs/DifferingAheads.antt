@@ -12,6 +12,7 @@ use Rattle.msr_compare.specs.Differences.{IsFirstDifference, SegmentsDiffer}
 use Rattle.msr_compare.specs.declared.comparison.Which.TheVariants.{One, Other}
 use Rattle.msr_compare.specs.declared.comparison.DifferenceKind.{DifferenceKind}
 use Rattle.msr_compare.specs.declared.comparison.DifferenceKind.TheVariants as kind
+use Rattle.msr_compare.specs.Seen.{Sight}
 use Rattle.msr_compare.specs.Symbols.{Symbol, Holds, symbols_of, held_in, count_after}
 use Rattle.msr_compare.specs.Sides.{Standing, HasTaken}
 use Rattle.msr_compare.specs.Meetings.{AheadsDiffer, BeginsMore, BeginsNext, HoldsMore, ValuesDiffer, place_of, side_of}
@@ -25,8 +26,8 @@ pub record Counted (done : List Symbol) (side : Standing) : Type 0 where
   pub count : 1 ≤ length (done ++ side.ahead) → side.tally.count ≡ count_after (count_after 0 done) side.ahead
   pub few : side.tally.count < 2 ^ 64
 
-counted_so : {settings : Settings} {start now : Device} {side : Standing} {done : List Symbol}
-    (h : HasTaken settings start now side done) (current : Option Segment) → h.joining.current ≡ current
+counted_so : {seen : Sight} {settings : Settings} {start now : Device} {side : Standing} {done : List Symbol}
+    (h : HasTaken seen settings start now side done) (current : Option Segment) → h.joining.current ≡ current
     → 1 ≤ length (done ++ side.ahead) → side.tally.count ≡ count_after (count_after 0 done) side.ahead
 counted_so {side = side} {done = done} h (Some s) e some =
     let whole = rw e at h.symbols in
@@ -38,8 +39,8 @@ counted_so h None e some =
     are.each ∙ ap (map segment_of) (no_parts are.parts are.division.whole) in
     absurd (omega (arith, some, ap length (sym h.symbols ∙ ap symbols_of none)))
 
-pub counted : {settings : Settings} {start now : Device} {side : Standing} {done : List Symbol}
-    → HasTaken settings start now side done → Counted done side
+pub counted : {seen : Sight} {settings : Settings} {start now : Device} {side : Standing} {done : List Symbol}
+    → HasTaken seen settings start now side done → Counted done side
 counted {side = side} {done = done} h = record {
   segments = h.tallied.segments_are ∙ sym (opened_symbols (h.given ++ option_to_list h.joining.current))
       ∙ ap opened_in h.symbols ∙ opened_append done side.ahead;

@@ -22,8 +22,9 @@ use Rattle.msr_input.specs.declared.settings.Settings.{Settings}
 use Rattle.msr_input.specs.declared.row_reader.NextRow.{NextRow}
 use Rattle.msr_input.proofs.Histories.{rows_with, rows_without}
 use Rattle.msr_input.proofs.Records.{few_records}
+use Rattle.msr_compare.specs.Seen.{Sight, first_following}
 use Rattle.msr_compare.specs.Symbols.{Symbol, Holds, row_symbols}
-use Rattle.msr_compare.specs.Sides.{Standing, HasTaken, TakesNext, weight}
+use Rattle.msr_compare.specs.Sides.{Standing, HasTaken, IsNew, TakesNext, weight}
 use Rattle.msr_compare.proofs.Draining.{draining, tolerance_is}
 use Rattle.msr_compare.proofs.Sides.{grown, grown_symbols, no_move, tallied_more}
 
@@ -43,21 +44,23 @@ abbrev pub read_on : Standing → RowReading → Standing
 read_on side reading = record { reading = reading; tally = side.tally; ahead = side.ahead; ended = side.ended }
 
 -- one record more came: without a row, or with one
-pub taken_one : {settings : Settings} {start a b : Device} {side new : Standing} {reading : RowReading}
-    {done : List Symbol} (told : Option NextRow) (found : Record) (h : HasTaken settings start a side done)
+pub taken_one : {was seen : Sight} {settings : Settings} {start a b : Device} {side new : Standing}
+    {reading : RowReading} {done : List Symbol} (told : Option NextRow) (found : Record)
+    (h : HasTaken was settings start a side done) → seen reading.following (h.records ++ found ∷ [])
     → side.ended ≡ false → side.ahead ≡ [] → row_told told ≡ found.row
     → HasReadRows start b reading (h.records ++ found ∷ []) (h.answers ++ answer_told told)
     → row_settings reading ≡ row_settings side.reading → StepsTo side.reading.following told reading.following
     → IfSome told (λ next. CanJoin next.row × IsWritable (row_segment next.row))
     → IfSome told (λ _. IsInBounds reading.following.current)
-    → TakesNext told (read_on side reading) new → HasTaken settings start b new done
-taken_one {side = side} None found h going none row read same step can bounds takes =
+    → TakesNext told (read_on side reading) new → HasTaken seen settings start b new done
+taken_one {side = side} None found h is_seen going none row read same step can bounds takes =
     let rows = rows_without h.records found (sym row) in
     let size = length-append h.records (found ∷ []) in
     rw takes (record {
       records = h.records ++ found ∷ [];
       answers = h.answers ++ [];
       read = read;
+      is_seen = is_seen;
       settings_are = same ∙ h.settings_are;
       bounded = h.bounded;
       joining = h.joining;
@@ -76,7 +79,7 @@ taken_one {side = side} None found h going none row read same step can bounds ta
       };
       end = λ e. absurd (both_ways side.ended going e);
     })
-taken_one {side = side} {new} {reading} {done} (Some next) found h going none row read same step can bounds takes =
+taken_one {side = side} {new} {reading} {done} (Some next) found h is_seen going none row read same step can bounds takes =
     let tolerance = tolerance_is (draining h) in
     let g = grown next.row next.step side.reading.following reading.following h.joined h.stands step in
     let given = h.given ++ option_to_list g.ended in
@@ -87,6 +90,7 @@ taken_one {side = side} {new} {reading} {done} (Some next) found h going none ro
       records = h.records ++ found ∷ [];
       answers = h.answers ++ next.step ∷ [];
       read = rw takes.reading read;
+      is_seen = rw takes.reading is_seen;
       settings_are = ap row_settings takes.reading ∙ same ∙ h.settings_are;
       bounded = h.bounded;
       joining = g.joining;
@@ -101,58 +105,89 @@ taken_one {side = side} {new} {reading} {done} (Some next) found h going none ro
     }
 
 -- no record is left
-pub taken_end : {settings : Settings} {start a b : Device} {side : Standing} {reading : RowReading} {done : List Symbol}
-    (h : HasTaken settings start a side done) → ReadsNone start b reading h.records h.answers
+pub taken_end : {seen : Sight} {settings : Settings} {start a b : Device} {side : Standing} {reading : RowReading}
+    {done : List Symbol} (h : HasTaken seen settings start a side done) → ReadsNone start b reading h.records h.answers
     → row_settings reading ≡ row_settings side.reading
-    → HasTaken settings start b (record { reading = reading; tally = side.tally; ahead = side.ahead; ended = true }) done
-taken_end {reading = reading} h all same = record {
-  records = h.records;
-  answers = h.answers;
-  read = all.read;
-  settings_are = same ∙ h.settings_are;
-  bounded = h.bounded;
-  joining = h.joining;
-  given = h.given;
-  joined = h.joined;
-  stands = stand_together reading.following h.joining (rows_of_records h.records) h.answers h.given all.read.followed
-      h.joined (ap (λ (s : Settings). s.tolerance) (same ∙ h.settings_are) ∙ sym (tolerance_is (draining h)));
-  symbols = h.symbols;
-  tallied = h.tallied;
-  end = λ e. record { none_wait = all.none_wait; ended = all.ended };
-}
+    → HasTaken seen settings start b
+    (record { reading = reading; tally = side.tally; ahead = side.ahead; ended = true }) done
+taken_end {reading = reading} h all same =
+    let stands = stand_together reading.following h.joining (rows_of_records h.records) h.answers h.given
+    all.read.followed h.joined
+    (ap (λ (s : Settings). s.tolerance) (same ∙ h.settings_are) ∙ sym (tolerance_is (draining h))) in
+    record {
+      records = h.records;
+      answers = h.answers;
+      read = all.read;
+      is_seen = rw (h.stands ∙ sym stands) at h.is_seen;
+      settings_are = same ∙ h.settings_are;
+      bounded = h.bounded;
+      joining = h.joining;
+      given = h.given;
+      joined = h.joined;
+      stands = stands;
+      symbols = h.symbols;
+      tallied = h.tallied;
+      end = λ e. record { none_wait = all.none_wait; ended = all.ended };
+    }
 
 -- a side before the first record
 pub taken_first : (settings : Settings) (start : Device) (reading : RowReading) → HasReadRows start start reading [] []
-    → reading.following ≡ record { tolerance = settings.tolerance; current = None }
+    → reading.following ≡ first_following settings
     → reading.position.strict ≡ settings.strict → settings.tolerance ≤ 1_000_000
-    → HasTaken settings start start (record {
+    → IsNew settings start (record {
       reading = reading;
       tally = record { start = pos 0; count = 0; segments = 0; samples = 0; moved = 0 };
       ahead = [];
       ended = false;
-    }) []
+    })
 taken_first settings start reading read following strict bounded = record {
-  records = [];
-  answers = [];
-  read = read;
-  settings_are = rw (following, strict) refl;
-  bounded = bounded;
-  joining = record { tolerance = settings.tolerance; current = None };
-  given = [];
-  joined = joined_none settings.tolerance;
-  stands = following;
-  symbols = refl;
-  tallied = record {
-    segments_are = refl;
-    samples_are = refl;
-    few_segments = omega arith;
-    few_samples = omega arith;
-    few_count = omega arith;
-    at_open = λ segment e. absurd cc;
-    greatest = no_move settings.tolerance;
+  taken = record {
+    records = [];
+    answers = [];
+    read = read;
+    is_seen = tt;
+    settings_are = rw (following, strict) refl;
+    bounded = bounded;
+    joining = record { tolerance = settings.tolerance; current = None };
+    given = [];
+    joined = joined_none settings.tolerance;
+    stands = following;
+    symbols = refl;
+    tallied = record {
+      segments_are = refl;
+      samples_are = refl;
+      few_segments = omega arith;
+      few_samples = omega arith;
+      few_count = omega arith;
+      at_open = λ segment e. absurd cc;
+      greatest = no_move settings.tolerance;
+    };
+    end = λ e. absurd cc;
   };
-  end = λ e. absurd cc;
+  none = refl;
+  following = following;
 }
+
+-- of which that is known
+pub seen_first : {seen : Sight} {settings : Settings} {start : Device} {side : Standing} → IsNew settings start side
+    → seen (first_following settings) [] → HasTaken seen settings start start side []
+seen_first n is_seen =
+    let h = n.taken in
+    record {
+      records = h.records;
+      answers = h.answers;
+      read = h.read;
+      is_seen = rw (n.following, n.none) is_seen;
+      settings_are = h.settings_are;
+      bounded = h.bounded;
+      joining = h.joining;
+      given = h.given;
+      joined = h.joined;
+      stands = h.stands;
+      symbols = h.symbols;
+      tallied = h.tallied;
+      end = h.end;
+    }
 
 few_symbols : (answer : Step) (row : Row) → length row.samples ≤ 65_535 → length (row_symbols answer row) ≤ 65_536
 few_symbols Begins row few = omega (arith, few, length-map row.samples Holds)

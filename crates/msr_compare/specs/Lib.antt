@@ -2,6 +2,7 @@ pub mod Moves
 pub mod Differences
 pub mod Answers
 pub mod Texts
+pub mod Seen
 pub mod Symbols
 pub mod Tallies
 pub mod Sides

@@ -7,8 +7,7 @@ use Rattle.msr_input.specs.declared.settings.Settings.{Settings}
 use Rattle.msr_input.specs.declared.fault.ReadFault.{ReadFault}
 use Rattle.msr_input.specs.declared.fault.ReadFault.TheVariants as fault
 use Rattle.msr_segments.specs.Unequals.{UnequalAt}
-use Rattle.msr_segments.specs.declared.joiner.Segment.{Segment}
-use Rattle.msr_compare.specs.Answers.{CompareAnswers, HasSegments, IsOfFault}
+use Rattle.msr_compare.specs.Answers.{CompareAnswers, IsOfFault}
 use Rattle.msr_compare.specs.declared.comparison.Which.TheVariants as which
 use Rattle.msr_compare.specs.declared.comparison.Comparison.{Comparison}
 use Rattle.msr_compare.specs.declared.comparison.Comparison.TheVariants.{Differ}
@@ -21,6 +20,7 @@ use Rattle.msr_compare.specs.declared.ahead.Next.{Next}
 use Rattle.msr_compare.specs.declared.ahead.Next.TheVariants as next
 use Rattle.msr_compare.specs.declared.meeting.Met.{Met}
 use Rattle.msr_compare.specs.declared.meeting.Met.TheVariants as met
+use Rattle.msr_compare.specs.Seen.{AllSeen, SeenIfRead, Sight, nothing_seen}
 use Rattle.msr_compare.specs.Symbols.{Symbol, Opens, Holds, held_in}
 use Rattle.msr_compare.specs.Sides.{Standing, HasTaken, IsDrained}
 
@@ -136,16 +136,16 @@ Meets one other (met.Differ difference) new_one new_other =
     DiffersAhead one other difference × StandStill one other new_one new_other
 
 -- Both sides have come to these symbols, which are the same.
-pub record HaveTaken (settings : Settings) (start_one one_now start_other other_now : Device) (one other : Standing)
-    : Type 0 where
+pub record HaveTaken (seen : Sight) (settings : Settings) (start_one one_now start_other other_now : Device)
+    (one other : Standing) : Type 0 where
   pub done : List Symbol
-  pub one_taken : HasTaken settings start_one one_now one done
-  pub other_taken : HasTaken settings start_other other_now other done
+  pub one_taken : HasTaken seen settings start_one one_now one done
+  pub other_taken : HasTaken nothing_seen settings start_other other_now other done
 
 -- and where nothing is ahead, the input has ended
-pub record HaveFetched (settings : Settings) (start_one one_now start_other other_now : Device) (one other : Standing)
-    : Type 0 where
-  pub taken : HaveTaken settings start_one one_now start_other other_now one other
+pub record HaveFetched (seen : Sight) (settings : Settings) (start_one one_now start_other other_now : Device)
+    (one other : Standing) : Type 0 where
+  pub taken : HaveTaken seen settings start_one one_now start_other other_now one other
   pub one_some : one.ahead ≡ [] → one.ended ≡ true
   pub other_some : other.ahead ≡ [] → other.ended ≡ true
 
@@ -154,73 +154,75 @@ abbrev pub IsFoundAhead : Standing → Standing → Option Difference → Type 0
 IsFoundAhead one other None = (one.ahead ≡ []) × (other.ahead ≡ [])
 IsFoundAhead one other (Some difference) = DiffersAhead one other difference
 
-pub record HaveMet (settings : Settings) (start_one one_now start_other other_now : Device) (one other : Standing)
-    (found : Option Difference) : Type 0 where
-  pub fetched : HaveFetched settings start_one one_now start_other other_now one other
+pub record HaveMet (seen : Sight) (settings : Settings) (start_one one_now start_other other_now : Device)
+    (one other : Standing) (found : Option Difference) : Type 0 where
+  pub fetched : HaveFetched seen settings start_one one_now start_other other_now one other
   pub is_found : IsFoundAhead one other found
 
 -- one side has come so far
-pub record HasSomeTaken (settings : Settings) (start now : Device) (side : Standing) : Type 0 where
+pub record HasSomeTaken (seen : Sight) (settings : Settings) (start now : Device) (side : Standing) : Type 0 where
   pub done : List Symbol
-  pub taken : HasTaken settings start now side done
+  pub taken : HasTaken seen settings start now side done
 
 -- why two sides are no further compared
-abbrev pub StopsMeeting : Settings → Device → Device → Device → Device → Standing → CompareFault → Type 0
-StopsMeeting settings start_one one_now start_other other_now one (failing.One why) =
+abbrev pub StopsMeeting : Sight → Settings → Device → Device → Device → Device → Standing → CompareFault → Type 0
+StopsMeeting seen settings start_one one_now start_other other_now one (failing.One why) =
     StopsReading settings start_one one_now [] why × IsSteady start_other other_now
-StopsMeeting settings start_one one_now start_other other_now one (failing.Other why) =
-    StopsReading settings start_other other_now [] why × HasSomeTaken settings start_one one_now one
+StopsMeeting seen settings start_one one_now start_other other_now one (failing.Other why) =
+    StopsReading settings start_other other_now [] why × HasSomeTaken seen settings start_one one_now one
 
 -- both were read to their ends
-pub record HaveFinished (settings : Settings) (start_one one_now start_other other_now : Device) (one other : Standing)
-    (done other_done : List Symbol) (difference : Difference) (comparison : Comparison) : Type 0 where
+pub record HaveFinished (seen : Sight) (settings : Settings) (start_one one_now start_other other_now : Device)
+    (one other : Standing) (done other_done : List Symbol) (difference : Difference) (comparison : Comparison)
+    : Type 0 where
   pub told : comparison ≡ Differ difference
-  pub one_drained : IsDrained settings start_one one_now one.ended (done ++ one.ahead)
-  pub other_drained : IsDrained settings start_other other_now other.ended (other_done ++ other.ahead)
+  pub one_drained : IsDrained seen settings start_one one_now one.ended (done ++ one.ahead)
+  pub other_drained : IsDrained nothing_seen settings start_other other_now other.ended (other_done ++ other.ahead)
 
--- the input that the source has is readable
-pub record IsReadableFrom (settings : Settings) (start : Device) : Type 0 where
+-- the input that the source has is readable, and was seen
+pub record IsReadableFrom (seen : Sight) (settings : Settings) (start : Device) : Type 0 where
   pub input : List ℕ
-  pub segments : List Segment
   pub left : HasLeft start input
-  pub has : HasSegments settings input segments
+  pub all : AllSeen seen settings input
 
 -- why one of them was not; the first one is read first
-abbrev pub StopsFinishing : Settings → Device → Device → Device → Device → CompareFault → Type 0
-StopsFinishing settings start_one one_now start_other other_now (failing.One why) =
+abbrev pub StopsFinishing : Sight → Settings → Device → Device → Device → Device → CompareFault → Type 0
+StopsFinishing seen settings start_one one_now start_other other_now (failing.One why) =
     StopsReading settings start_one one_now [] why × IsSteady start_other other_now
-StopsFinishing settings start_one one_now start_other other_now (failing.Other why) =
-    StopsReading settings start_other other_now [] why × IsSteady start_one one_now × IsReadableFrom settings start_one
+StopsFinishing seen settings start_one one_now start_other other_now (failing.Other why) =
+    StopsReading settings start_other other_now [] why × IsSteady start_one one_now
+    × IsReadableFrom seen settings start_one
 
 -- where the other input is refused, the first one is readable
-abbrev pub ReadableIfRefused : Settings → Device → ReadFault → Type 0
-ReadableIfRefused settings start (fault.Input found) = IsReadableFrom settings start
-ReadableIfRefused settings start fault.Read = Unit {0}
-ReadableIfRefused settings start fault.Memory = Unit {0}
+abbrev pub ReadableIfRefused : Sight → Settings → Device → ReadFault → Type 0
+ReadableIfRefused seen settings start (fault.Input found) = IsReadableFrom seen settings start
+ReadableIfRefused seen settings start fault.Read = Unit {0}
+ReadableIfRefused seen settings start fault.Memory = Unit {0}
 
-pub record KeepsFault (settings : Settings) (start now : Device) (why told : ReadFault) : Type 0 where
+pub record KeepsFault (seen : Sight) (settings : Settings) (start now : Device) (why told : ReadFault) : Type 0 where
   pub same : told ≡ why
   pub steady : IsSteady start now
-  pub readable : ReadableIfRefused settings start why
+  pub readable : ReadableIfRefused seen settings start why
 
 -- why reading stops if the other input stopped so: the first one comes first
-abbrev pub ReadsFirst : Settings → Device → Device → ReadFault → CompareFault → Type 0
-ReadsFirst settings start now why (failing.One first) = StopsReading settings start now [] first × IsOfFault why
-ReadsFirst settings start now why (failing.Other told) = KeepsFault settings start now why told
+abbrev pub ReadsFirst : Sight → Settings → Device → Device → ReadFault → CompareFault → Type 0
+ReadsFirst seen settings start now why (failing.One first) = StopsReading settings start now [] first × IsOfFault why
+ReadsFirst seen settings start now why (failing.Other told) = KeepsFault seen settings start now why told
 
 -- both sides are before their first records
-pub record BothBegin (start_one start_other : Device) (one other : Standing) : Type 0 where
+pub record BothBegin (seen : Sight) (start_one start_other : Device) (one other : Standing) : Type 0 where
   pub settings : Settings
-  pub taken : HaveTaken settings start_one start_one start_other start_other one other
+  pub taken : HaveTaken seen settings start_one start_one start_other start_other one other
 
--- What is answered of the inputs that the sources have, and what it tells of the sources.
-pub record AnswersInputs (settings : Settings) (start_one one_now start_other other_now : Device)
+-- What is answered of the inputs that the sources have, what was seen of the first, and what it tells of the sources.
+pub record AnswersInputs (seen : Sight) (settings : Settings) (start_one one_now start_other other_now : Device)
     (answer : Result Comparison CompareFault) : Type 0 where
   pub first : List ℕ
   pub second : List ℕ
   pub left : HasLeft start_one first
   pub other_left : HasLeft start_other second
   pub answers : CompareAnswers settings first second answer
+  pub all_seen : SeenIfRead seen settings first answer
   pub read_one : IsErrOf answer (failing.One fault.Read) ↔ HasFailed start_one one_now
   pub read_other : IsErrOf answer (failing.Other fault.Read) ↔ HasFailed start_other other_now
   pub few_one : CountsFew start_one one_now

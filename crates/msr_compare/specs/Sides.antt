@@ -6,13 +6,14 @@ use Rattle.msr_devices.specs.Device.{Device, CanCountCall, HasLeft, IsSteady}
 use Rattle.msr_segments.specs.Joining.{Joining, HasJoined, following_of}
 use Rattle.msr_segments.specs.declared.follow.Step.{Step}
 use Rattle.msr_segments.specs.declared.joiner.Segment.{Segment}
-use Rattle.msr_input.specs.Input.{IsReadable, rows_of_records}
+use Rattle.msr_input.specs.Input.{rows_of_records}
 use Rattle.msr_input.specs.Records.{left_with}
 use Rattle.msr_input.specs.Rows.{RowReading, HasReadRows, row_settings}
 use Rattle.msr_input.specs.declared.settings.Settings.{Settings}
 use Rattle.msr_input.specs.declared.row_reader.NextRow.{NextRow}
 use Rattle.msr_compare.specs.declared.tally.RowTally.{RowTally}
 use Rattle.msr_compare.specs.Moves.{IsGreatestMove}
+use Rattle.msr_compare.specs.Seen.{AllSeen, Sight, first_following, nothing_seen}
 use Rattle.msr_compare.specs.Differences.{samples_in}
 use Rattle.msr_compare.specs.Symbols.{Symbol, symbols_of, row_symbols}
 use Rattle.msr_compare.specs.Tallies.{TalliesRow}
@@ -47,12 +48,13 @@ pub record IsAtEnd (reading : RowReading) : Type 0 where
   pub none_wait : reading.position.waiting ≡ []
   pub ended : reading.position.ended ≡ true
 
--- From the one state of the source to the other some records came, none refused; their segments have these symbols,
--- and then those that are ahead.
-pub record HasTaken (settings : Settings) (start now : Device) (side : Standing) (done : List Symbol) : Type 0 where
+-- From the one state of the source to the other some records came, none refused, and were seen; their segments have
+-- these symbols, and then those that are ahead.
+pub record HasTaken (seen : Sight) (settings : Settings) (start now : Device) (side : Standing) (done : List Symbol) : Type 0 where
   pub records : List Record
   pub answers : List Step
   pub read : HasReadRows start now side.reading records answers
+  pub is_seen : seen side.reading.following records
   pub settings_are : row_settings side.reading ≡ settings
   pub bounded : settings.tolerance ≤ 1_000_000
   pub joining : Joining
@@ -65,8 +67,9 @@ pub record HasTaken (settings : Settings) (start now : Device) (side : Standing)
   pub end : side.ended ≡ true → IsAtEnd side.reading
 
 -- The same, and something is ahead, or the input has ended.
-pub record IsFetched (settings : Settings) (start now : Device) (side : Standing) (done : List Symbol) : Type 0 where
-  pub taken : HasTaken settings start now side done
+pub record IsFetched (seen : Sight) (settings : Settings) (start now : Device) (side : Standing) (done : List Symbol)
+    : Type 0 where
+  pub taken : HasTaken seen settings start now side done
   pub some : side.ahead ≡ [] → side.ended ≡ true
 
 -- Some records came from a source that could count calls.
@@ -74,19 +77,24 @@ pub record HasSource (now : Device) (side : Standing) : Type 0 where
   pub settings : Settings
   pub start : Device
   pub done : List Symbol
-  pub taken : HasTaken settings start now side done
+  pub taken : HasTaken nothing_seen settings start now side done
   pub can : CanCountCall start
 
--- The input was read to its end, and is readable. The symbols of its segments are these, and more only if it had not
--- been read to its end before.
-pub record IsDrained (settings : Settings) (start now : Device) (ended : Bool) (symbols : List Symbol) : Type 0 where
+-- a side before the first record
+pub record IsNew (settings : Settings) (start : Device) (side : Standing) : Type 0 where
+  pub taken : HasTaken nothing_seen settings start start side []
+  pub none : taken.records ≡ []
+  pub following : side.reading.following ≡ first_following settings
+
+-- The input was read to its end, is readable, and was seen. The symbols of its segments are these, and more only if it
+-- had not been read to its end before.
+pub record IsDrained (seen : Sight) (settings : Settings) (start now : Device) (ended : Bool) (symbols : List Symbol)
+    : Type 0 where
   pub input : List ℕ
-  pub records : List Record
-  pub segments : List Segment
   pub left : HasLeft start input
-  pub readable : IsReadable settings input records segments
+  pub all : AllSeen seen settings input
   pub more : List Symbol
-  pub symbols_are : symbols_of segments ≡ symbols ++ more
+  pub symbols_are : symbols_of all.segments ≡ symbols ++ more
   pub whole : ended ≡ true → more ≡ []
   pub steady : IsSteady start now
 

@@ -1,8 +1,9 @@
 //! Comparing the segments of two inputs.
-ghost use Rattle.std.specs.Prelude.{◌↔◌, ◌≤◌, ℕ, List, IsErrOf, MatchResult};
+ghost use Rattle.std.specs.Prelude.{◌↔◌, ◌≤◌, ℕ, List, [], IsErrOf, MatchResult};
 ghost use Rattle.msr_devices.specs.Device.{Device, CanCountCall, CountsFew, HasFailed, HasLeft};
 ghost use Rattle.msr_input.specs.declared.settings.Settings.{Settings as How};
 ghost use Rattle.msr_compare.specs.Answers.{CompareAnswers};
+ghost use Rattle.msr_compare.specs.Seen.{SeenIfRead, first_following, nothing_seen};
 ghost use Rattle.msr_compare.specs.Symbols.{Symbol};
 ghost use Rattle.msr_compare.specs.Sides.{HasSource, HasTaken};
 ghost use Rattle.msr_compare.specs.Meetings.{AnswersInputs, BothBegin, HaveMet, HaveTaken, ReadsFirst, StopsMeeting};
@@ -10,35 +11,38 @@ ghost use Rattle.msr_compare.specs.Meetings.{AnswersInputs, BothBegin, HaveMet, 
 use crate::comparison::{Comparison, Difference, SameSegments};
 use crate::fault::CompareFault;
 use crate::meeting::{Met, meet};
+use crate::observer::Observer;
 use crate::side::Side;
 use msr_devices::Source;
 use msr_input::{ReadFault, Settings};
 use std::alloc::Global;
 
 /// Reads two sides as far as their segments are the same: the first difference, or `None` if both ended.
-fn agree<One: Source, Other: Source>(
+fn agree<One: Source, Other: Source, O: Observer>(
     one_side: &mut Side,
     one: &mut One,
     other_side: &mut Side,
     other: &mut Other,
+    observer: &mut O,
 ) -> Result<Option<Difference>, CompareFault>
     requires one { CanCountCall (One.device one.old) }
     requires other { CanCountCall (Other.device other.old) }
-    ensures met { (settings : How) (start_one start_other : Device)
-        → HaveTaken settings start_one (One.device one.old) start_other (Other.device other.old)
-        one_side.old other_side.old
+    ensures met { (begun : O) (settings : How) (start_one start_other : Device)
+        → HaveTaken (O.has_seen begun observer.old) settings start_one (One.device one.old) start_other
+        (Other.device other.old) one_side.old other_side.old
         → MatchResult result
-        (HaveMet settings start_one (One.device one.new) start_other (Other.device other.new)
+        (HaveMet (O.has_seen begun observer.new) settings start_one (One.device one.new) start_other (Other.device other.new)
         one_side.new other_side.new)
-        (StopsMeeting settings start_one (One.device one.new) start_other (Other.device other.new) one_side.new) }
+        (StopsMeeting (O.has_seen begun observer.new) settings start_one (One.device one.new) start_other
+        (Other.device other.new) one_side.new) }
     ensures few_one { CountsFew (One.device one.old) (One.device one.new) }
     ensures few_other { CountsFew (Other.device other.old) (Other.device other.new) }
 {
     'meetings: loop {
-        if let Err(fault) = one_side.fetch(one) {
+        if let Err(fault) = one_side.fetch(one, observer) {
             return Err(CompareFault::One(fault));
         }
-        if let Err(fault) = other_side.fetch(other) {
+        if let Err(fault) = other_side.fetch(other, &mut ()) {
             return Err(CompareFault::Other(fault));
         }
         match meet(one_side, other_side) {
@@ -50,17 +54,22 @@ fn agree<One: Source, Other: Source>(
 }
 
 /// Reading the other input stopped. If it is refused, the first one is read to its end: it may be refused too.
-fn refuse<One: Source>(side: &mut Side, one: &mut One, why: ReadFault) -> CompareFault
+fn refuse<One: Source, O: Observer>(
+    side: &mut Side,
+    one: &mut One,
+    observer: &mut O,
+    why: ReadFault,
+) -> CompareFault
     requires { HasSource (One.device one.old) side.old }
-    ensures refused { (settings : How) (start : Device) (done : List Symbol)
-        → HasTaken settings start (One.device one.old) side.old done
-        → ReadsFirst settings start (One.device one.new) why result }
+    ensures refused { (begun : O) (settings : How) (start : Device) (done : List Symbol)
+        → HasTaken (O.has_seen begun observer.old) settings start (One.device one.old) side.old done
+        → ReadsFirst (O.has_seen begun observer.new) settings start (One.device one.new) why result }
     ensures few { (settings : How) (start : Device) (done : List Symbol)
-        → HasTaken settings start (One.device one.old) side.old done
+        → HasTaken nothing_seen settings start (One.device one.old) side.old done
         → CountsFew start (One.device one.new) }
 {
     match why {
-        ReadFault::Input(found) => match side.drain(one) {
+        ReadFault::Input(found) => match side.drain(one, observer) {
             Ok(()) => CompareFault::Other(ReadFault::Input(found)),
             Err(first) => CompareFault::One(first),
         },
@@ -70,22 +79,24 @@ fn refuse<One: Source>(side: &mut Side, one: &mut One, why: ReadFault) -> Compar
 }
 
 /// What is answered for two sides before their first records.
-fn answer<One: Source, Other: Source>(
+fn answer<One: Source, Other: Source, O: Observer>(
     one_side: &mut Side,
     one: &mut One,
     other_side: &mut Side,
     other: &mut Other,
+    observer: &mut O,
 ) -> Result<Comparison, CompareFault>
     requires one { CanCountCall (One.device one.old) }
     requires other { CanCountCall (Other.device other.old) }
-    requires begins { BothBegin (One.device one.old) (Other.device other.old) one_side.old other_side.old }
-    ensures { (settings : How)
-        → HaveTaken settings (One.device one.old) (One.device one.old) (Other.device other.old) (Other.device other.old)
-        one_side.old other_side.old
-        → AnswersInputs settings (One.device one.old) (One.device one.new) (Other.device other.old)
-        (Other.device other.new) result }
+    requires begins { BothBegin (O.has_seen observer.old observer.old) (One.device one.old) (Other.device other.old)
+        one_side.old other_side.old }
+    ensures { (begun : O) (settings : How)
+        → HaveTaken (O.has_seen begun observer.old) settings (One.device one.old) (One.device one.old)
+        (Other.device other.old) (Other.device other.old) one_side.old other_side.old
+        → AnswersInputs (O.has_seen begun observer.new) settings (One.device one.old) (One.device one.new)
+        (Other.device other.old) (Other.device other.new) result }
 {
-    match agree(one_side, one, other_side, other) {
+    match agree(one_side, one, other_side, other, observer) {
         Ok(None) => {
             let first = one_side.tally();
             let second = other_side.tally();
@@ -98,16 +109,16 @@ fn answer<One: Source, Other: Source>(
         }
         Ok(Some(difference)) => {
             // Both inputs are read to their ends: a later record may be refused.
-            if let Err(fault) = one_side.drain(one) {
+            if let Err(fault) = one_side.drain(one, observer) {
                 return Err(CompareFault::One(fault));
             }
-            if let Err(fault) = other_side.drain(other) {
+            if let Err(fault) = other_side.drain(other, &mut ()) {
                 return Err(CompareFault::Other(fault));
             }
             Ok(Comparison::Differ(difference))
         }
         Err(CompareFault::One(why)) => Err(CompareFault::One(why)),
-        Err(CompareFault::Other(why)) => Err(refuse(one_side, one, why)),
+        Err(CompareFault::Other(why)) => Err(refuse(one_side, one, observer, why)),
     }
 }
 
@@ -136,7 +147,37 @@ pub fn compare<One: Source, Other: Source>(
     ensures few_one { CountsFew (One.device one.old) (One.device one.new) }
     ensures few_other { CountsFew (Other.device other.old) (Other.device other.new) }
 {
+    compare_observed(alloc, one, other, settings, &mut ())
+}
+
+/// The same, while the observer sees each record of the first input, before its samples are compared: all of them,
+/// unless that input is at fault, or a source or memory failed.
+pub fn compare_observed<One: Source, Other: Source, O: Observer>(
+    alloc: Global,
+    one: &mut One,
+    other: &mut Other,
+    settings: Settings,
+    observer: &mut O,
+) -> Result<Comparison, CompareFault>
+    requires one { CanCountCall (One.device one.old) }
+    requires other { CanCountCall (Other.device other.old) }
+    requires tolerance { (1 ≤ settings.tolerance) × (settings.tolerance ≤ 1_000_000) }
+    requires observer { O.has_seen observer.old observer.old (first_following settings) [] }
+
+    // What is answered, for the bytes that the sources have, and what was seen of the first.
+    ensures answer { (first second : List ℕ) × HasLeft (One.device one.old) first
+        × HasLeft (Other.device other.old) second × CompareAnswers settings first second result
+        × SeenIfRead (O.has_seen observer.old observer.new) settings first result }
+
+    // A failure of a source is answered as such, and nothing else is.
+    ensures read_one { IsErrOf result (CompareFault.One ReadFault.Read)
+        ↔ HasFailed (One.device one.old) (One.device one.new) }
+    ensures read_other { IsErrOf result (CompareFault.Other ReadFault.Read)
+        ↔ HasFailed (Other.device other.old) (Other.device other.new) }
+    ensures few_one { CountsFew (One.device one.old) (One.device one.new) }
+    ensures few_other { CountsFew (Other.device other.old) (Other.device other.new) }
+{
     let mut one_side = Side::new(alloc, settings);
     let mut other_side = Side::new(alloc, settings);
-    answer(&mut one_side, one, &mut other_side, other)
+    answer(&mut one_side, one, &mut other_side, other, observer)
 }

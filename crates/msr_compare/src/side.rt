@@ -1,5 +1,6 @@
 //! One of two inputs while they are compared.
 use crate::ahead::Ahead;
+use crate::observer::Observer;
 use crate::tally::RowTally;
 use msr_devices::Source;
 use msr_input::{NextRow, ReadFault, RowReader, Settings};
@@ -24,18 +25,19 @@ impl Model for Side {
 }
 
 impl Side {
-    ghost use Rattle.std.specs.Prelude.{◌≡◌, ◌≤◌, ◌++◌, List, [], drop, map, OnOk, MatchResult};
+    ghost use Rattle.std.specs.Prelude.{◌≡◌, ◌≤◌, ◌++◌, List, [], drop, false, map, OnOk, MatchResult};
     ghost use Rattle.msr_devices.specs.Device.{Device, CanCountCall, CountsFew, IsSteady};
     ghost use Rattle.msr_input.specs.Reading.{StopsReading};
     ghost use Rattle.msr_input.specs.declared.settings.Settings.{Settings as How};
+    ghost use Rattle.msr_compare.specs.Seen.{nothing_seen};
     ghost use Rattle.msr_compare.specs.Symbols.{Symbol, Holds, held_in};
-    ghost use Rattle.msr_compare.specs.Sides.{HasSource, HasTaken, IsFetched, IsDrained, TakesNext, weight};
+    ghost use Rattle.msr_compare.specs.Sides.{HasSource, HasTaken, IsFetched, IsDrained, IsNew, TakesNext, weight};
     ghost use Rattle.msr_compare.specs.Meetings.{PassesOnly, place_of};
 
     /// A side before the first record, with a tolerance in its range. It takes no memory yet.
     pub(crate) fn new(alloc: Global, settings: Settings) -> Side
         requires { (1 ≤ settings.tolerance) × (settings.tolerance ≤ 1_000_000) }
-        ensures { (start : Device) → HasTaken settings start start result [] }
+        ensures { (start : Device) → IsNew settings start result }
     {
         Side {
             reader: RowReader::new(alloc, settings),
@@ -56,13 +58,17 @@ impl Side {
         self.ahead = Ahead::of_row(next.step, next.row);
     }
 
-    /// Reads on if nothing is ahead, until something is, or the input has ended.
-    pub(crate) fn fetch<R: Source>(&mut self, source: &mut R) -> Result<(), ReadFault>
+    /// Reads on if nothing is ahead, until something is, or the input has ended. Each record is seen.
+    pub(crate) fn fetch<R: Source, O: Observer>(
+        &mut self,
+        source: &mut R,
+        observer: &mut O,
+    ) -> Result<(), ReadFault>
         requires { CanCountCall (R.device source.old) }
-        ensures fetched { (settings : How) (start : Device) (done : List Symbol)
-            → HasTaken settings start (R.device source.old) self.old done
+        ensures fetched { (begun : O) (settings : How) (start : Device) (done : List Symbol)
+            → HasTaken (O.has_seen begun observer.old) settings start (R.device source.old) self.old done
             → MatchResult result
-            (λ _. IsFetched settings start (R.device source.new) self.new done)
+            (λ _. IsFetched (O.has_seen begun observer.new) settings start (R.device source.new) self.new done)
             (StopsReading settings start (R.device source.new) []) }
         ensures weight { OnOk result (weight (R.device source.new) self.new
             ≤ weight (R.device source.old) self.old) }
@@ -78,27 +84,65 @@ impl Side {
                 self.ended = true;
                 return Ok(());
             };
+            let Ok(()) = observer.see(&next) else {
+                return Err(ReadFault::Memory);
+            };
             self.take(next.row);
         }
         Ok(())
     }
 
-    /// Reads the input to its end, without samples.
-    pub(crate) fn drain<R: Source>(&mut self, source: &mut R) -> Result<(), ReadFault>
+    /// Reads the input to its end, without samples if no record has to be seen.
+    pub(crate) fn drain<R: Source, O: Observer>(
+        &mut self,
+        source: &mut R,
+        observer: &mut O,
+    ) -> Result<(), ReadFault>
         requires { HasSource (R.device source.old) self.old }
-        ensures drained { (settings : How) (start : Device) (done : List Symbol)
-            → HasTaken settings start (R.device source.old) self.old done
+        ensures drained { (begun : O) (settings : How) (start : Device) (done : List Symbol)
+            → HasTaken (O.has_seen begun observer.old) settings start (R.device source.old) self.old done
             → MatchResult result
-            (λ _. IsDrained settings start (R.device source.new) self.old.ended (done ++ self.old.ahead))
+            (λ _. IsDrained (O.has_seen begun observer.new) settings start (R.device source.new) self.old.ended
+            (done ++ self.old.ahead))
             (StopsReading settings start (R.device source.new) []) }
         ensures few { (settings : How) (start : Device) (done : List Symbol)
-            → HasTaken settings start (R.device source.old) self.old done
+            → HasTaken nothing_seen settings start (R.device source.old) self.old done
             → CountsFew start (R.device source.new) }
     {
         if self.ended {
             return Ok(());
         }
+        if observer.is_watching() {
+            return self.see_rest(source, observer);
+        }
         'rows: while let Some(_next) = self.reader.next_outline(source)? {}
+        Ok(())
+    }
+
+    /// Reads the input to its end, which it has not come to. Each record is seen.
+    fn see_rest<R: Source, O: Observer>(
+        &mut self,
+        source: &mut R,
+        observer: &mut O,
+    ) -> Result<(), ReadFault>
+        requires begins { HasSource (R.device source.old) self.old }
+        requires going { self.old.ended ≡ false }
+        ensures drained { (begun : O) (settings : How) (start : Device) (done : List Symbol)
+            → HasTaken (O.has_seen begun observer.old) settings start (R.device source.old) self.old done
+            → MatchResult result
+            (λ _. IsDrained (O.has_seen begun observer.new) settings start (R.device source.new) self.old.ended
+            (done ++ self.old.ahead))
+            (StopsReading settings start (R.device source.new) []) }
+        ensures few { (settings : How) (start : Device) (done : List Symbol)
+            → HasTaken nothing_seen settings start (R.device source.old) self.old done
+            → CountsFew start (R.device source.new) }
+    {
+        'records: while let Some(last) = self.reader.next_record(source)? {
+            let Ok(()) = observer.see(&last) else {
+                return Err(ReadFault::Memory);
+            };
+            self.reader.give_back(last);
+        }
         Ok(())
     }
 

@@ -48,7 +48,7 @@ same_lines a b forms (part ∷ parts) (line ∷ lines) (other ∷ others) same a
     (same_shown a b forms part line other first are.0, same_lines a b forms parts lines others rest are.1)
 
 -- and so do reports that say the same
-shows_same : (report other : Report) (input : List ℕ) → content_of report ≡ content_of other → ShowsLeast report input
+pub shows_same : (report other : Report) (input : List ℕ) → content_of report ≡ content_of other → ShowsLeast report input
     → ShowsLeast other input
 shows_same report other input same shows =
     let tolerance : report.tolerance ≡ other.tolerance = ap (λ (said : Content). said.tolerance) same in

@@ -17,16 +17,17 @@ use Rattle.msr_output.specs.Writing.{IsLineOf}
 use Rattle.msr_output.proofs.CutRows.{IsFitting, written_split}
 use Rattle.msr_output.proofs.Existing.{all_left, all_right}
 use Rattle.msr_verdict.specs.Packed.{runs_of_rows, IsShownAs, IsShownBy, AreShownBy}
-use Rattle.msr_verdict.proofs.Runs.{samples_of, segment_samples}
+use Rattle.msr_verdict.specs.Agreements.{samples_of_rows}
+use Rattle.msr_verdict.proofs.Runs.{segment_samples}
 use Rattle.msr_tool.specs.Answer.{AreLinesOf}
 use Rattle.msr_tool.proofs.ShownRows.{IsSound, range_length}
 
-some_samples : (row : Row) (rows : List Row) → IsSound row → 0 ≡ length (samples_of (row ∷ rows)) → ⊥
-some_samples row rows is e = omega (arith, e, is.some, length-append row.samples (samples_of rows))
+some_samples : (row : Row) (rows : List Row) → IsSound row → 0 ≡ length (samples_of_rows (row ∷ rows)) → ⊥
+some_samples row rows is e = omega (arith, e, is.some, length-append row.samples (samples_of_rows rows))
 
 -- prefixes of the same rows with as many samples are the same prefix, since each row has some
 same_prefix : (xs ys u v : List Row) → xs ++ u ≡ ys ++ v → All IsSound xs → All IsSound ys
-    → length (samples_of xs) ≡ length (samples_of ys) → (xs ≡ ys) × (u ≡ v)
+    → length (samples_of_rows xs) ≡ length (samples_of_rows ys) → (xs ≡ ys) × (u ≡ v)
 same_prefix [] [] u v e first second size = (refl, e)
 same_prefix [] (y ∷ ys) u v e first second size = absurd (some_samples y ys (All-head IsSound y ys second) size)
 same_prefix (x ∷ xs) [] u v e first second size =
@@ -35,15 +36,15 @@ same_prefix (x ∷ xs) (y ∷ ys) u v e first second size =
     let h : x ≡ y = cc in
     let t : xs ++ u ≡ ys ++ v = cc in
     let count : length x.samples ≡ length y.samples = ap (λ (r : Row). length r.samples) h in
-    let rest : length (samples_of xs) ≡ length (samples_of ys) =
-    omega (arith, size, count, length-append x.samples (samples_of xs), length-append y.samples (samples_of ys)) in
+    let rest : length (samples_of_rows xs) ≡ length (samples_of_rows ys) =
+    omega (arith, size, count, length-append x.samples (samples_of_rows xs), length-append y.samples (samples_of_rows ys)) in
     let same = same_prefix xs ys u v t (All-tail IsSound x xs first) (All-tail IsSound y ys second) rest in
     (rw (h, same.0) refl, same.1)
 
 -- The rows of a segment's records are its runs, and have all its samples.
 record AreRuns (a : ℕ) (runs : List Run) (end : ℕ) (rows : List Row) : Type 0 where
   same : runs_of_rows a rows ≡ runs
-  size : a + length (samples_of rows) ≡ end
+  size : a + length (samples_of_rows rows) ≡ end
 
 are_runs : (form : Form) (n : ℕ) (segment : Segment) (runs : List Run) (a : ℕ) (rows : List Row) (bytes : List ℕ)
     → All (IsFitting form segment.samples) runs → Joins a runs (length segment.samples)
@@ -65,7 +66,7 @@ are_runs form n segment (run ∷ runs) a rows bytes fitting joined are =
     let is_first : first ≡ run = same_run first run (sym start) end is_row.kind in
     rw w.all_rows (record {
       same = rw (is_first, end, rest.same) refl;
-      size = omega (arith, end, rest.size, length-append w.row.samples (samples_of are.0));
+      size = omega (arith, end, rest.size, length-append w.row.samples (samples_of_rows are.0));
     })
 
 -- the line of a packed segment shows it
@@ -100,7 +101,7 @@ are_shown form n (one ∷ packed) (line ∷ lines) (p ∷ ps) rows bytes packing
     is.packing.joined split.first in
     let two : split.first_rows ++ split.other_rows ≡ rows_of p ++ flat_map rows_of ps = sym split.whole ∙ whole in
     let sound_first = rw split.whole at sound in
-    let total : length (samples_of (rows_of p)) ≡ length one.segment.samples = ap length (sym (segment_samples p))
+    let total : length (samples_of_rows (rows_of p)) ≡ length one.segment.samples = ap length (sym (segment_samples p))
     ∙ ap (λ (s : Segment). length s.samples) (sym head) in
     let same = same_prefix split.first_rows (rows_of p) split.other_rows (flat_map rows_of ps) two
     (all_left IsSound split.first_rows split.other_rows sound_first)

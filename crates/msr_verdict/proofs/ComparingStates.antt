@@ -1,6 +1,6 @@
 -- What is known of the comparing so far, and how a record more changes it.
 use Rattle.std.proofs.Common.{◌≡◌, ◌↔◌, ℤ, inl, inr, ℕ, zero, suc, true, false, List, [], ◌∷◌, ◌++◌, length, refl, sym, ap, subst, ◌∙◌, arith, append_assoc, length-append, Option, Some, None, All}
-use Rattle.std.specs.Prelude.{slice_get, is_some, Bool, IsSome, MatchOption, ⊤}
+use Rattle.std.specs.Prelude.{slice_get, is_some, Bool, IsSome, MatchOption}
 use Rattle.std.specs.Option.{option_to_list}
 use Rattle.std.proofs.lemmas.Bool.{both_ways, cases_Bool}
 use Rattle.std.proofs.lemmas.List.{append-nil}
@@ -23,53 +23,10 @@ use Rattle.msr_input.specs.declared.row_reader.NextRow.{NextRow}
 use Rattle.msr_input.proofs.Records.{rows_snoc}
 use Rattle.msr_verdict.specs.Packed.{IsFull, AreShownBy, runs_of_part, runs_of_rows}
 use Rattle.msr_verdict.specs.Compared.{Compared, HasFullRow, IsLineAt, IsShownAt, ComparesSegment, ComparesEnded, EndsBy, AddsRow, TakesRecord, separators_at}
+use Rattle.msr_verdict.specs.Agreements.{Agreeing, Disagreeing, Follows, MayGoOn, HasLine, HasParts, IsCompared, open_rows, samples_of_rows}
 use Rattle.msr_verdict.proofs.Lines.{shown_snoc, shown_next, get_after, after_get}
-use Rattle.msr_verdict.proofs.Runs.{runs_grown, samples_grown, samples_of}
-use Rattle.msr_verdict.proofs.Parts.{HasParts, open_rows, part_with, parts_after, last_before, parts_with, last_with, parts_none, parts_more}
-
--- the line at that place is of the open part, if one is open
-abbrev pub HasLine : List SegmentLine → ℕ → Option Part → Type 0
-HasLine lines place None = ⊤
-HasLine lines place (Some part) = IsLineAt lines place part.0.key part.0.start
-
--- the first of these parts begins as that part does
-pub record BeginsAs (part : Part) (rest : List Part) : Type 0 where
-  pub first : Part
-  pub others : List Part
-  pub rest_is : rest ≡ first ∷ others
-  pub key : first.0.key ≡ part.0.key
-  pub start : first.0.start ≡ part.0.start
-
--- the open part, if one is open, may be the first of these with some rows more
-abbrev pub GoesOn : Option Part → List Part → Type 0
-GoesOn None rest = ⊤
-GoesOn (Some part) rest = BeginsAs part rest
-
--- All records so far are full, the ended parts are shown by the first lines, the next line is of the open part, and the
--- runs of that were judged.
-pub record Agreeing (form : Form) (lines : List SegmentLine) (records : List Record) (parts : List Part)
-    (last : Option Part) (c : Compared) : Type 0 where
-  pub full : All (IsFull (bytes_of form.length)) records
-  pub done : List SegmentLine
-  pub left : List SegmentLine
-  pub whole : lines ≡ done ++ left
-  pub place : c.place ≡ length done
-  pub shown : AreShownBy form parts done
-  pub is_open : c.is_open ≡ is_some last
-  pub has_line : HasLine lines c.place last
-  pub judged : Judges (records_of form) (samples_of (open_rows last)) (runs_of_rows 0 (open_rows last))
-      (separators_at lines c.place) c.judged
-
--- Whatever follows, the records and parts so far are not shown by these lines.
-pub record Disagreeing (form : Form) (lines : List SegmentLine) (records : List Record) (parts : List Part)
-    (last : Option Part) : Type 0 where
-  pub none : (more : List Record) (rest : List Part) → All (IsFull (bytes_of form.length)) (records ++ more)
-      → GoesOn last rest → AreShownBy form (parts ++ rest) lines → ⊥
-
-pub record IsCompared (form : Form) (lines : List SegmentLine) (records : List Record) (parts : List Part)
-    (last : Option Part) (c : Compared) : Type 0 where
-  pub agrees : c.agrees ≡ true → Agreeing form lines records parts last c
-  pub differs : c.agrees ≡ false → Disagreeing form lines records parts last
+use Rattle.msr_verdict.proofs.Runs.{runs_grown, samples_grown}
+use Rattle.msr_verdict.proofs.Parts.{part_with, parts_after, last_before, parts_with, last_with, parts_none, parts_more}
 
 -- before the first record
 pub record IsNew (c : Compared) : Type 0 where
@@ -148,7 +105,7 @@ segment_differs form lines records parts part old new a exact f = record {
       both_ways new.agrees f (exact.1 (next_shown form lines records parts rest (Some part) part old a are'));
 }
 
-goes_on : (last : Option Part) (rest : List Part) → GoesOn last (option_to_list last ++ rest)
+goes_on : (last : Option Part) (rest : List Part) → MayGoOn last (option_to_list last ++ rest)
 goes_on None rest = tt
 goes_on (Some part) rest = record { first = part; others = rest; rest_is = refl; key = refl; start = refl }
 
@@ -243,13 +200,13 @@ row_agrees form lines records parts last found row old new h full k t =
     let was = k.opens.agrees.0 t' in
     let a = h.agrees was.0 in
     let place : new.place ≡ old.place = k.place ∙ k.opens.place in
-    let before : Judges (records_of form) (samples_of (open_rows last)) (runs_of_rows 0 (open_rows last))
+    let before : Judges (records_of form) (samples_of_rows (open_rows last)) (runs_of_rows 0 (open_rows last))
     (separators_at lines k.before.place) k.before.judged =
-    subst (λ (n : ℕ). Judges (records_of form) (samples_of (open_rows last)) (runs_of_rows 0 (open_rows last))
+    subst (λ (n : ℕ). Judges (records_of form) (samples_of_rows (open_rows last)) (runs_of_rows 0 (open_rows last))
     (separators_at lines n) k.before.judged) (sym k.opens.place)
-    (subst (λ (j : Judged). Judges (records_of form) (samples_of (open_rows last)) (runs_of_rows 0 (open_rows last))
+    (subst (λ (j : Judged). Judges (records_of form) (samples_of_rows (open_rows last)) (runs_of_rows 0 (open_rows last))
     (separators_at lines old.place) j) (sym k.opens.judged) a.judged) in
-    let judged = k.judged t' (samples_of (open_rows last)) (runs_of_rows 0 (open_rows last)) before in
+    let judged = k.judged t' (samples_of_rows (open_rows last)) (runs_of_rows 0 (open_rows last)) before in
     record {
       full = all_snoc (IsFull (bytes_of form.length)) records found a.full full;
       done = a.done;
@@ -260,17 +217,17 @@ row_agrees form lines records parts last found row old new h full k t =
       is_open = k.opened ∙ k.opens.opened;
       has_line = subst (λ (n : ℕ). HasLine lines n (Some (part_with last row))) (sym place)
           (line_grown form lines records parts last row old a was.1);
-      judged = subst (λ (n : ℕ). Judges (records_of form) (samples_of (rows_of (part_with last row)))
+      judged = subst (λ (n : ℕ). Judges (records_of form) (samples_of_rows (rows_of (part_with last row)))
           (runs_of_rows 0 (rows_of (part_with last row))) (separators_at lines n) new.judged) (sym k.place)
           (subst (λ (xs : List ℤ). Judges (records_of form) xs (runs_of_rows 0 (rows_of (part_with last row)))
           (separators_at lines k.before.place) new.judged) (samples_grown last row)
-          (subst (λ (rs : List Run). Judges (records_of form) (samples_of (open_rows last) ++ row.samples) rs
+          (subst (λ (rs : List Run). Judges (records_of form) (samples_of_rows (open_rows last) ++ row.samples) rs
           (separators_at lines k.before.place) new.judged) (runs_grown last row) judged));
     }
 
 -- what goes on with a row more goes on without it
-goes_before : (last : Option Part) (row : Row) (rest : List Part) → GoesOn (Some (part_with last row)) rest
-    → GoesOn last rest
+goes_before : (last : Option Part) (row : Row) (rest : List Part) → MayGoOn (Some (part_with last row)) rest
+    → MayGoOn last rest
 goes_before None row rest goes = tt
 goes_before (Some part) row rest goes =
     record { first = goes.first; others = goes.others; rest_is = goes.rest_is; key = goes.key; start = goes.start }
@@ -278,7 +235,7 @@ goes_before (Some part) row rest goes =
 -- if a segment that goes on from the row is shown, the line at its place is of it
 line_shown : (form : Form) (lines : List SegmentLine) (records : List Record) (parts rest : List Part)
     (last : Option Part) (row : Row) (old : Compared) → Agreeing form lines records parts last old
-    → GoesOn (Some (part_with last row)) rest → AreShownBy form (parts ++ rest) lines
+    → MayGoOn (Some (part_with last row)) rest → AreShownBy form (parts ++ rest) lines
     → old.is_open ≡ false → IsLineAt lines old.place row.key row.start
 unfolding segment_of
 line_shown form lines records parts rest None row old a goes are f =
@@ -355,14 +312,6 @@ not_full : (form : Form) (found : Record) (next : NextRecord) → next.length �
 not_full form found next length_is row_is other full =
     let row = some_told next.row found.row row_is full.some in
     other row.0 (record { length_is = length_is ∙ full.length_is; row_is = row.1 })
-
--- The records so far: their parts, and how far they were compared.
-pub record Follows (form : Form) (lines : List SegmentLine) (following : Following) (records : List Record)
-    (c : Compared) : Type 0 where
-  pub parts : List Part
-  pub last : Option Part
-  pub has_parts : HasParts following (rows_of_records records) parts last
-  pub compared : IsCompared form lines records parts last c
 
 pub follows_none : (form : Form) (lines : List SegmentLine) (following : Following) (c : Compared)
     → following.current ≡ None → IsNew c → Follows form lines following [] c

@@ -3,3 +3,4 @@ pub mod Runs
 pub mod Parts
 pub mod ComparingStates
 pub mod StoppedReading
+pub mod BesideInputs

@@ -8,15 +8,11 @@ use Rattle.msr_segments.specs.declared.span.Span.{Span}
 use Rattle.msr_segments.specs.declared.follow.Step.{Step}
 use Rattle.msr_segments.specs.declared.follow.Step.TheVariants.{Begins, Joins}
 use Rattle.msr_segments.specs.Spans.{Continues, Following, JoinsSegment, TakesStep}
-use Rattle.msr_segments.specs.Segments.{Part, rows_of, segment_of, part_span, row_span, segment_span, IsDivision}
+use Rattle.msr_segments.specs.Segments.{Part, segment_of, part_span, row_span, segment_span, IsDivision}
 use Rattle.msr_segments.proofs.Divisions.{no_empty, cases_last, longer_part, ContinuesPart, division_none, division_breaks, division_joins, division_begins, segment_of_longer, segment_of_alone, span_with_row}
 use Rattle.msr_input.specs.Rows.{StepsTo, row_told}
 use Rattle.msr_input.specs.declared.row_reader.NextRow.{NextRow}
-
--- the rows of the part that is open
-abbrev pub open_rows : Option Part → List Row
-open_rows None = []
-open_rows (Some part) = rows_of part
+use Rattle.msr_verdict.specs.Agreements.{HasParts}
 
 -- the parts that have ended after a row, the one that the row is added to, and that one with it
 abbrev pub parts_after : Step → List Part → Option Part → List Part
@@ -30,12 +26,6 @@ last_before Joins last = last
 abbrev pub part_with : Option Part → Row → Part
 part_with None row = (row, [])
 part_with (Some part) row = longer_part part row
-
--- These are the parts of the rows that a follower took; the last one is at its place.
-pub record HasParts (following : Following) (rows : List Row) (parts : List Part) (last : Option Part) : Type 0 where
-  pub division : IsDivision following.tolerance rows (parts ++ option_to_list last)
-  pub current : following.current ≡ option_map part_span last
-  pub begun : last ≡ None → rows ≡ []
 
 -- a follower without rows
 pub parts_none : (following : Following) → following.current ≡ None → HasParts following [] [] None

@@ -9,8 +9,9 @@ use Rattle.msr_words.specs.Fit.{records_of}
 use Rattle.msr_words.proofs.Certificate.{least_by_separators}
 use Rattle.msr_rows.specs.declared.row.Record.{Record}
 use Rattle.msr_devices.specs.Device.{Device, HasLeft, HasFailed}
-use Rattle.msr_devices.proofs.Chaining.{left_of, steady_sound}
+use Rattle.msr_devices.proofs.Chaining.{steady_sound}
 use Rattle.msr_segments.specs.Segments.{Part, rows_of, segment_of, IsDivision}
+use Rattle.msr_segments.specs.Spans.{Following}
 use Rattle.msr_segments.specs.declared.follow.Step.{Step}
 use Rattle.msr_segments.specs.declared.joiner.Segment.{Segment}
 use Rattle.msr_segments.proofs.DivisionLaws.{one_division}
@@ -26,18 +27,21 @@ use Rattle.msr_input.proofs.OneReading.{one_list_of_records}
 use Rattle.msr_verdict.specs.declared.verdict.Verdict.{Verdict}
 use Rattle.msr_verdict.specs.declared.verdict.Verdict.TheVariants.{Least, NotShown}
 use Rattle.msr_verdict.specs.Packed.{IsFull, IsShownBy, AreShownBy, ShowsLeast, VerifyAnswers, StandsInFewest, AllStandInFewest, ShownIsFewest, ShownIsReadable, form_by, runs_of_part, settings_by}
+use Rattle.msr_compare.specs.Seen.{AllSeen}
+use Rattle.msr_compare.proofs.Draining.{no_memory}
 use Rattle.msr_verdict.specs.Compared.{Compared, ComparesEnded}
+use Rattle.msr_verdict.specs.Agreements.{HasJudged, IsCompared}
 use Rattle.msr_verdict.proofs.Lines.{shown_length}
 use Rattle.msr_verdict.proofs.Runs.{runs_length}
-use Rattle.msr_verdict.proofs.ComparingStates.{IsCompared, Follows, compare_last}
+use Rattle.msr_verdict.proofs.ComparingStates.{compare_last}
 
 -- The state of reading between two records.
-pub record UnderWay (report : Report) (start now : Device) (reading : RowReading) (c : Compared) : Type 0 where
+pub record UnderWay (report at_hand : Report) (start now : Device) (reading : RowReading) (c : Compared) : Type 0 where
   pub records : List Record
   pub answers : List Step
   pub read : HasReadRows start now reading records answers
   pub settings : row_settings reading ≡ settings_by report
-  pub follows : Follows (form_by report) report.segments.items reading.following records c
+  pub checks : HasJudged report at_hand reading.following records c
 
 pub settings_none : (report : Report) (reading : RowReading)
     → reading.following ≡ record { tolerance = report.tolerance; current = None } → reading.position.strict ≡ false
@@ -73,27 +77,28 @@ stop_answers report start now given fault.Memory h =
     }
 
 -- the records so far are read, with no segment given
-begun_none : (report : Report) (start now : Device) (reading : RowReading) (c : Compared)
-    (u : UnderWay report start now reading c) → HaveBegun reading.following.tolerance u.records []
-begun_none report start now reading c u =
-    let parts = u.follows.parts ++ option_to_list u.follows.last in
+begun_none : (report at_hand : Report) (start now : Device) (reading : RowReading) (c : Compared)
+    (u : UnderWay report at_hand start now reading c) → HaveBegun reading.following.tolerance u.records []
+begun_none report at_hand start now reading c u =
+    let f = u.checks.follows in
+    let parts = f.parts ++ option_to_list f.last in
     record {
       others = map segment_of parts;
-      are_segments = record { parts = parts; division = u.follows.has_parts.division; each = refl };
+      are_segments = record { parts = parts; division = f.has_parts.division; each = refl };
     }
 
-pub stops_so : (report : Report) (start now new : Device) (reading : RowReading) (c : Compared) (why : ReadFault)
-    (u : UnderWay report start now reading c) → StopsRows (row_settings reading) start new u.records why
+pub stops_so : (report at_hand : Report) (start now new : Device) (reading : RowReading) (c : Compared)
+    (why : ReadFault) (u : UnderWay report at_hand start now reading c) → StopsRows (row_settings reading) start new u.records why
     → StopsReading (settings_by report) start new [] why
-stops_so report start now new reading c why u stops =
+stops_so report at_hand start now new reading c why u stops =
     subst (λ (s : Settings). StopsReading s start new [] why) u.settings
-    (stops [] (begun_none report start now reading c u))
+    (stops [] (begun_none report at_hand start now reading c u))
 
-pub read_fails : (report : Report) (start now new : Device) (reading : RowReading) (c : Compared) (why : ReadFault)
-    (u : UnderWay report start now reading c) → StopsRows (row_settings reading) start new u.records why
+pub read_fails : (report at_hand : Report) (start now new : Device) (reading : RowReading) (c : Compared)
+    (why : ReadFault) (u : UnderWay report at_hand start now reading c) → StopsRows (row_settings reading) start new u.records why
     → IsAnswered report start (Err why)
-read_fails report start now new reading c why u stops =
-    stop_answers report start new [] why (stops_so report start now new reading c why u stops)
+read_fails report at_hand start now new reading c why u stops =
+    stop_answers report start new [] why (stops_so report at_hand start now new reading c why u stops)
 
 pub read_tells : (settings : Settings) (start now : Device) (given : List Segment) (why : ReadFault)
     → StopsReading settings start now given why → IsErrOf {T = Verdict} (Err why) fault.Read ↔ HasFailed start now
@@ -105,20 +110,10 @@ read_tells settings start now given fault.Memory h =
 
 -- there is no memory for the open segment
 pub memory_fails : (report : Report) (start now : Device) (reading : RowReading) (records : List Record)
-    (answers : List Step) (why : ReadFault) → HasReadRows start now reading records answers
-    → row_settings reading ≡ settings_by report → why ≡ fault.Memory → IsAnswered report start (Err why)
-memory_fails report start now reading records answers why h settings memory =
-    let tolerance = ap (λ (s : Settings). s.tolerance) settings in
-    let p = h.came.begins (left_of now).0 (left_of now).1 in
-    rw memory (record {
-      input = p.0;
-      left = p.1;
-      answers = record {
-        records = records;
-        rest = reading.position.waiting ++ (left_of now).0;
-        are_read = record { begins = p.2; in_range = rw tolerance at h.in_range; agree = λ t. absurd cc };
-      };
-    })
+    (answers : List Step) → HasReadRows start now reading records answers
+    → row_settings reading ≡ settings_by report → IsAnswered report start (Err fault.Memory)
+memory_fails report start now reading records answers h settings =
+    stop_answers report start now [] fault.Memory (no_memory h settings)
 
 -- the records and the parts by which a report shows the fewest records are those of the input
 same_parts : (report : Report) (input : List ℕ) (records : List Record) (parts : List Part)
@@ -191,32 +186,61 @@ verdict_answers report input records parts c NotShown are d compared exact = rec
       ];
 }
 
+-- all records were seen
+pub verdict_seen : (report at_hand : Report) (input : List ℕ) (old new : Compared) (verdict : Verdict)
+    → AllSeen (λ following records. HasJudged report at_hand following records old) (settings_by report) input
+    → ComparesEnded (form_by at_hand) at_hand.segments.items old.is_open old new
+    → (verdict ≡ Least) ↔ ((new.agrees ≡ true) × (new.place ≡ length at_hand.segments.items))
+    → VerifyAnswers report input (Ok verdict)
+verdict_seen report at_hand input old new verdict all k exact =
+    let same = all.is_seen.report_is in
+    let f = all.is_seen.follows in
+    let parts = f.parts ++ option_to_list f.last in
+    let d : IsDivision report.tolerance (rows_of_records all.records) parts =
+    rw all.tolerance_is at f.has_parts.division in
+    let ended = rw same at k in
+    let compared = compare_last
+    (form_by report) report.segments.items all.records f.parts f.last old new f.compared ended in
+    verdict_answers report input all.records parts new verdict all.readable.are_read d compared (rw same at exact)
+
 -- all was read
-pub done : (report : Report) (start at now : Device) (before reading : RowReading) (old new : Compared)
-    (verdict : Verdict) (u : UnderWay report start at before old) → ReadsNone start now reading u.records u.answers
-    → row_settings reading ≡ row_settings before
-    → ComparesEnded (form_by report) report.segments.items old.is_open old new → (verdict ≡ Least)
-    ↔ ((new.agrees ≡ true) × (new.place ≡ length report.segments.items)) → IsAnswered report start (Ok verdict)
-done report start at now before reading old new verdict u all still k exact =
-    let f = u.follows in
+pub all_read : (report at_hand : Report) (start at now : Device) (before reading : RowReading) (c : Compared)
+    (u : UnderWay report at_hand start at before c) → ReadsNone start now reading u.records u.answers
+    → row_settings reading ≡ row_settings before → (input : List ℕ) × HasLeft start input
+    × AllSeen (λ following records. HasJudged report at_hand following records c) (settings_by report) input
+all_read report at_hand start at now before reading c u all still =
+    let f = u.checks.follows in
     let tolerance = ap (λ (s : Settings). s.tolerance) (still ∙ u.settings) in
     let came = all.read.came.begins [] (all.read.came.end all.ended) in
-    let are : AreRead (settings_by report) came.0 u.records [] =
-    record {
-      begins = rw all.none_wait at came.2;
-      in_range = rw tolerance at all.read.in_range;
-      agree = λ t. absurd cc;
-    } in
-    let d : IsDivision report.tolerance (rows_of_records u.records) (f.parts ++ option_to_list f.last) =
-    rw (ap (λ (s : Settings). s.tolerance) u.settings) at f.has_parts.division in
-    let compared = compare_last
-    (form_by report) report.segments.items u.records f.parts f.last old new f.compared k in
-    record {
-      input = came.0;
-      left = came.1;
-      answers = verdict_answers report came.0 u.records
-          (f.parts ++ option_to_list f.last) new verdict are d compared exact;
-    }
+    let parts = f.parts ++ option_to_list f.last in (
+      came.0,
+      came.1,
+      record {
+        records = u.records;
+        segments = map segment_of parts;
+        readable = record {
+          are_read = record {
+            begins = rw all.none_wait at came.2;
+            in_range = rw tolerance at all.read.in_range;
+            agree = λ t. absurd cc;
+          };
+          are_segments = record {
+            parts = parts;
+            division = rw (ap (λ (s : Settings). s.tolerance) u.settings) at f.has_parts.division;
+            each = refl;
+          };
+        };
+        following = before.following;
+        tolerance_is = ap (λ (s : Settings). s.tolerance) u.settings;
+        is_seen = u.checks;
+      },
+    )
+
+-- what a report says of the one that is at hand
+pub own : {report at_hand : Report} {following : Following} {records : List Record} {c : Compared}
+    → HasJudged report at_hand following records c → HasJudged at_hand at_hand following records c
+own {at_hand = at_hand} {following} {records} {c} checks =
+    subst (λ (r : Report). HasJudged r at_hand following records c) (sym checks.report_is) checks
 
 fewest : (form : Form) (part : Part) (line : SegmentLine) → IsShownBy form part line → StandsInFewest form part line
 fewest form part line is = record {

@@ -1,3 +1,5 @@
 pub mod Packed
+pub mod Beside
 pub mod Compared
+pub mod Agreements
 pub mod Texts

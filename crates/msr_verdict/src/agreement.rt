@@ -5,12 +5,12 @@ ghost use Rattle.msr_verdict.specs.Packed.{form_by};
 
 use crate::verdict::Verdict;
 use msr_check::Judge;
-use msr_input::{NextRow, ReadFault};
+use msr_input::NextRow;
 use msr_kinds::Form;
 use msr_report::Report;
 use msr_rows::Row;
 use msr_segments::Step;
-use std::alloc::Global;
+use std::alloc::{AllocError, Global};
 use std::marker::Model;
 
 /// Whether the line at that place is of a segment that begins with the row, and has as many records as separators.
@@ -62,7 +62,7 @@ impl Model for Agreement {
 }
 
 impl Agreement {
-    ghost use Rattle.std.specs.Prelude.{◌≡◌, ◌↔◌, ℕ, List, [], length, true, false, OnOk, IfErr, IsTrue, ◌+◌, ◌<◌, ◌^◌};
+    ghost use Rattle.std.specs.Prelude.{◌≡◌, ◌↔◌, ℕ, List, [], length, true, false, OnOk, IsTrue, option_copied, ◌+◌, ◌<◌, ◌^◌};
     ghost use Rattle.msr_words.specs.Fit.{Records, records_of};
     ghost use Rattle.msr_words.specs.declared.kinds.Run.{Run as WordRun};
     ghost use Rattle.msr_check.specs.Judged.{Judges};
@@ -127,32 +127,26 @@ impl Agreement {
     }
 
     /// Adds a row to the open segment, or opens one with it.
-    fn add(&mut self, report: &Report, row: Row) -> Result<(), ReadFault>
-        ensures added { OnOk result (AddsRow
-            (form_by report.now) report.now.segments.items self.old row self.new) }
-        ensures memory { IfErr result (λ fault. fault ≡ ReadFault.Memory) }
+    fn add(&mut self, report: &Report, row: &Row) -> Result<(), AllocError>
+        ensures { OnOk result (AddsRow
+            (form_by report.now) report.now.segments.items self.old row.now self.new) }
     {
-        self.open_by(report, &row);
+        self.open_by(report, row);
         if !self.agrees {
             return Ok(());
         }
-        let Ok(()) = self.judge.push(
+        self.judge.push(
             row.samples.as_slice(),
             row.kind,
             form_by(report),
             separators_at(report, self.place),
         )
-        else {
-            return Err(ReadFault::Memory);
-        };
-        Ok(())
     }
 
     /// Takes the row of the next record, `None` for a record that agrees with no report.
-    pub(crate) fn take(&mut self, report: &Report, row: Option<NextRow>) -> Result<(), ReadFault>
-        ensures taken { OnOk result (TakesRecord
-            (form_by report.now) report.now.segments.items self.old row self.new) }
-        ensures memory { IfErr result (λ fault. fault ≡ ReadFault.Memory) }
+    pub(crate) fn take(&mut self, report: &Report, row: Option<&NextRow>) -> Result<(), AllocError>
+        ensures { OnOk result (TakesRecord
+            (form_by report.now) report.now.segments.items self.old (option_copied row.entry) self.new) }
     {
         let Some(next) = row else {
             self.agrees = false;
@@ -163,7 +157,7 @@ impl Agreement {
         if next.step == Step::Begins {
             self.end(report);
         }
-        self.add(report, next.row)
+        self.add(report, &next.row)
     }
 
     /// The verdict, when the last segment was compared.

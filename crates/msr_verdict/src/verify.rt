@@ -1,34 +1,27 @@
 //! Reading packed records beside their report.
-ghost use Rattle.std.specs.Prelude.{◌≡◌, ◌↔◌, ◌≤◌, ℕ, List, [], None, true, false, IsErrOf, MatchOption};
+ghost use Rattle.std.specs.Prelude.{◌≡◌, ◌↔◌, ◌≤◌, ℕ, List, [], IsErrOf};
 ghost use Rattle.msr_devices.specs.Device.{CanCountCall, CountsFew, HasFailed, HasLeft};
-ghost use Rattle.msr_kinds.specs.Lengths.{bytes_of};
-ghost use Rattle.msr_words.specs.Fit.{Records};
-ghost use Rattle.msr_check.specs.Judged.{Judges};
 ghost use Rattle.msr_input.specs.Rows.{HasReadRows, row_settings};
-ghost use Rattle.msr_input.specs.declared.row_reader.NextRow.{NextRow as Told};
-ghost use Rattle.msr_verdict.specs.Compared.{HasFullRow};
+ghost use Rattle.msr_verdict.specs.Agreements.{HasJudged};
+ghost use Rattle.msr_verdict.specs.Beside.{BesideAnswers, beside_answer};
 ghost use Rattle.msr_verdict.specs.Packed.{VerifyAnswers, settings_by};
 
-use crate::agreement::Agreement;
+use crate::checker::Checker;
 use crate::verdict::Verdict;
+use msr_compare::{CompareFault, Comparison, Observer, compare_observed};
 use msr_devices::Source;
-use msr_input::{NextRecord, NextRow, ReadFault, RowReader, Settings};
-use msr_kinds::Length;
+use msr_input::{ReadFault, RowReader, Settings};
 use msr_report::Report;
 use std::alloc::Global;
 
-/// The record's row, if it has one, and that length.
-fn full_row(next: NextRecord, record_length: Length) -> Option<NextRow>
-    ensures { MatchOption result
-        ((row : Told) → HasFullRow (bytes_of record_length) next row → ⊥)
-        (HasFullRow (bytes_of record_length) next) }
+/// How the records that the report speaks of are read: with its tolerance, and not strictly.
+fn settings_by(report: &Report) -> Settings
+    ensures { result ≡ settings_by report.now }
 {
-    let bytes = next.length;
-    let row = next.row?;
-    if bytes != record_length.bytes() {
-        return None;
+    Settings {
+        tolerance: report.tolerance,
+        strict: false,
     }
-    Some(row)
 }
 
 /// Reads all records of the source, and says whether the report shows that each of their segments stands in the
@@ -51,34 +44,93 @@ pub fn verify_packed<R: Source>(
     ensures read { IsErrOf result ReadFault.Read ↔ HasFailed (R.device source.old) (R.device source.new) }
     ensures few { CountsFew (R.device source.old) (R.device source.new) }
 {
-    let settings = Settings {
-        tolerance: report.tolerance,
-        strict: false,
-    };
-    let mut reader = RowReader::new(alloc, settings);
-    let mut agreement = Agreement::new(alloc);
-    verify_records(source, report, &mut reader, &mut agreement)
+    let mut reader = RowReader::new(alloc, settings_by(report));
+    let mut checker = Checker::new(alloc, report);
+    verify_records(source, &mut reader, &mut checker)
 }
 
-/// Verifies with a reader and an agreement that are new. They are lent, so that each is dropped at one place.
+/// Verifies with a reader and a checker that are new. They are lent, so that each is dropped at one place.
 fn verify_records<R: Source>(
     source: &mut R,
-    report: &Report,
     reader: &mut RowReader,
-    agreement: &mut Agreement,
+    checker: &mut Checker<'_>,
 ) -> Result<Verdict, ReadFault>
     requires count { CanCountCall (R.device source.old) }
     requires reader { HasReadRows (R.device source.old) (R.device source.old) reader.old [] []
-        × (reader.old.following.current ≡ None) × (row_settings reader.old ≡ settings_by report.now) }
-    requires agreement { (agreement.old.place ≡ 0) × (agreement.old.is_open ≡ false) × (agreement.old.agrees ≡ true)
-        × ((form : Records) (separators : List ℕ) → Judges form [] [] separators agreement.old.judged) }
-    ensures { ((input : List ℕ) × HasLeft (R.device source.old) input × VerifyAnswers report.now input result)
+        × (row_settings reader.old ≡ settings_by checker.old.report.now) }
+    requires checker { HasJudged checker.old.report.now checker.old.report.now reader.old.following [] checker.old.agreement }
+    ensures { ((input : List ℕ) × HasLeft (R.device source.old) input
+        × VerifyAnswers checker.old.report.now input result)
         × (IsErrOf result ReadFault.Read ↔ HasFailed (R.device source.old) (R.device source.new))
         × CountsFew (R.device source.old) (R.device source.new) }
 {
     'records: while let Some(next) = reader.next_record(source)? {
-        agreement.take(report, full_row(next, report.length))?;
+        let Ok(()) = checker.see(&next) else {
+            return Err(ReadFault::Memory);
+        };
+        reader.give_back(next);
     }
-    agreement.end(report);
-    Ok(agreement.verdict(report))
+    Ok(checker.verdict())
+}
+
+/// What is answered if the report does not show it, and reading the other input stopped so.
+fn not_shown_beside(why: ReadFault) -> Result<Option<Comparison>, CompareFault>
+    ensures { result ≡ beside_answer Verdict.NotShown (Err (CompareFault.Other why)) }
+{
+    match why {
+        ReadFault::Input(_) => Ok(None),
+        ReadFault::Read => Err(CompareFault::Other(ReadFault::Read)),
+        ReadFault::Memory => Err(CompareFault::Other(ReadFault::Memory)),
+    }
+}
+
+/// What is answered of packed records beside another input, if it was compared with them so.
+fn beside_answer(
+    verdict: Verdict,
+    compared: Result<Comparison, CompareFault>,
+) -> Result<Option<Comparison>, CompareFault>
+    ensures { result ≡ beside_answer verdict compared }
+{
+    match verdict {
+        Verdict::Least => match compared {
+            Ok(comparison) => Ok(Some(comparison)),
+            Err(why) => Err(why),
+        },
+        Verdict::NotShown => match compared {
+            Ok(_) => Ok(None),
+            Err(CompareFault::One(why)) => Err(CompareFault::One(why)),
+            Err(CompareFault::Other(why)) => not_shown_beside(why),
+        },
+    }
+}
+
+/// Reads packed records and another input side by side, each once: if the report shows that each segment of the records
+/// stands in the fewest, whether both have the same segments, joined with the report's tolerance; else `None`. A fault of
+/// the records comes first, then what the report does not show, then a fault of the other input, then a difference. Each
+/// record is judged before it is compared, so what was shown is what was compared.
+pub fn verify_beside<P: Source, F: Source>(
+    alloc: Global,
+    packed: &mut P,
+    beside: &mut F,
+    report: &Report,
+) -> Result<Option<Comparison>, CompareFault>
+    requires packed { CanCountCall (P.device packed.old) }
+    requires beside { CanCountCall (F.device beside.old) }
+    requires tolerance { (1 ≤ report.now.tolerance) × (report.now.tolerance ≤ 1_000_000) }
+
+    // What is answered, for the bytes that the sources have.
+    ensures answer { (records : List ℕ) × (other : List ℕ) × HasLeft (P.device packed.old) records
+        × HasLeft (F.device beside.old) other × BesideAnswers report.now records other result }
+
+    // A failure of a source is answered as such, and nothing else is.
+    ensures read_packed { IsErrOf result (CompareFault.One ReadFault.Read)
+        ↔ HasFailed (P.device packed.old) (P.device packed.new) }
+    ensures read_beside { IsErrOf result (CompareFault.Other ReadFault.Read)
+        ↔ HasFailed (F.device beside.old) (F.device beside.new) }
+    ensures few_packed { CountsFew (P.device packed.old) (P.device packed.new) }
+    ensures few_beside { CountsFew (F.device beside.old) (F.device beside.new) }
+{
+    let mut checker = Checker::new(alloc, report);
+    let compared = compare_observed(alloc, packed, beside, settings_by(report), &mut checker);
+    beside_answer(checker.verdict(), compared)
 }

@@ -2,11 +2,11 @@ use Rattle.std.proofs.Common.{◌∙◌, ap, sym}
 use Rattle.std.proofs.lemmas.Result.{err_from_is_err_and}
 use Rattle.msr_devices.proofs.Chaining.{steady_can_count, steady_then_few}
 use Rattle.msr_compare.specs.Sides.{Standing}
-use Rattle.msr_compare.proofs.Draining.{drained_before, draining, drains_no_more, drains_row, drains_to_end, is_draining, steady_few, still_draining}
+use Rattle.msr_compare.proofs.Draining.{drained_before, draining, drains_no_more, drains_row, drains_to_end, is_draining, steady_few, still_draining, unseen}
 use Rattle.msr_compare.proofs.side.Side.drain.Goals as goal
 
 pub returns-then-self-clause-drained : goal.returns-then-self-clause-drained
-returns-then-self-clause-drained g c = λ settings start done h.
+returns-then-self-clause-drained g c = λ begun settings start done h.
     drained_before h (ap (λ (s : Standing). s.ended) (sym c.self.view_is) ∙ c.if-self.true)
 
 pub returns-then-self-clause-few : goal.returns-then-self-clause-few
@@ -19,6 +19,7 @@ rows-init g c =
       draining = λ settings start done h. draining h;
       begun = is_draining begun;
       open_still = c.if-self.false;
+      any = c.is_watching.ensures c.if-is_watching.false;
     })
 
 pub next_outline-requires : goal.next_outline-requires
@@ -29,8 +30,8 @@ next_outline-requires g c =
 pub returns-in_err-_next-clause-drained : goal.returns-in_err-_next-clause-drained
 returns-in_err-_next-clause-drained g c =
     let p = err_from_is_err_and c.from_residual.result c.from_residual.ensures.1 in
-    rw (p.1, p.2) (λ settings start done h.
-    let d = c.rows.invariant.draining settings start done h in
+    rw (p.1, p.2) (λ begun settings start done h.
+    let d = c.rows.invariant.draining settings start done (unseen h) in
     drains_no_more (g.R.Source.device c.next_outline.new.source) c.in_err-_next.field-0.0 d
     (c.in_err-_next.ensures.read start d.records d.answers d.read))
 
@@ -51,15 +52,17 @@ rows-preserved g c =
           let b = c.rows.invariant.begun in
           let d = b.drains in
           let one = rw c.in-Some.is at (c.in_ok-_next.ensures.read b.start d.records d.answers d.read) in
-          still_draining b one c.next_outline.ensures.settings step;
+          still_draining b (drains_row d one c.next_outline.ensures.settings step);
       open_still = c.rows.invariant.open_still;
+      any = c.rows.invariant.any;
     }
 
 pub returns-clause-drained : goal.returns-clause-drained
-returns-clause-drained g c = λ settings start done h.
-    let d = c.rows.invariant.draining settings start done h in
+returns-clause-drained g c = λ begun settings start done h.
+    let d = c.rows.invariant.draining settings start done (unseen h) in
     let all = rw c.in_default.is at (c.in_ok-_next.ensures.read start d.records d.answers d.read) in
     drains_to_end d c.rows.invariant.open_still all c.next_outline.ensures.settings
+    (c.rows.invariant.any begun)
 
 pub returns-clause-few : goal.returns-clause-few
 returns-clause-few g c = λ settings start done h.

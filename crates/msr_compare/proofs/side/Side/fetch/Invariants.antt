@@ -8,9 +8,9 @@ use Rattle.msr_compare.proofs.side.Side.fetch.Given as goal
 
 abbrev pub invariant-records : goal.invariant-records
 invariant-records g l = record {
-  taken : (settings : Settings) (start : Device) (done : List Symbol)
-      → HasTaken settings start (g.R.Source.device l.fn.source) l.fn.self done
-      → HasTaken settings start (g.R.Source.device l.source) l.self done;
+  taken : (begun : g.row.O.Denot) (settings : Settings) (start : Device) (done : List Symbol)
+      → HasTaken (g.O.Observer.has_seen begun l.fn.observer) settings start (g.R.Source.device l.fn.source) l.fn.self done
+      → HasTaken (g.O.Observer.has_seen begun l.observer) settings start (g.R.Source.device l.source) l.self done;
   weight_is : weight (g.R.Source.device l.source) l.self ≤ weight (g.R.Source.device l.fn.source) l.fn.self;
   steady : IsSteady (g.R.Source.device l.fn.source) (g.R.Source.device l.source);
   open_still : l.self.ended ≡ false;
