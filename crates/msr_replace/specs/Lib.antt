@@ -2,3 +2,4 @@ pub mod Moves
 pub mod Names
 pub mod Phases
 pub mod Promise
+pub mod Work

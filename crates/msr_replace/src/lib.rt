@@ -1,6 +1,8 @@
 //! Records of a day take the place of its file, which is set aside, and the way back. Nothing is lost at any moment.
 #![tactic(auto)]
 
+mod answers;
+mod day;
 mod exchange;
 mod moves;
 mod names;
@@ -8,7 +10,10 @@ mod preparing;
 mod restore;
 mod start;
 mod told;
+mod work;
 
+pub use answers::{DayAnswer, DayRefusal, DayRestored};
+pub use day::{replace_path, restore_path};
 pub use exchange::replace_day;
 pub use moves::Hindrance;
 pub use names::{DayNames, Place};
@@ -16,3 +21,4 @@ pub use preparing::Verified;
 pub use restore::restore_day;
 pub use start::{begins_again, begins_at_rest, goes_both_ways};
 pub use told::{Refusal, Told};
+pub use work::DayWork;
