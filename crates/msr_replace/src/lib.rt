@@ -4,6 +4,7 @@
 mod answers;
 mod day;
 mod exchange;
+mod folders;
 mod moves;
 mod names;
 mod preparing;
@@ -15,8 +16,9 @@ mod work;
 pub use answers::{DayAnswer, DayRefusal, DayRestored};
 pub use day::{replace_path, restore_path};
 pub use exchange::replace_day;
+pub use folders::{clear_parts, drop_folders, is_straight};
 pub use moves::Hindrance;
-pub use names::{DayNames, Place};
+pub use names::{DayNames, Place, other_days_are_apart};
 pub use preparing::Verified;
 pub use restore::restore_day;
 pub use start::{begins_again, begins_at_rest, goes_both_ways};
