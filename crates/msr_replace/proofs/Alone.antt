@@ -30,8 +30,12 @@ alone_then l name day p q r nd nn changes alone bytes is differ =
 failed_as : {A B : Type 0} (why : TreeFault) → IsErrOf (stopping B why) fault.Failed → IsErrOf (stopping A why) fault.Failed
 failed_as why is = let so : why ≡ fault.Failed = cc in ap (λ w. Err w) so
 
-none_is : {R : Type 0} → IsSome {T = R} None → ⊥
-none_is is = cc
+none_is : (R : Type 0) → IsSome {T = R} None → ⊥
+none_is R is = cc
+
+none_of : (looked : Option Facts) → is_some looked ≡ false → looked ≡ None
+none_of None is = refl
+none_of (Some facts) is = cc
 
 module _ (names : Names) (one other : Place) where
   abbrev K : (a b : List ℕ) → List Step → Type 0
@@ -131,7 +135,7 @@ module _ (names : Names) (one other : Place) where
               record {
                 keeps = then_keeps (KeepsAs day name {R = R}) Next x result next sooner.0 later.0 new
                     (subst (λ m. Acts m (KeepsAs day name {R = R}) (giving x) sooner.0 later.0) (sym same) sooner.2.acts) later.2;
-                alone = λ bytes is differ. absurd (none_is {R = R} (subst (λ o. IsSome o) none (sooner.2.taken bytes is differ).1));
+                alone = λ bytes is differ. absurd (none_is R (subst (λ o. IsSome o) none (sooner.2.taken bytes is differ).1));
               },
             );
       }
@@ -224,10 +228,6 @@ module _ {R : Type 0} (from to part : Path) where
           },
         );
   }
-
-  none_of : (looked : Option Facts) → is_some looked ≡ false → looked ≡ None
-  none_of None is = refl
-  none_of (Some facts) is = cc
 
   -- a look has told that none has it
   pub named_looked : (given : Path) (looked : Option Facts) (result : Result (Option R) TreeFault) (before mid after : List Step → Type 0) → given ≡ to → is_some looked ≡ false

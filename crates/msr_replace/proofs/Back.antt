@@ -103,6 +103,7 @@ module _ (names : Names) (are : AreNames names) where
       nothing : (a b : List ℕ) (t : List Step) (r : Result Told TreeFault) → IfOk r (λ told. (told ≢ Done) × (told ≢ Same)) → IfOk r (λ told. Says names Records a b t told)
       nothing a b t (Ok told) not = says_nothing names Records a b t told not.0 not.1
       nothing a b t (Err why) not = tt
+
       not_done : (b : List ℕ) (t : List Step) (r : Result Told TreeFault) → IfOk r (λ told. (told ≢ Done) × (told ≢ Same)) → IfOk r (λ told. HasItsPlace told → Leaves t names.day (Some b))
       not_done b t (Ok Done) not = absurd (not.0 refl)
       not_done b t (Ok Same) not = absurd (not.1 refl)

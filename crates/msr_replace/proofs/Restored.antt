@@ -37,6 +37,7 @@ module _ (names : Names) where
       in_place told.Same a b q says is = says.same refl
       in_place told.Changed a b q says is = cc
       in_place (told.Refused why) a b q says is = cc
+
       has_back : (x : Told) (b : List ℕ) (q : List Step) → (HasItsPlace x → Leaves q names.day (Some b)) → restored_of x ≡ restored.Restored → Leaves q names.day (Some b)
       has_back told.Done b q so is = so tt
       has_back told.Same b q so is = so tt
@@ -55,11 +56,17 @@ module _ (names : Names) where
 
   -- memory is refused before anything is done
   pub restored_none : (one : List Step → Type 0) → Goes one one (RestoresDay names (stopping DayRestored fault.Memory))
-  restored_none one = record { from = λ new went. (new, went, record {
-    changes = changes_none (all names) new;
-    cause = λ is. cc;
-    safe = λ a b kept. quiet_moments names Records Original [] a b new new tt tt tt kept.keeps (changes_none [] new);
-    alone = alone_moments [] names.records names.day new new tt (changes_none [] new);
-    answers = λ a b kept. tt;
-    gives_back = λ b none waits. (waits_moments names Original [] b new new tt waits (changes_none [] new), tt);
-  }) }
+  restored_none one = record {
+    from = λ new went. (
+      new,
+      went,
+      record {
+        changes = changes_none (all names) new;
+        cause = λ is. cc;
+        safe = λ a b kept. quiet_moments names Records Original [] a b new new tt tt tt kept.keeps (changes_none [] new);
+        alone = alone_moments [] names.records names.day new new tt (changes_none [] new);
+        answers = λ a b kept. tt;
+        gives_back = λ b none waits. (waits_moments names Original [] b new new tt waits (changes_none [] new), tt);
+      },
+    );
+  }

@@ -16,7 +16,7 @@ mod work;
 pub use answers::{DayAnswer, DayRefusal, DayRestored};
 pub use day::{replace_path, restore_path};
 pub use exchange::replace_day;
-pub use folders::{clear_parts, drop_folders, is_straight};
+pub use folders::clear_parts;
 pub use moves::Hindrance;
 pub use names::{DayNames, Place, other_days_are_apart};
 pub use preparing::Verified;

@@ -25,7 +25,8 @@ impl Refusal {
         ensures { result ≡ refusal_of self }
     {
         match self {
-            Refusal::Day(Hindrance::Dress) | Refusal::Records(Hindrance::Dress) => DayRefusal::Dress,
+            Refusal::Day(Hindrance::Dress) | Refusal::Records(Hindrance::Dress) =>
+                DayRefusal::Dress,
             Refusal::Day(Hindrance::Link | Hindrance::Taken) => DayRefusal::Link,
             Refusal::Aside(Hindrance::Link) => DayRefusal::AsideLink,
             Refusal::Aside(Hindrance::Taken) => DayRefusal::AsideTaken,

@@ -11,14 +11,14 @@ returns-in_err-remove g c =
     let p = err_from_is_err_and c.from_residual.result c.from_residual.ensures.1 in
     let names = c.args.names.now in
     let l = names.note ∷ names.note_part ∷ [] in
-    let same : Removed c.at-then-not-verified.result.now ≡ Removed names.note = rw c.at-then-not-verified.ensures refl in
+    let same : Removed c.at.result.now ≡ Removed names.note = rw c.at.ensures refl in
     rw (p.1, p.2) (stopped_as {A = Unit {0}} {B = Option Time} l _ (Anything {T = Option Time}) _ _ _ (goes_step {T = Unit {0}} l _ (Removed names.note) _ _ _ same (λ n none. none.0) c.in_err-remove.ensures))
 
 pub returns-then-not-verified : goal.returns-then-not-verified
 returns-then-not-verified g c =
     let names = c.args.names.now in
     let l = names.note ∷ names.note_part ∷ [] in
-    let same : Removed c.at-then-not-verified.result.now ≡ Removed names.note = rw c.at-then-not-verified.ensures refl in
+    let same : Removed c.at.result.now ≡ Removed names.note = rw c.at.ensures refl in
     told_as {A = Unit {0}} {B = Option Time} l l _ (Anything {T = Option Time}) (giving tt) (giving _) _ _ (λ is. cc) (λ n none. none) (λ p q did changes. tt)
     (goes_step {T = Unit {0}} l _ (Removed names.note) _ _ _ same (λ n none. none.0) c.in_ok-remove.ensures)
 
