@@ -1,8 +1,8 @@
 -- How another file that has a name is left alone.
-use Rattle.std.proofs.Common.{◌≡◌, ◌≢◌, ℕ, List, [], ◌∷◌, Option, None, Some, IsSome, IsSomeAnd, Bool, true, false, is_some, Result, Ok, Err, IfOk, IsErrOf, option_map, refl, sym, ◌∙◌, ap, subst, arith}
+use Rattle.std.proofs.Common.{◌≡◌, ◌≢◌, ℕ, List, [], ◌∷◌, Option, None, Some, IsSome, false, is_some, Result, Ok, Err, IfOk, IsErrOf, option_map, refl, sym, ◌∙◌, ap, subst, arith}
 use Rattle.msr_tree.specs.Acts.{Acts}
 use Rattle.msr_tree.specs.Calls.{Goes, Looks, Tells}
-use Rattle.msr_tree.specs.Steps.{AtEachMoment, ChangesOnly, IsNoneOf, Leaves, Path, Step, now, seen}
+use Rattle.msr_tree.specs.Steps.{AtEachMoment, ChangesOnly, IsNoneOf, Path, Step, seen}
 use Rattle.msr_tree.specs.declared.facts.Facts.{Facts}
 use Rattle.msr_tree.specs.declared.tree.TreeFault.{TreeFault}
 use Rattle.msr_tree.specs.declared.tree.TreeFault.TheVariants as fault

@@ -1,5 +1,5 @@
 -- How a file that only waits under its own name gets the day's.
-use Rattle.std.proofs.Common.{◌≡◌, ◌≢◌, inl, inr, ⊎_elim, ℕ, List, [], ◌∷◌, length, Option, None, Some, IsSomeAnd, Result, Ok, Err, IfOk, IsErrOf, option_map, refl, sym, ◌∙◌, ap, subst, arith}
+use Rattle.std.proofs.Common.{◌≡◌, ◌≢◌, inl, inr, ⊎_elim, ℕ, List, [], ◌∷◌, length, Option, None, Some, IsSomeAnd, Result, Ok, Err, IfOk, IsErrOf, option_map, refl, ap, subst, arith}
 use Rattle.msr_tree.specs.Acts.{Acts}
 use Rattle.msr_tree.specs.Calls.{Goes, Looks, Tells}
 use Rattle.msr_tree.specs.Steps.{AtEachMoment, ChangesOnly, File, IsNoneOf, Leaves, Path, Step, now, seen}
@@ -12,8 +12,8 @@ use Rattle.msr_tree.proofs.Changes.{changes_more, changes_then, each_by_changes,
 use Rattle.msr_tree.proofs.Crash.{leaves_seen}
 use Rattle.msr_tree.proofs.Moments.{joined}
 use Rattle.msr_replace.specs.Names.{AreNames, Names, all, path_at}
-use Rattle.msr_replace.specs.Phases.{HasReturned, Waits}
-use Rattle.msr_replace.specs.Promise.{AreKept, GivesBack, HasItsPlace, IsUnderEither, Keeps, KeepsAll, PutsBack, Restores, Says}
+use Rattle.msr_replace.specs.Phases.{Waits}
+use Rattle.msr_replace.specs.Promise.{AreKept, HasItsPlace, IsUnderEither, KeepsAll, PutsBack, Restores, Says}
 use Rattle.msr_replace.specs.declared.names.Place.{Place}
 use Rattle.msr_replace.specs.declared.names.Place.TheVariants.{Day, DayPart, Note, Original, Records}
 use Rattle.msr_replace.specs.declared.told.Told.{Told}

@@ -1,5 +1,5 @@
 -- The names of a day are apart, and those of two days.
-use Rattle.std.proofs.Common.{◌≡◌, ◌≢◌, ◌<◌, ◌≤◌, ℕ, zero, suc, ◌+◌, ◌-◌, ◌==◌, if◌then◌else◌, Bool, true, false, List, [], ◌∷◌, ◌++◌, All, IsTrue, length, get_or, refl, sym, ap, subst, ◌∙◌, append_assoc, add-one, length-append, arith, codes}
+use Rattle.std.proofs.Common.{◌≡◌, ◌≢◌, ◌<◌, ℕ, zero, suc, ◌+◌, ◌-◌, ◌==◌, if◌then◌else◌, Bool, true, false, List, [], ◌∷◌, ◌++◌, length, get_or, refl, sym, ap, subst, ◌∙◌, append_assoc, length-append, arith, codes}
 use Rattle.std.specs.Str.{bytes_eq}
 use Rattle.std.proofs.lemmas.Bool.{cases_Bool}
 use Rattle.std.proofs.Common.{inl, inr}
@@ -11,9 +11,9 @@ use Rattle.std.proofs.Math.Seq.{get_or-append_seam, take-append_seam}
 use Rattle.msr_sds.specs.Separators.{Lacks, dot, slash}
 use Rattle.msr_sds.specs.SdsPath.{AreDigits, HasForm, IsDataType, IsLocation, ReadsAsDay, SdsPath, file_name, in_folders, path_of}
 use Rattle.msr_sds.proofs.CutLemmas.{from_channel, from_data_type, from_location, from_station, from_year}
-use Rattle.msr_tree.specs.Steps.{IsNoneOf, Path, folder_above, stands_in}
+use Rattle.msr_tree.specs.Steps.{folder_above, stands_in}
 use Rattle.msr_tree.proofs.FolderLemmas.{folder_at as folder_at_slash}
-use Rattle.msr_replace.specs.Names.{AreNames, Names, OtherDaysAreApart, all, below, folder_at, is_place, is_whole, names_of, path_at}
+use Rattle.msr_replace.specs.Names.{AreNames, Names, OtherDaysAreApart, folder_at, is_place, is_lasting, names_of_day, path_at}
 use Rattle.msr_replace.specs.declared.names.Place.{Place}
 use Rattle.msr_replace.specs.declared.names.Place.TheVariants.{Day, DayPart, Original, OriginalPart, Records, RecordsPart, Note, NotePart}
 
@@ -121,7 +121,7 @@ placed top folder tail = sym (append_assoc top (slash ∷ folder) (slash ∷ tai
 
 module _ (root out aside folder file path : List ℕ) (is_in : IsIn folder file path) where
   abbrev N : Names
-  N = names_of root out aside path
+  N = names_of_day root out aside path
 
   cut_path : path ≡ folder_above path ++ slash ∷ file
   cut_path = is_in.is ∙ ap (λ f. f ++ slash ∷ file) (sym (ap folder_above is_in.is ∙ folder_of folder file is_in.name.lacks))
@@ -256,7 +256,7 @@ day_is_in path p day = record {
 }
 
 -- what a day is called when its folders stand apart
-pub are_names_of : (root out aside path : List ℕ) (p : SdsPath) → ReadsAsDay path p → root ≢ out → root ≢ aside → out ≢ aside → AreNames (names_of root out aside path)
+pub are_names_of : (root out aside path : List ℕ) (p : SdsPath) → ReadsAsDay path p → root ≢ out → root ≢ aside → out ≢ aside → AreNames (names_of_day root out aside path)
 are_names_of root out aside path p day out_is aside_is others_are =
     are_names root out aside (folder_text p) (file_name p) path (day_is_in path p day) out_is aside_is others_are
 
@@ -321,7 +321,7 @@ no_note p q hp hq e =
 
 -- Two days.
 module _ (path other : List ℕ) (p q : SdsPath) (day : ReadsAsDay path p) (another : ReadsAsDay other q) (apart : path ≢ other) where
-  tails : (place one : Place) → is_whole place ≡ true → tail_at (file_name q) place ≢ tail_at (file_name p) one
+  tails : (place one : Place) → is_lasting place ≡ true → tail_at (file_name q) place ≢ tail_at (file_name p) one
   tails Day Day whole e = apart (sym (one_path_of_name other path q p another day e))
   tails Day DayPart whole e = name_starts q another.reads.form (ap (λ t. get_or t 0 46) e)
   tails Day Original whole e = apart (sym (one_path_of_name other path q p another day e))
@@ -359,13 +359,13 @@ module _ (path other : List ℕ) (p q : SdsPath) (day : ReadsAsDay path p) (anot
   tails Note NotePart whole e = noted_starts (file_name q) (name_starts q another.reads.form) (ap (λ t. get_or t 0 46) e)
   tails NotePart one whole e = cc
 
-  others : (root out aside : List ℕ) (place one : Place) → is_whole place ≡ true
-      → bytes_eq (path_at (names_of root out aside other) place) (path_at (names_of root out aside path) one) ≡ false
+  others : (root out aside : List ℕ) (place one : Place) → is_lasting place ≡ true
+      → bytes_eq (path_at (names_of_day root out aside other) place) (path_at (names_of_day root out aside path) one) ≡ false
   others root out aside place one whole =
       let theirs = day_is_in other q another in
       let ours = day_is_in path p day in
-      let A = names_of root out aside other in
-      let B = names_of root out aside path in
+      let A = names_of_day root out aside other in
+      let B = names_of_day root out aside path in
       unlike (path_at A place) (path_at B one) (λ e. tails place one whole
       (last_cut (folder_at A place) (folder_at B one) (tail_at (file_name q) place) (tail_at (file_name p) one)
       (tail_lacks (file_name q) theirs.name place) (tail_lacks (file_name p) ours.name one)

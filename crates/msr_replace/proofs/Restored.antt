@@ -1,5 +1,5 @@
 -- What is told of a day whose original was to get its place again.
-use Rattle.std.proofs.Common.{◌≡◌, ℕ, List, [], None, Some, Result, Ok, Err, refl, ap}
+use Rattle.std.proofs.Common.{◌≡◌, ℕ, List, [], Some, Err, refl, ap}
 use Rattle.msr_tree.specs.Calls.{Goes}
 use Rattle.msr_tree.specs.Steps.{Leaves, Step}
 use Rattle.msr_tree.specs.declared.tree.TreeFault.{TreeFault}

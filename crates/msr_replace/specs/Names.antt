@@ -20,34 +20,34 @@ pub record Names : Type 0 where
   pub aside : Path
   pub out : Path
 
-abbrev pub below : (folder : Path) (path : List ℕ) → Path
-below folder path = folder ++ (codes "/" ++ path)
+abbrev pub path_below : (folder : Path) (path : List ℕ) → Path
+path_below folder path = folder ++ (codes "/" ++ path)
 
 -- another name in the folder of a path
 abbrev pub beside : (path name : List ℕ) → List ℕ
-beside path name = below (folder_above path) name
+beside path name = path_below (folder_above path) name
 
 -- the names of the day with this path from ROOT
-abbrev pub names_of : (root out aside : Path) (path : List ℕ) → Names
-names_of root out aside path = record {
-  day = below root path;
-  day_part = below root (beside path (codes ".msrepack-replace.day"));
-  original = below aside path;
-  original_part = below aside (beside path (codes ".msrepack-replace.original"));
-  records = below out path;
-  records_part = below out (beside path (codes ".msrepack-replace.records"));
-  note = below aside (path ++ codes ".touch-time");
-  note_part = below aside (beside path (codes ".msrepack-replace.note"));
-  root = below root (folder_above path);
-  aside = below aside (folder_above path);
-  out = below out (folder_above path);
+abbrev pub names_of_day : (root out aside : Path) (path : List ℕ) → Names
+names_of_day root out aside path = record {
+  day = path_below root path;
+  day_part = path_below root (beside path (codes ".msrepack-replace.day"));
+  original = path_below aside path;
+  original_part = path_below aside (beside path (codes ".msrepack-replace.original"));
+  records = path_below out path;
+  records_part = path_below out (beside path (codes ".msrepack-replace.records"));
+  note = path_below aside (path ++ codes ".touch-time");
+  note_part = path_below aside (beside path (codes ".msrepack-replace.note"));
+  root = path_below root (folder_above path);
+  aside = path_below aside (folder_above path);
+  out = path_below out (folder_above path);
 }
 
 -- What a day has below one of the three folders.
 pub record IsSide (top path name : List ℕ) (side : Side) : Type 0 where
-  pub folder : string_bytes side.folder ≡ below top (folder_above path)
-  pub file : string_bytes side.file ≡ below top path
-  pub part : string_bytes side.part ≡ below top (beside path name)
+  pub folder : string_bytes side.folder ≡ path_below top (folder_above path)
+  pub file : string_bytes side.file ≡ path_below top path
+  pub part : string_bytes side.part ≡ path_below top (beside path name)
 
 abbrev pub path_at : Names → Place → Path
 path_at names Day = names.day
@@ -88,12 +88,12 @@ pub record AreNames (names : Names) : Type 0 where
   pub inside : (place : Place) → stands_in (folder_at names place) (path_at names place) ≡ true
 
 -- the names of a day, without those of what is in its making
-abbrev pub is_whole : Place → Bool
-is_whole DayPart = false
-is_whole OriginalPart = false
-is_whole RecordsPart = false
-is_whole NotePart = false
-is_whole place = true
+abbrev pub is_lasting : Place → Bool
+is_lasting DayPart = false
+is_lasting OriginalPart = false
+is_lasting RecordsPart = false
+is_lasting NotePart = false
+is_lasting place = true
 
 -- the names of a day
 abbrev pub all : Names → List Path
@@ -104,5 +104,5 @@ abbrev pub OtherDaysAreApart : Type 0
 OtherDaysAreApart =
     (root out aside : Path) (path other : List ℕ) (day another : SdsPath) → ReadsAsDay path day → ReadsAsDay other another
     → path ≢ other
-    → (place : Place) → is_whole place ≡ true
-    → IsNoneOf (path_at (names_of root out aside other) place) (all (names_of root out aside path))
+    → (place : Place) → is_lasting place ≡ true
+    → IsNoneOf (path_at (names_of_day root out aside other) place) (all (names_of_day root out aside path))

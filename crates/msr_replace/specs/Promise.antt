@@ -57,8 +57,8 @@ HasItsPlace (Refused why) = ⊥
 
 -- A file that only waits under its own name, since no file has the day's, is left by each crash under one of the two; and
 -- if all is done, under the day's.
-abbrev pub GivesBack : (names : Names) (other : Place) (result : Result Told TreeFault) (old new : List Step) → Type 0
-GivesBack names other result old new = (b : List ℕ) → now old (path_at names Day) ≡ None → Leaves old (path_at names other) (Some b)
+abbrev pub KeepsWaiting : (names : Names) (other : Place) (result : Result Told TreeFault) (old new : List Step) → Type 0
+KeepsWaiting names other result old new = (b : List ℕ) → now old (path_at names Day) ≡ None → Leaves old (path_at names other) (Some b)
     → AtEachMoment (IsUnderEither (path_at names Day) (path_at names other) b) old new
     × IfOk result (λ told. HasItsPlace told → Leaves new (path_at names Day) (Some b))
 
@@ -72,7 +72,7 @@ pub record PutsBack (names : Names) (other : Place) (Before : (b : List ℕ) →
 -- The same, of a day whose original gets its place again, also if no file has it.
 pub record Restores (names : Names) (one other : Place) (Before : (a b : List ℕ) → List Step → Type 0) (result : Result Told TreeFault) (old new : List Step) : Type 0 where
   pub all_kept : KeepsAll names one other Before result old new
-  pub gives_back : GivesBack names other result old new
+  pub gives_back : KeepsWaiting names other result old new
 
 -- both are kept, and what has the other name is the other file
 pub record AreKept (names : Names) (one other : Place) (a b : List ℕ) (past : List Step) : Type 0 where

@@ -3,7 +3,7 @@ ghost use Rattle.std.specs.Prelude.{◌≡◌};
 ghost use Rattle.msr_sds.specs.SdsPath.{ReadsAsDay, SdsPath};
 ghost use Rattle.msr_tree.specs.Calls.{Goes};
 ghost use Rattle.msr_replace.specs.Restored.{RestoresDay, restored_of};
-ghost use Rattle.msr_replace.specs.Work.{StandApart, names_in};
+ghost use Rattle.msr_replace.specs.Work.{AreThreeFolders, names_in};
 
 use crate::answers::{DayAnswer, DayRestored};
 use crate::names::DayNames;
@@ -18,7 +18,7 @@ pub fn replace_path<T: Tree>(
     work: &DayWork<'_>,
     path: &str,
 ) -> Result<DayAnswer, TreeFault>
-    requires apart { StandApart work.now }
+    requires apart { AreThreeFolders work.now }
     requires day { (day : SdsPath) × ReadsAsDay path.now day }
 {
     let _names = DayNames::new(work, path)?;
@@ -41,7 +41,7 @@ pub fn restore_path<T: Tree>(
     work: &DayWork<'_>,
     path: &str,
 ) -> Result<DayRestored, TreeFault>
-    requires apart { StandApart work.now }
+    requires apart { AreThreeFolders work.now }
     requires day { (day : SdsPath) × ReadsAsDay path.now day }
     ensures { Goes (T.went tree.old) (T.went tree.new) (RestoresDay (names_in work.now path.now) result) }
 {

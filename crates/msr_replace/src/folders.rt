@@ -3,7 +3,7 @@ ghost use Rattle.std.specs.Prelude.{[], ◌∷◌};
 ghost use Rattle.msr_tree.specs.Acts.{Acts};
 ghost use Rattle.msr_tree.specs.Calls.{Goes};
 ghost use Rattle.msr_replace.specs.Moves.{Anything};
-ghost use Rattle.msr_replace.specs.Names.{below};
+ghost use Rattle.msr_replace.specs.Names.{path_below};
 ghost use Rattle.msr_replace.specs.Work.{parts_in};
 
 use crate::work::DayWork;
@@ -18,7 +18,7 @@ fn clear_part<T: Tree>(
     name: &str,
 ) -> Result<(), TreeFault>
     ensures { Goes (T.went tree.old) (T.went tree.new)
-        (Acts (below top.now (below folder.now name.now) ∷ []) Anything result) }
+        (Acts (path_below top.now (path_below folder.now name.now) ∷ []) Anything result) }
 {
     let path = format!(in alloc; "{top}/{folder}/{name}")?;
     tree.remove(path.as_str())

@@ -2,7 +2,7 @@
 ghost use Rattle.std.specs.Prelude.{◌≡◌, IfOk, string_bytes};
 ghost use Rattle.msr_sds.specs.SdsPath.{ReadsAsDay, SdsPath};
 ghost use Rattle.msr_replace.specs.Names.{AreNames, IsSide, OtherDaysAreApart, folder_at, path_at};
-ghost use Rattle.msr_replace.specs.Work.{StandApart, names_in};
+ghost use Rattle.msr_replace.specs.Work.{AreThreeFolders, names_in};
 
 use crate::work::DayWork;
 use msr_tree::folder_above;
@@ -87,7 +87,7 @@ impl Model for DayNames {
 impl DayNames {
     /// The names of the day with this path from ROOT.
     pub fn new(work: &DayWork<'_>, path: &str) -> Result<DayNames, AllocError>
-        requires apart { StandApart work.now }
+        requires apart { AreThreeFolders work.now }
         requires day { (day : SdsPath) × ReadsAsDay path.now day }
         ensures names { IfOk result (λ names. names ≡ names_in work.now path.now) }
         ensures are { IfOk result AreNames }

@@ -1,9 +1,6 @@
-use Rattle.std.proofs.Common.{[], ◌∷◌, codes}
 use Rattle.std.proofs.lemmas.Result.{err_from_is_err_and}
-use Rattle.msr_tree.specs.Steps.{Path}
 use Rattle.msr_tree.proofs.Acting.{goes_more, stopped_as, then_given, then_ok, then_stopped}
 use Rattle.msr_replace.specs.Moves.{Anything}
-use Rattle.msr_replace.specs.Names.{below}
 use Rattle.msr_replace.specs.Work.{parts_in}
 use Rattle.msr_replace.proofs.folders.clear_parts.Goals as goal
 

@@ -1,4 +1,4 @@
-use Rattle.std.proofs.Common.{[], Bool, Some, ◌∷◌, ◌∙◌}
+use Rattle.std.proofs.Common.{[], Bool, ◌∷◌, ◌∙◌}
 use Rattle.std.proofs.lemmas.Result.{err_from_is_err_and}
 use Rattle.msr_tree.proofs.Acting.{goes_copied, goes_within, stopped_as, then_given}
 use Rattle.msr_tree.proofs.Changes.{seen_kept}

@@ -1,4 +1,4 @@
-use Rattle.std.proofs.Common.{[], Bool, Option, Some, true, ◌≡◌, ◌∷◌, ◌∙◌, refl, sym, subst}
+use Rattle.std.proofs.Common.{[], Bool, Option, ◌≡◌, ◌∷◌, ◌∙◌, refl, sym, subst}
 use Rattle.std.proofs.lemmas.Result.{err_from_is_err_and}
 use Rattle.msr_tree.specs.Steps.{FileStored, IsReady}
 use Rattle.msr_tree.specs.declared.facts.Time.{Time}

@@ -1,6 +1,5 @@
 use Rattle.std.proofs.Common.{[], Bool, Option, ◌∷◌}
-use Rattle.std.proofs.lemmas.Result.{err_from_is_err_and}
-use Rattle.msr_tree.proofs.Acting.{giving, goes_more, stopped_as, then_given, told_as}
+use Rattle.msr_tree.proofs.Acting.{goes_more, then_given}
 use Rattle.msr_replace.specs.Moves.{PreparesIfNone, ShowsIf}
 use Rattle.msr_replace.specs.declared.told.GivenUp.{GivenUp}
 use Rattle.msr_replace.proofs.preparing.prepare_records.Goals as goal

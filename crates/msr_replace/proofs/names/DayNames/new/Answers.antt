@@ -1,5 +1,5 @@
-use Rattle.std.proofs.Common.{◌≡◌, refl, sym, subst}
-use Rattle.msr_replace.specs.Names.{AreNames, names_of}
+use Rattle.std.proofs.Common.{refl, sym, subst}
+use Rattle.msr_replace.specs.Names.{AreNames}
 use Rattle.msr_replace.proofs.NameLemmas.{are_names_of}
 use Rattle.msr_replace.proofs.names.DayNames.new.Goals as goal
 
