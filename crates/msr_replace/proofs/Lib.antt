@@ -1,2 +1,7 @@
+pub mod Alone
+pub mod Back
+pub mod Making
 pub mod Moved
+pub mod NameLemmas
 pub mod Phases
+pub mod Restored

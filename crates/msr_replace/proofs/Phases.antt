@@ -10,9 +10,9 @@ use Rattle.msr_tree.proofs.Changes.{changes_more, changes_then, each_by_changes,
 use Rattle.msr_tree.proofs.Crash.{leaves_seen}
 use Rattle.msr_tree.proofs.Moments.{at_end, joined}
 use Rattle.msr_replace.specs.Moves.{LeavesEither, Takes}
-use Rattle.msr_replace.specs.Names.{Names, path_at}
+use Rattle.msr_replace.specs.Names.{Names, all, path_at}
 use Rattle.msr_replace.specs.Phases.{AreHome, HaveOneContent, AreSeenApart, HavePlaces, IsInPlace, IsPrepared, MayGoBack}
-use Rattle.msr_replace.specs.Promise.{AreKept, Keeps, KeepsBoth, Says, all}
+use Rattle.msr_replace.specs.Promise.{AreKept, Keeps, KeepsBoth, Says}
 use Rattle.msr_replace.specs.declared.names.Place.{Place}
 use Rattle.msr_replace.specs.declared.names.Place.TheVariants.{Day, DayPart}
 use Rattle.msr_replace.specs.declared.told.Told.{Told}

@@ -2,3 +2,5 @@ pub mod Moves
 pub mod Names
 pub mod Phases
 pub mod Promise
+pub mod Restored
+pub mod Work

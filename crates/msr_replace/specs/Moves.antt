@@ -1,7 +1,7 @@
 -- What is done with the names of a day.
-use Rattle.std.specs.Prelude.{◌≡◌, ◌⊎◌, ℕ, Bool, true, List, [], ◌∷◌, Option, None, Some, Result}
+use Rattle.std.specs.Prelude.{◌≡◌, ◌≢◌, ◌⊎◌, ℕ, Bool, true, List, [], ◌∷◌, Option, None, Some, Result, IfOk, IsSome}
 use Rattle.msr_tree.specs.Acts.{Acts}
-use Rattle.msr_tree.specs.Steps.{AtEachMoment, IsReady, Leaves, MayLeave, Path, Step, seen}
+use Rattle.msr_tree.specs.Steps.{AtEachMoment, ChangesOnly, IsReady, Leaves, MayLeave, Path, Step, seen}
 use Rattle.msr_tree.specs.declared.tree.TreeFault.{TreeFault}
 
 -- the bytes that are seen under a name are left by each crash
@@ -15,6 +15,10 @@ Prepares from to old new answer = (bytes : List ℕ) → seen old from ≡ Some 
 abbrev pub PreparesIf : (from to : Path) → (old new : List Step) → Bool → Type 0
 PreparesIf from to old new answer = answer ≡ true → (bytes : List ℕ) → seen old from ≡ Some bytes → IsReady to bytes new
 
+-- if this is the answer, what is seen under one name is seen under another
+abbrev pub ShowsIf : (from to : Path) → (old new : List Step) → Bool → Type 0
+ShowsIf from to old new answer = answer ≡ true → (bytes : List ℕ) → seen old from ≡ Some bytes → seen new to ≡ Some bytes
+
 abbrev pub PreparesIfNone : (from to : Path) → {R : Type 0} → (old new : List Step) → Option R → Type 0
 PreparesIfNone from to old new answer = answer ≡ None → (bytes : List ℕ) → seen old from ≡ Some bytes → IsReady to bytes new
 
@@ -25,6 +29,18 @@ GivesName from to old new answer = answer ≡ true → (bytes : List ℕ) → Is
 -- if nothing is told that speaks against it, the bytes that are seen under one name are left by each crash under another
 abbrev pub KeepsAs : (from to : Path) → {R : Type 0} → (old new : List Step) → Option R → Type 0
 KeepsAs from to old new answer = answer ≡ None → (bytes : List ℕ) → seen old from ≡ Some bytes → Leaves new to (Some bytes)
+
+-- and both names lead to them already
+abbrev pub IsKeptAs : (from to : Path) → {R : Type 0} → (old new : List Step) → Option R → Type 0
+IsKeptAs from to old new answer = answer ≡ None
+    → (seen old from ≡ seen old to) × ((bytes : List ℕ) → seen old from ≡ Some bytes → Leaves new to (Some bytes))
+
+-- What is seen under one name gets another, on the disk, by way of that of its part. If another file has that name, it is
+-- told, and nothing changes.
+pub record KeepsName {R : Type 0} (from to part : Path) (result : Result (Option R) TreeFault) (old new : List Step) : Type 0 where
+  pub acts : Acts (to ∷ part ∷ []) (KeepsAs from to) result old new
+  pub taken : (bytes : List ℕ) → seen old to ≡ Some bytes → seen old from ≢ Some bytes
+      → ChangesOnly [] old new × IfOk result IsSome
 
 abbrev pub NamesIfNone : (from to : Path) → {R : Type 0} → (old new : List Step) → Option R → Type 0
 NamesIfNone from to old new answer = answer ≡ None → (bytes : List ℕ) → IsReady from bytes old → Leaves new to (Some bytes)

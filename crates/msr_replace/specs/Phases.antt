@@ -47,3 +47,16 @@ pub record HavePlaces (names : Names) (one other : Place) (a b : List ℕ) (past
 pub record MayGoBack (names : Names) (one other : Place) (a b : List ℕ) (past : List Step) : Type 0 where
   pub places : HavePlaces names one other a b past
   pub ready : IsReady (path_at names DayPart) a past
+
+-- a file waits under its own name
+pub record Waits (names : Names) (other : Place) (b : List ℕ) (past : List Step) : Type 0 where
+  pub waits : Leaves past (path_at names other) (Some b)
+
+-- and is ready beside the name in ROOT
+pub record IsReadyToReturn (names : Names) (other : Place) (b : List ℕ) (past : List Step) : Type 0 where
+  pub waits : Leaves past (path_at names other) (Some b)
+  pub ready : IsReady (path_at names DayPart) b past
+
+-- it has that name
+pub record HasReturned (names : Names) (b : List ℕ) (past : List Step) : Type 0 where
+  pub day : Leaves past (path_at names Day) (Some b)

@@ -1,13 +1,13 @@
 -- What is promised of a day whose two files change places.
-use Rattle.std.specs.Prelude.{◌<◌, ◌≡◌, ◌⊎◌, ℕ, List, [], ◌∷◌, Option, Some, Result, IfOk, IfSome, IsErrOf}
-use Rattle.msr_tree.specs.Steps.{AtEachMoment, ChangesOnly, Leaves, MayLeave, Path, Step, failures, seen}
+use Rattle.std.specs.Prelude.{◌<◌, ◌≡◌, ◌≢◌, ◌⊎◌, ℕ, List, [], ◌∷◌, Option, None, Some, Result, IfOk, IfSome, IsErrOf}
+use Rattle.msr_tree.specs.Steps.{AtEachMoment, ChangesOnly, Leaves, MayLeave, Path, Step, failures, now, seen}
 use Rattle.msr_tree.specs.declared.tree.TreeFault.{TreeFault}
 use Rattle.msr_tree.specs.declared.tree.TreeFault.TheVariants.{Failed}
-use Rattle.msr_replace.specs.Names.{Names, path_at}
+use Rattle.msr_replace.specs.Names.{Names, all, path_at}
 use Rattle.msr_replace.specs.declared.names.Place.{Place}
-use Rattle.msr_replace.specs.declared.names.Place.TheVariants.{Day}
+use Rattle.msr_replace.specs.declared.names.Place.TheVariants.{Day, DayPart, Note}
 use Rattle.msr_replace.specs.declared.told.Told.{Told}
-use Rattle.msr_replace.specs.declared.told.Told.TheVariants.{Done, Same}
+use Rattle.msr_replace.specs.declared.told.Told.TheVariants.{Changed, Done, Refused, Same}
 
 -- each crash leaves these bytes under one name or under the other
 abbrev pub IsUnderEither : (one other : Path) → (bytes : List ℕ) → List Step → Type 0
@@ -30,10 +30,6 @@ pub record Says (names : Names) (one : Place) (a b : List ℕ) (new : List Step)
   pub done : told ≡ Done → HaveChanged names one a b new
   pub same : told ≡ Same → Leaves new (path_at names Day) (Some b)
 
--- the names of the day
-abbrev pub all : Names → List Path
-all names = names.day ∷ names.day_part ∷ names.original ∷ names.original_part ∷ names.records ∷ names.records_part ∷ names.note ∷ names.note_part ∷ []
-
 -- Where both files are kept, and this holds of their contents, both are kept at each moment since; no other names change;
 -- and the answer is so.
 pub record Keeps (names : Names) (one other : Place) (Before : (a b : List ℕ) → List Step → Type 0) (result : Result Told TreeFault) (old new : List Step) : Type 0 where
@@ -41,6 +37,42 @@ pub record Keeps (names : Names) (one other : Place) (Before : (a b : List ℕ) 
   pub cause : IsErrOf result Failed → failures old < failures new
   pub safe : (a b : List ℕ) → Before a b old → AtEachMoment (KeepsBoth names one a other b) old new
   pub answers : (a b : List ℕ) → Before a b old → IfOk result (λ told. Says names one a b new told)
+
+-- what has a name, and is another file than the day's, has it at each moment since
+abbrev pub LeavesAlone : (name day : Path) → (old new : List Step) → Type 0
+LeavesAlone name day old new = (bytes : List ℕ) → seen old name ≡ Some bytes → seen old day ≢ Some bytes
+    → AtEachMoment (λ past. seen past name ≡ Some bytes) old new
+
+-- Both files are kept, and another one that has the name of the first is left alone.
+pub record KeepsAll (names : Names) (one other : Place) (Before : (a b : List ℕ) → List Step → Type 0) (result : Result Told TreeFault) (old new : List Step) : Type 0 where
+  pub keeps : Keeps names one other Before result old new
+  pub alone : LeavesAlone (path_at names one) (path_at names Day) old new
+
+-- the other file has the day's name
+abbrev pub HasItsPlace : Told → Type 0
+HasItsPlace Done = Unit {0}
+HasItsPlace Same = Unit {0}
+HasItsPlace Changed = ⊥
+HasItsPlace (Refused why) = ⊥
+
+-- A file that only waits under its own name, since no file has the day's, is left by each crash under one of the two; and
+-- if all is done, under the day's.
+abbrev pub KeepsWaiting : (names : Names) (other : Place) (result : Result Told TreeFault) (old new : List Step) → Type 0
+KeepsWaiting names other result old new = (b : List ℕ) → now old (path_at names Day) ≡ None → Leaves old (path_at names other) (Some b)
+    → AtEachMoment (IsUnderEither (path_at names Day) (path_at names other) b) old new
+    × IfOk result (λ told. HasItsPlace told → Leaves new (path_at names Day) (Some b))
+
+-- What is done with a file that only waits under its own name: where this holds of it, it is left so at each moment.
+pub record PutsBack (names : Names) (other : Place) (Before : (b : List ℕ) → List Step → Type 0) (result : Result Told TreeFault) (old new : List Step) : Type 0 where
+  pub changes : ChangesOnly (path_at names Day ∷ path_at names DayPart ∷ path_at names Note ∷ path_at names other ∷ []) old new
+  pub cause : IsErrOf result Failed → failures old < failures new
+  pub moments : (b : List ℕ) → Before b old → AtEachMoment (IsUnderEither (path_at names Day) (path_at names other) b) old new
+  pub done : (b : List ℕ) → Before b old → IfOk result (λ told. HasItsPlace told → Leaves new (path_at names Day) (Some b))
+
+-- The same, of a day whose original gets its place again, also if no file has it.
+pub record Restores (names : Names) (one other : Place) (Before : (a b : List ℕ) → List Step → Type 0) (result : Result Told TreeFault) (old new : List Step) : Type 0 where
+  pub all_kept : KeepsAll names one other Before result old new
+  pub gives_back : KeepsWaiting names other result old new
 
 -- both are kept, and what has the other name is the other file
 pub record AreKept (names : Names) (one other : Place) (a b : List ℕ) (past : List Step) : Type 0 where

@@ -3,7 +3,7 @@
 ghost use Rattle.msr_tree.specs.Calls.{Goes};
 ghost use Rattle.msr_replace.specs.Names.{AreNames};
 ghost use Rattle.msr_replace.specs.Phases.{AreHome, HaveOneContent, AreSeenApart, HavePlaces, IsAside, IsInPlace, IsPrepared, MayGoBack};
-ghost use Rattle.msr_replace.specs.Promise.{AreKept, Keeps};
+ghost use Rattle.msr_replace.specs.Promise.{AreKept, Keeps, KeepsAll};
 ghost use Rattle.msr_replace.specs.declared.names.Place.TheVariants.{Original, Records};
 
 use crate::moves::{Dress, copy_stored, keep_as, settle, take_place};
@@ -20,7 +20,7 @@ pub fn replace_day<T: Tree>(
 ) -> Result<Told, TreeFault>
     requires { AreNames names.now }
     ensures { Goes (T.went tree.old) (T.went tree.new)
-        (Keeps names.now Original Records (AreKept names.now Original Records) result) }
+        (KeepsAll names.now Original Records (AreKept names.now Original Records) result) }
 {
     if !are_still(tree, names, verified)? {
         return Ok(Told::Changed);
@@ -35,7 +35,7 @@ pub fn replace_day<T: Tree>(
 fn drop_same<T: Tree>(tree: &mut T, names: &DayNames) -> Result<Told, TreeFault>
     requires { AreNames names.now }
     ensures { Goes (T.went tree.old) (T.went tree.new)
-        (Keeps names.now Original Records (HaveOneContent names.now Original Records) result) }
+        (KeepsAll names.now Original Records (HaveOneContent names.now Original Records) result) }
 {
     settle(tree, names, Place::Day)?;
     drop_settled(tree, names)
@@ -45,7 +45,7 @@ fn drop_same<T: Tree>(tree: &mut T, names: &DayNames) -> Result<Told, TreeFault>
 fn drop_settled<T: Tree>(tree: &mut T, names: &DayNames) -> Result<Told, TreeFault>
     requires { AreNames names.now }
     ensures { Goes (T.went tree.old) (T.went tree.new)
-        (Keeps names.now Original Records (IsInPlace names.now Original Records) result) }
+        (KeepsAll names.now Original Records (IsInPlace names.now Original Records) result) }
 {
     if tree.look(names.at(Place::Original))?.is_some() {
         tree.remove(names.at(Place::Records))?;
@@ -61,7 +61,7 @@ fn settle_both<T: Tree>(
 ) -> Result<Told, TreeFault>
     requires { AreNames names.now }
     ensures { Goes (T.went tree.old) (T.went tree.new)
-        (Keeps names.now Original Records (AreSeenApart names.now Original Records) result) }
+        (KeepsAll names.now Original Records (AreSeenApart names.now Original Records) result) }
 {
     settle(tree, names, Place::Day)?;
     settle(tree, names, Place::Records)?;
@@ -75,7 +75,7 @@ fn set_aside<T: Tree>(
 ) -> Result<Told, TreeFault>
     requires { AreNames names.now }
     ensures { Goes (T.went tree.old) (T.went tree.new)
-        (Keeps names.now Original Records (AreHome names.now Original Records) result) }
+        (KeepsAll names.now Original Records (AreHome names.now Original Records) result) }
 {
     match keep_as(
         tree,

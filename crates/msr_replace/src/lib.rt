@@ -1,18 +1,26 @@
 //! Records of a day take the place of its file, which is set aside, and the way back. Nothing is lost at any moment.
 #![tactic(auto)]
 
+mod answers;
+mod day;
 mod exchange;
+mod folders;
 mod moves;
 mod names;
 mod preparing;
 mod restore;
 mod start;
 mod told;
+mod work;
 
+pub use answers::{DayAnswer, DayRefusal, DayRestored};
+pub use day::{replace_path, restore_path};
 pub use exchange::replace_day;
+pub use folders::clear_parts;
 pub use moves::Hindrance;
-pub use names::{DayNames, Place};
+pub use names::{DayNames, Place, other_days_are_apart};
 pub use preparing::Verified;
 pub use restore::restore_day;
 pub use start::{begins_again, begins_at_rest, goes_both_ways};
 pub use told::{Refusal, Told};
+pub use work::DayWork;

@@ -2,7 +2,7 @@
 ghost use Rattle.std.specs.Prelude.{[], ◌∷◌};
 ghost use Rattle.msr_tree.specs.Acts.{Acts};
 ghost use Rattle.msr_tree.specs.Calls.{Goes};
-ghost use Rattle.msr_replace.specs.Moves.{Anything, IsSeenAs, KeepsAs, GivesName, NamesIfNone, Prepares, Stores, Takes};
+ghost use Rattle.msr_replace.specs.Moves.{Anything, GivesName, IsKeptAs, IsSeenAs, KeepsAs, KeepsName, NamesIfNone, Prepares, Stores, Takes};
 ghost use Rattle.msr_replace.specs.Names.{AreNames, path_at};
 ghost use Rattle.msr_replace.specs.declared.names.Place.TheVariants.{Day, DayPart};
 
@@ -52,7 +52,7 @@ pub(crate) fn copy_stored<T: Tree>(
 }
 
 /// A file gets its own name on the disk in place of that of its part, or is removed if something has the name.
-fn name_new<T: Tree>(
+pub(crate) fn name_new<T: Tree>(
     tree: &mut T,
     names: &DayNames,
     part: Place,
@@ -123,7 +123,7 @@ fn is_kept<T: Tree>(
 ) -> Result<Option<Hindrance>, TreeFault>
     requires { AreNames names.now }
     ensures { Goes (T.went tree.old) (T.went tree.new)
-        (Acts [] (KeepsAs (path_at names.now Day) (path_at names.now place)) result) }
+        (Acts [] (IsKeptAs (path_at names.now Day) (path_at names.now place)) result) }
 {
     if !is_copy(tree, names, Place::Day, place, dress)? {
         return Ok(Some(Hindrance::Taken));
@@ -180,8 +180,7 @@ fn keep_at<T: Tree>(
 ) -> Result<Option<Hindrance>, TreeFault>
     requires { AreNames names.now }
     ensures { Goes (T.went tree.old) (T.went tree.new)
-        (Acts (path_at names.now place ∷ path_at names.now part ∷ [])
-        (KeepsAs (path_at names.now Day) (path_at names.now place)) result) }
+        (KeepsName (path_at names.now Day) (path_at names.now place) (path_at names.now part) result) }
 {
     if tree.look(names.at(place))?.is_some() {
         return is_kept(tree, names, place, dress);
@@ -199,8 +198,7 @@ pub(crate) fn keep_as<T: Tree>(
 ) -> Result<Option<Hindrance>, TreeFault>
     requires { AreNames names.now }
     ensures { Goes (T.went tree.old) (T.went tree.new)
-        (Acts (path_at names.now place ∷ path_at names.now part ∷ [])
-        (KeepsAs (path_at names.now Day) (path_at names.now place)) result) }
+        (KeepsName (path_at names.now Day) (path_at names.now place) (path_at names.now part) result) }
 {
     if tree.make_folders(names.top(place), names.folder(place))? {
         return keep_at(tree, names, place, part, dress);

@@ -2,20 +2,22 @@
 ghost use Rattle.std.specs.Prelude.{[], ◌∷◌};
 ghost use Rattle.msr_tree.specs.Acts.{Acts};
 ghost use Rattle.msr_tree.specs.Calls.{Goes};
-ghost use Rattle.msr_replace.specs.Moves.{Anything, PreparesIf, PreparesIfNone};
-ghost use Rattle.msr_replace.specs.Names.{path_at};
-ghost use Rattle.msr_replace.specs.declared.names.Place.TheVariants.{DayPart, Note, Original, Records};
+ghost use Rattle.msr_replace.specs.Moves.{Anything, PreparesIf, PreparesIfNone, ShowsIf};
+ghost use Rattle.msr_replace.specs.Names.{AreNames, path_at};
+ghost use Rattle.msr_replace.specs.declared.names.Place.TheVariants.{DayPart, Note, NotePart, Original, Records};
 
 use crate::moves::{Dress, Hindrance, copy_stored, look_alike};
 use crate::names::{DayNames, Place};
 use crate::told::GivenUp;
-use msr_tree::{Facts, Kind, Tree, TreeFault};
+use msr_tree::{Facts, Kind, Time, Tree, TreeFault};
 
-/// What the day's file and its records were before they were verified.
+/// A day that was verified: what its file and its records were before that.
 #[derive(Clone, Copy)]
 pub struct Verified {
     pub file: Facts,
     pub records: Facts,
+    /// Whether the records get the time of now, and not that of the file.
+    pub touch: bool,
 }
 
 /// Whether it is the same regular file as before, with the same size and time of last change.
@@ -63,40 +65,124 @@ fn is_alike(now: Option<Facts>, before: &Facts) -> bool {
     }
 }
 
-/// Gives the records beside the day's name its file's owner, group, mode and time; they may not be had.
+/// Whether what has a name is the file that was verified.
+fn is_still_at<T: Tree>(
+    tree: &mut T,
+    names: &DayNames,
+    place: Place,
+    before: &Facts,
+) -> Result<bool, TreeFault>
+    ensures { Goes (T.went tree.old) (T.went tree.new) (Acts [] Anything result) }
+{
+    let now = tree.look(names.at(place))?;
+    Ok(is_still(now, before))
+}
+
+/// An empty file with the time of now.
+fn make_note<T: Tree>(tree: &mut T, names: &DayNames) -> Result<Option<Time>, TreeFault>
+    ensures { Goes (T.went tree.old) (T.went tree.new) (Acts (path_at names.now NotePart ∷ []) Anything result) }
+{
+    let writer = tree.make(names.at(Place::NotePart))?;
+    tree.finish(names.at(Place::NotePart), writer)?;
+    let noted = tree.look(names.at(Place::NotePart))?;
+    Ok(noted.map(|facts| facts.changed))
+}
+
+/// It gets its name in ASIDE, on the disk.
+fn name_note<T: Tree>(tree: &mut T, names: &DayNames) -> Result<(), TreeFault>
+    ensures { Goes (T.went tree.old) (T.went tree.new)
+        (Acts (path_at names.now Note ∷ path_at names.now NotePart ∷ []) Anything result) }
+{
+    tree.store_file(names.at(Place::NotePart))?;
+    tree.rename(names.at(Place::NotePart), names.at(Place::Note))?;
+    tree.store_folder(names.folder(Place::Note))
+}
+
+/// The time that the records get: that of now, which is noted, or that of the file, and no older note stays.
+fn time_for<T: Tree>(
+    tree: &mut T,
+    names: &DayNames,
+    verified: &Verified,
+) -> Result<Option<Time>, TreeFault>
+    ensures { Goes (T.went tree.old) (T.went tree.new)
+        (Acts (path_at names.now Note ∷ path_at names.now NotePart ∷ []) Anything result) }
+{
+    if !verified.touch {
+        tree.remove(names.at(Place::Note))?;
+        return Ok(Some(verified.file.changed));
+    }
+    let time = make_note(tree, names)?;
+    name_note(tree, names)?;
+    Ok(time)
+}
+
+/// Gives the records beside the day's name its file's owner, group and mode, and this time; they may not be had.
 fn is_dressed<T: Tree>(
     tree: &mut T,
     names: &DayNames,
     verified: &Verified,
+    time: Option<Time>,
 ) -> Result<bool, TreeFault>
     ensures { Goes (T.went tree.old) (T.went tree.new) (Acts [] Anything result) }
 {
-    match tree.dress(
-        names.at(Place::DayPart),
-        &verified.file,
-        Some(verified.file.changed),
-    ) {
+    match tree.dress(names.at(Place::DayPart), &verified.file, time) {
         Ok(()) => Ok(true),
         Err(TreeFault::Failed) => Ok(false),
         Err(TreeFault::Memory) => Err(TreeFault::Memory),
     }
 }
 
-/// The records stand beside the day's name, on the disk, dressed as its file, or they cannot be.
+/// The records beside the day's name are dressed as its file, and on the disk, or they cannot be.
 fn dress_records<T: Tree>(
     tree: &mut T,
     names: &DayNames,
     verified: &Verified,
 ) -> Result<bool, TreeFault>
-    ensures { Goes (T.went tree.old) (T.went tree.new) (Acts (path_at names.now DayPart ∷ [])
-        (PreparesIf (path_at names.now Records) (path_at names.now DayPart)) result) }
+    requires { AreNames names.now }
+    ensures { Goes (T.went tree.old) (T.went tree.new)
+        (Acts (path_at names.now Note ∷ path_at names.now NotePart ∷ [])
+        (PreparesIf (path_at names.now DayPart) (path_at names.now DayPart)) result) }
 {
-    tree.copy(names.at(Place::Records), names.at(Place::DayPart))?;
-    if !is_dressed(tree, names, verified)? {
+    let time = time_for(tree, names, verified)?;
+    if !is_dressed(tree, names, verified, time)? {
         return Ok(false);
     }
     tree.store_file(names.at(Place::DayPart))?;
     Ok(true)
+}
+
+/// The records stand beside the day's name too, if they are those that were verified. They may be one file under two
+/// names, so this is looked at before they are dressed.
+fn copy_records<T: Tree>(
+    tree: &mut T,
+    names: &DayNames,
+    verified: &Verified,
+) -> Result<bool, TreeFault>
+    ensures { Goes (T.went tree.old) (T.went tree.new) (Acts (path_at names.now DayPart ∷ [])
+        (ShowsIf (path_at names.now Records) (path_at names.now DayPart)) result) }
+{
+    tree.copy(names.at(Place::Records), names.at(Place::DayPart))?;
+    is_still_at(tree, names, Place::Records, &verified.records)
+}
+
+/// The records are ready, and the day's file is the one that was verified; or why not.
+fn dress_checked<T: Tree>(
+    tree: &mut T,
+    names: &DayNames,
+    verified: &Verified,
+) -> Result<Option<GivenUp>, TreeFault>
+    requires { AreNames names.now }
+    ensures { Goes (T.went tree.old) (T.went tree.new)
+        (Acts (path_at names.now Note ∷ path_at names.now NotePart ∷ [])
+        (PreparesIfNone (path_at names.now DayPart) (path_at names.now DayPart)) result) }
+{
+    if !dress_records(tree, names, verified)? {
+        return Ok(Some(GivenUp::Undressed));
+    }
+    if !is_still_at(tree, names, Place::Day, &verified.file)? {
+        return Ok(Some(GivenUp::Changed));
+    }
+    Ok(None)
 }
 
 /// The records are ready to take the place of the day's file, and both are those that were verified; or why not.
@@ -105,16 +191,15 @@ pub(crate) fn prepare_records<T: Tree>(
     names: &DayNames,
     verified: &Verified,
 ) -> Result<Option<GivenUp>, TreeFault>
-    ensures { Goes (T.went tree.old) (T.went tree.new) (Acts (path_at names.now DayPart ∷ [])
+    requires { AreNames names.now }
+    ensures { Goes (T.went tree.old) (T.went tree.new)
+        (Acts (path_at names.now DayPart ∷ path_at names.now Note ∷ path_at names.now NotePart ∷ [])
         (PreparesIfNone (path_at names.now Records) (path_at names.now DayPart)) result) }
 {
-    if !dress_records(tree, names, verified)? {
-        return Ok(Some(GivenUp::Undressed));
-    }
-    if !are_still(tree, names, verified)? {
+    if !copy_records(tree, names, verified)? {
         return Ok(Some(GivenUp::Changed));
     }
-    Ok(None)
+    dress_checked(tree, names, verified)
 }
 
 /// The original in ASIDE goes, and the time that was noted of its records.

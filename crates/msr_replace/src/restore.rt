@@ -1,21 +1,76 @@
 //! The way back: the original takes the place of the records, which go back to OUT.
 ghost use Rattle.msr_tree.specs.Calls.{Goes};
 ghost use Rattle.msr_replace.specs.Names.{AreNames};
-ghost use Rattle.msr_replace.specs.Phases.{AreHome, AreSeenApart, HaveOneContent, HavePlaces, IsAside, IsInPlace, IsPrepared};
-ghost use Rattle.msr_replace.specs.Promise.{AreKept, Keeps};
+ghost use Rattle.msr_replace.specs.Phases.{AreHome, AreSeenApart, HasReturned, HaveOneContent, HavePlaces, IsAside, IsInPlace, IsPrepared, IsReadyToReturn, Waits};
+ghost use Rattle.msr_replace.specs.Promise.{AreKept, Keeps, KeepsAll, PutsBack, Restores};
 ghost use Rattle.msr_replace.specs.declared.names.Place.TheVariants.{Original, Records};
 
-use crate::moves::{Dress, Hindrance, keep_as, look_alike, settle, take_place};
+use crate::moves::{Dress, Hindrance, keep_as, look_alike, name_new, settle, take_place};
 use crate::names::{DayNames, Place};
 use crate::preparing::{forget, prepare_original, was_touched};
 use crate::told::{Refusal, Told};
-use msr_tree::{Tree, TreeFault};
+use msr_tree::{Kind, Tree, TreeFault};
 
-/// The original of a day in ASIDE takes the place of its records in ROOT, which go back to OUT.
+/// The original of a day in ASIDE takes the place of its records in ROOT, which go back to OUT; or its own place, if no file
+/// has that.
 pub fn restore_day<T: Tree>(tree: &mut T, names: &DayNames) -> Result<Told, TreeFault>
     requires { AreNames names.now }
     ensures { Goes (T.went tree.old) (T.went tree.new)
-        (Keeps names.now Records Original (AreKept names.now Records Original) result) }
+        (Restores names.now Records Original (AreKept names.now Records Original) result) }
+{
+    let Some(day) = tree.look(names.at(Place::Day))? else {
+        return put_back(tree, names);
+    };
+    match day.kind {
+        Kind::Regular => change_back(tree, names),
+        _ => Ok(Told::Refused(Refusal::Day(Hindrance::Link))),
+    }
+}
+
+/// No file has the place of the original.
+fn put_back<T: Tree>(tree: &mut T, names: &DayNames) -> Result<Told, TreeFault>
+    requires { AreNames names.now }
+    ensures { Goes (T.went tree.old) (T.went tree.new) (PutsBack names.now Original (Waits names.now Original) result) }
+{
+    let waiting = Place::Original;
+    settle(tree, names, waiting)?;
+    prepare_gone(tree, names)
+}
+
+fn prepare_gone<T: Tree>(tree: &mut T, names: &DayNames) -> Result<Told, TreeFault>
+    requires { AreNames names.now }
+    ensures { Goes (T.went tree.old) (T.went tree.new) (PutsBack names.now Original (Waits names.now Original) result) }
+{
+    match prepare_original(tree, names)? {
+        Some(hindrance) => Ok(Told::Refused(Refusal::Day(hindrance))),
+        None => take_free(tree, names),
+    }
+}
+
+/// If a link has its place by now, the original stays in ASIDE.
+fn take_free<T: Tree>(tree: &mut T, names: &DayNames) -> Result<Told, TreeFault>
+    requires { AreNames names.now }
+    ensures { Goes (T.went tree.old) (T.went tree.new) (PutsBack names.now Original (IsReadyToReturn names.now Original) result) }
+{
+    if !name_new(tree, names, Place::DayPart, Place::Day)? {
+        return Ok(Told::Refused(Refusal::Day(Hindrance::Link)));
+    }
+    forget_returned(tree, names)
+}
+
+fn forget_returned<T: Tree>(tree: &mut T, names: &DayNames) -> Result<Told, TreeFault>
+    requires { AreNames names.now }
+    ensures { Goes (T.went tree.old) (T.went tree.new) (PutsBack names.now Original (HasReturned names.now) result) }
+{
+    forget(tree, names)?;
+    Ok(Told::Done)
+}
+
+/// ROOT has a file of the day.
+fn change_back<T: Tree>(tree: &mut T, names: &DayNames) -> Result<Told, TreeFault>
+    requires { AreNames names.now }
+    ensures { Goes (T.went tree.old) (T.went tree.new)
+        (KeepsAll names.now Records Original (AreKept names.now Records Original) result) }
 {
     if !look_alike(tree, names, Place::Day, Place::Original, Dress::Any)? {
         return Ok(Told::Refused(Refusal::Day(Hindrance::Link)));
@@ -30,7 +85,7 @@ pub fn restore_day<T: Tree>(tree: &mut T, names: &DayNames) -> Result<Told, Tree
 fn forget_same<T: Tree>(tree: &mut T, names: &DayNames) -> Result<Told, TreeFault>
     requires { AreNames names.now }
     ensures { Goes (T.went tree.old) (T.went tree.new)
-        (Keeps names.now Records Original (HaveOneContent names.now Records Original) result) }
+        (KeepsAll names.now Records Original (HaveOneContent names.now Records Original) result) }
 {
     settle(tree, names, Place::Day)?;
     forget_settled(tree, names)
@@ -39,7 +94,7 @@ fn forget_same<T: Tree>(tree: &mut T, names: &DayNames) -> Result<Told, TreeFaul
 fn forget_settled<T: Tree>(tree: &mut T, names: &DayNames) -> Result<Told, TreeFault>
     requires { AreNames names.now }
     ensures { Goes (T.went tree.old) (T.went tree.new)
-        (Keeps names.now Records Original (IsInPlace names.now Records Original) result) }
+        (KeepsAll names.now Records Original (IsInPlace names.now Records Original) result) }
 {
     forget(tree, names)?;
     Ok(Told::Same)
@@ -49,7 +104,7 @@ fn forget_settled<T: Tree>(tree: &mut T, names: &DayNames) -> Result<Told, TreeF
 fn settle_both<T: Tree>(tree: &mut T, names: &DayNames) -> Result<Told, TreeFault>
     requires { AreNames names.now }
     ensures { Goes (T.went tree.old) (T.went tree.new)
-        (Keeps names.now Records Original (AreSeenApart names.now Records Original) result) }
+        (KeepsAll names.now Records Original (AreSeenApart names.now Records Original) result) }
 {
     settle(tree, names, Place::Day)?;
     settle(tree, names, Place::Original)?;
@@ -60,7 +115,7 @@ fn settle_both<T: Tree>(tree: &mut T, names: &DayNames) -> Result<Told, TreeFaul
 fn give_back<T: Tree>(tree: &mut T, names: &DayNames) -> Result<Told, TreeFault>
     requires { AreNames names.now }
     ensures { Goes (T.went tree.old) (T.went tree.new)
-        (Keeps names.now Records Original (AreHome names.now Records Original) result) }
+        (KeepsAll names.now Records Original (AreHome names.now Records Original) result) }
 {
     if was_touched(tree, names)? {
         return Ok(Told::Changed);
@@ -71,7 +126,7 @@ fn give_back<T: Tree>(tree: &mut T, names: &DayNames) -> Result<Told, TreeFault>
 fn keep_records<T: Tree>(tree: &mut T, names: &DayNames) -> Result<Told, TreeFault>
     requires { AreNames names.now }
     ensures { Goes (T.went tree.old) (T.went tree.new)
-        (Keeps names.now Records Original (AreHome names.now Records Original) result) }
+        (KeepsAll names.now Records Original (AreHome names.now Records Original) result) }
 {
     match keep_as(tree, names, Place::Records, Place::RecordsPart, Dress::Any)? {
         Some(hindrance) => Ok(Told::Refused(Refusal::Records(hindrance))),

@@ -2,6 +2,7 @@
 ghost use Rattle.std.specs.Prelude.{◌≢◌};
 ghost use Rattle.msr_replace.specs.declared.told.Told.TheVariants.{Done, Same};
 
+use crate::answers::DayRefusal;
 use crate::moves::Hindrance;
 
 /// Why a day is refused: the name that cannot be given, and what is in the way.
@@ -13,6 +14,27 @@ pub enum Refusal {
     Aside(Hindrance),
     /// The records' in OUT.
     Records(Hindrance),
+}
+
+impl Refusal {
+    ghost use Rattle.std.specs.Prelude.{◌≡◌};
+    ghost use Rattle.msr_replace.specs.Restored.{refusal_of};
+
+    /// What is told of it.
+    pub(crate) fn told(self) -> DayRefusal
+        ensures { result ≡ refusal_of self }
+    {
+        match self {
+            Refusal::Day(Hindrance::Dress) | Refusal::Records(Hindrance::Dress) =>
+                DayRefusal::Dress,
+            Refusal::Day(Hindrance::Link | Hindrance::Taken) => DayRefusal::Link,
+            Refusal::Aside(Hindrance::Link) => DayRefusal::AsideLink,
+            Refusal::Aside(Hindrance::Taken) => DayRefusal::AsideTaken,
+            Refusal::Aside(Hindrance::Dress) => DayRefusal::AsideDress,
+            Refusal::Records(Hindrance::Link) => DayRefusal::RecordsLink,
+            Refusal::Records(Hindrance::Taken) => DayRefusal::RecordsTaken,
+        }
+    }
 }
 
 /// What became of a day.

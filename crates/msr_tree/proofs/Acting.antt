@@ -173,15 +173,15 @@ copied_changes names from to old left apart may = ⊎_elim
     (λ done. ⊎_elim
     (λ linked. subst (λ l. ChangesOnly names old l) (sym linked) (changes_step names (Linked from to) old apart))
     (λ made. subst (λ l. ChangesOnly names old l) (sym made.1) (changes_step names (Made to made.0) old apart))
-    done)
+    done.1)
     may
 
 -- a link or a copy
 acts_copies : {T : Type 0} (names : List Path) (from to : Path) (result : Result T TreeFault) (old new : List Step) → ((name : Path) → IsNoneOf name names → bytes_eq name to ≡ false) → Copies from to result old new → Acts names (λ sooner later answer. IsSome (now sooner from) × Copied from to sooner later) result old new
 acts_copies names from to (Ok x) old new apart copies = record {
-  changes = copied_changes names from to old new apart (⊎_elim (λ linked. inr (inl linked)) (λ made. inr (inr (made.0, made.2))) copies.1);
+  changes = copied_changes names from to old new apart (inr (copies.0, ⊎_elim (λ linked. inl linked) (λ made. inr (made.0, made.2)) copies.2));
   cause = λ is. cc;
-  does = copies;
+  does = (copies.1, copies.2);
 }
 acts_copies names from to (Err why) old new apart copies = stopped names _ why _ old new (λ left may. copied_changes names from to old left apart may) copies
 
@@ -206,7 +206,13 @@ acts_renames names from to (Ok false) old new within linked renames = record {
   does = renames;
 }
 acts_renames names from to (Err why) old new within linked renames = stopped names _ why _ old new
-    (λ left may. ⊎_elim (λ done. perhaps_changes names (Renamed from to) old left within done) (λ is. subst (λ l. ChangesOnly names old l) (sym is) (changes_step names (Linked from to) old linked)) may) renames
+    (λ left may. ⊎_elim
+    (λ same. subst (λ l. ChangesOnly names old l) (sym same) (changes_none names old))
+    (λ done. ⊎_elim
+    (λ is. subst (λ l. ChangesOnly names old l) (sym is) (changes_step names (Renamed from to) old within))
+    (λ is. subst (λ l. ChangesOnly names old l) (sym is) (changes_step names (Linked from to) old linked))
+    done.1)
+    may) renames
 
 pub goes_renames : (names : List Path) (from to : Path) (result : Result Bool TreeFault) (one two : List Step → Type 0) → Within names (Renamed from to) → Within names (Linked from to) → Goes one two (RenamesNew from to result) → Goes one two (Acts names (IfRenamed from to) result)
 goes_renames names from to result one two within linked goes = goes_as _ _ one two (λ p q renames. acts_renames names from to result p q within linked renames) goes

@@ -34,7 +34,7 @@ folder_none path none =
     let front : length path - suffix_len (λ byte. not (is_separator byte)) path - 1 ≡ 0 = omega (arith, all) in
     ap (λ n. take n path) front
 
-folder_at : (path : List ℕ) (k : ℕ) → k < length path → get_or path k 0 ≡ 47
+pub folder_at : (path : List ℕ) (k : ℕ) → k < length path → get_or path k 0 ≡ 47
     → ((i : ℕ) → k < i → i < length path → get_or path i 0 ≢ 47) →
     folder_above path ≡ take k path
 folder_at path k lt slash others =

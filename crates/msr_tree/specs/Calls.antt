@@ -1,5 +1,5 @@
 -- What one call does.
-use Rattle.std.specs.Prelude.{◌<◌, IsErrOf, ◌≡◌, ◌≢◌, ◌⊎◌, ℕ, Bool, true, false, List, [], ◌∷◌, ◌++◌, Option, None, Some, Result, Ok, Err, IsSome}
+use Rattle.std.specs.Prelude.{◌<◌, IsErrOf, ◌≡◌, ◌≢◌, ◌⊎◌, ℕ, Bool, true, false, List, [], ◌∷◌, ◌++◌, Option, None, Some, Result, Ok, Err, IsSome, IsSomeAnd, length}
 use Rattle.msr_devices.specs.Device.{Device, unused}
 use Rattle.msr_tree.specs.Steps.{Failed, FolderMade, FolderStored, Linked, Made, Path, Renamed, Step, failures, now, seen}
 use Rattle.msr_tree.specs.declared.tree.TreeFault.{TreeFault}
@@ -34,12 +34,15 @@ Tells Says (Err why) old new = Stops why (λ left. left ≡ old) old new
 abbrev pub Copied : (from to : Path) → (old left : List Step) → Type 0
 Copied from to old left = (left ≡ Linked from to ∷ old) ⊎ ((bytes : List ℕ) × (seen old from ≡ Some bytes) × (left ≡ Made to bytes ∷ old))
 
+abbrev pub BeginsCopy : (from to : Path) → (old left : List Step) → Type 0
+BeginsCopy from to old left = (left ≡ Linked from to ∷ old) ⊎ ((bytes : List ℕ) × (left ≡ Made to bytes ∷ old))
+
+-- a name that a file has stays its own
 abbrev pub PerhapsCopied : (from to : Path) → (old left : List Step) → Type 0
-PerhapsCopied from to old left =
-    (left ≡ old) ⊎ ((left ≡ Linked from to ∷ old) ⊎ ((bytes : List ℕ) × (left ≡ Made to bytes ∷ old)))
+PerhapsCopied from to old left = (left ≡ old) ⊎ ((now old to ≡ None) × BeginsCopy from to old left)
 
 abbrev pub Copies : {T : Type 0} → (from to : Path) → Result T TreeFault → (old new : List Step) → Type 0
-Copies from to (Ok x) old new = IsSome (now old from) × Copied from to old new
+Copies from to (Ok x) old new = (now old to ≡ None) × IsSome (now old from) × Copied from to old new
 Copies from to (Err why) old new = Stops why (PerhapsCopied from to old) old new
 
 -- a file gets a name that none has, or it is told that one has it
@@ -47,7 +50,7 @@ abbrev pub RenamesNew : (from to : Path) → Result Bool TreeFault → (old new 
 RenamesNew from to (Ok true) old new = (now old to ≡ None) × (new ≡ Renamed from to ∷ old)
 RenamesNew from to (Ok false) old new = new ≡ old
 RenamesNew from to (Err why) old new =
-    Stops why (λ left. PerhapsDone (Renamed from to) old left ⊎ (left ≡ Linked from to ∷ old)) old new
+    Stops why (λ left. (left ≡ old) ⊎ ((now old to ≡ None) × ((left ≡ Renamed from to ∷ old) ⊎ (left ≡ Linked from to ∷ old)))) old new
 
 -- no name of a file changes
 abbrev pub AreOfFolders : List Step → Type 0
@@ -64,10 +67,14 @@ pub record MakesFolders {T : Type 0} (result : Result T TreeFault) (old new : Li
   pub are : AreOfFolders made
   pub cause : IsErrOf result fault.Failed → failures old < failures new
 
--- what a look says of a file: one that is none, or is a link or a folder, has no bytes to read
+-- what a look says of what stands under a name: a regular file has so many bytes, and what is none has none to read
+pub record IsFoundAs (path : Path) (past : List Step) (facts : Facts) : Type 0 where
+  pub regular : facts.kind ≡ kind.Regular → IsSomeAnd (now past path) (λ file. facts.bytes ≡ length file.bytes)
+  pub other : facts.kind ≢ kind.Regular → now past path ≡ None
+
 abbrev pub Looks : Path → List Step → Option Facts → Type 0
 Looks path past None = now past path ≡ None
-Looks path past (Some facts) = facts.kind ≡ kind.Regular → IsSome (now past path)
+Looks path past (Some facts) = IsFoundAs path past facts
 
 -- both have bytes, and the answer is whether these are the same
 pub record IsSameAs (one other : Path) (past : List Step) (same : Bool) : Type 0 where

@@ -9,5 +9,6 @@ mod tree;
 
 pub use facts::{Facts, Kind, Rights, Time};
 pub use memory::{Choices, Ending, Failure, MemoryReader, MemoryTree, MemoryWriter};
+pub use paths::folder_above;
 pub use system::{SystemTree, SystemWriter};
 pub use tree::{Tree, TreeFault};

@@ -3,7 +3,7 @@ ghost use Rattle.std.specs.Prelude.{◌≡◌};
 ghost use Rattle.msr_tree.specs.Steps.{folder_above};
 
 /// The folder of a path, empty if it has no slash.
-pub(crate) fn folder_above(path: &str) -> &str
+pub fn folder_above(path: &str) -> &str
     ensures { result.now ≡ folder_above path.now }
 {
     match path.rsplit_once('/') {

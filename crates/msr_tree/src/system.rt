@@ -29,49 +29,62 @@ impl From<io::Error> for TreeFault {
     }
 }
 
-impl From<DeviceFault> for TreeFault {
-    fn from(fault: DeviceFault) -> TreeFault {
-        match fault {
-            DeviceFault::Failed => TreeFault::Failed,
-            DeviceFault::Memory => TreeFault::Memory,
-        }
-    }
-}
-
 /// The system's files.
 #[derive(Drop)]
 pub struct SystemTree<'a, R: Files> {
     rt: &'a R,
     alloc: Global,
+    reason: Option<io::Error>,
 }
 
 impl<'a, R: Files> SystemTree<'a, R> {
     pub fn new(rt: &'a R, alloc: Global) -> SystemTree<'a, R> {
-        SystemTree { rt, alloc }
+        SystemTree {
+            rt,
+            alloc,
+            reason: None,
+        }
+    }
+
+    /// Why a call failed the last time that one did.
+    pub fn reason(&self) -> Option<io::Error> {
+        self.reason
+    }
+
+    /// Keeps the reason of a call that fails.
+    fn told<T>(&mut self, answer: io::Result<T>) -> Result<T, TreeFault> {
+        match answer {
+            Ok(value) => Ok(value),
+            Err(error) => {
+                self.reason = Some(error);
+                Err(error.into())
+            }
+        }
     }
 
     /// What stands under a name.
-    fn found(&self, path: &str) -> Result<Option<Facts>, TreeFault> {
+    fn found(&self, path: &str) -> io::Result<Option<Facts>> {
         match fs::symlink_metadata(self.rt, path) {
             Ok(metadata) => Ok(Some(facts_of(&metadata))),
             Err(error) if tells_none(error.kind()) => Ok(None),
-            Err(error) => Err(error.into()),
+            Err(error) => Err(error),
         }
     }
 
     /// Opens a regular file, with what is told of it. Nothing else is opened, since opening a pipe waits for somebody who
     /// writes to it.
-    fn regular(&self, path: &str) -> Result<(R::File, Facts), TreeFault> {
+    fn regular(&self, path: &str) -> io::Result<(R::File, Facts)> {
         let looked = match self.found(path)? {
             Some(facts) if facts.kind == Kind::Regular => facts,
-            _ => return Err(TreeFault::Failed),
+            Some(_) => return Err(refusal("not a regular file")),
+            None => return Err(ErrorKind::NotFound.into()),
         };
         let file = File::open(self.rt, path)?;
         let opened = facts_of(&file.metadata()?);
         if is_one_file(&looked, &opened) {
             Ok((file, opened))
         } else {
-            Err(TreeFault::Failed)
+            Err(refusal("another file took its place"))
         }
     }
 
@@ -85,7 +98,7 @@ impl<'a, R: Files> SystemTree<'a, R> {
     }
 
     /// Copies a file under a name that nothing has. What is half done is removed.
-    fn copy_bytes(&self, from: &str, to: &str) -> Result<(), TreeFault> {
+    fn copy_bytes(&self, from: &str, to: &str) -> io::Result<()> {
         let (mut source, facts) = self.regular(from)?;
         let mut target = OpenOptions::new()
             .read(true)
@@ -107,17 +120,17 @@ impl<'a, R: Files> SystemTree<'a, R> {
         facts: &Facts,
         target: &mut R::File,
         to: &str,
-    ) -> Result<(), TreeFault> {
+    ) -> io::Result<()> {
         let count = io::copy(source, target)?;
         let after = facts_of(&source.metadata()?);
         let is_whole = count == facts.bytes
             && after.bytes == count
             && after.changed == facts.changed;
         if !is_whole || target.metadata()?.len() != count {
-            return Err(TreeFault::Failed);
+            return Err(refusal("changed while it was copied"));
         }
         self.keep(facts, target, to);
-        Ok(target.sync_all()?)
+        target.sync_all()
     }
 
     /// Gives a copy the owner, group, mode and time of its file, as far as the system lets it. Without the owner it gets
@@ -137,19 +150,19 @@ impl<'a, R: Files> SystemTree<'a, R> {
     }
 
     /// Makes a folder, unless there is one, or something else is in the way, as a link to a folder.
-    fn make_folder(&self, path: &str) -> Result<bool, TreeFault> {
+    fn make_folder(&self, path: &str) -> io::Result<bool> {
         match fs::create_dir(self.rt, path) {
             Ok(()) => Ok(true),
             Err(error) if error.kind() == ErrorKind::AlreadyExists => {
                 let found = self.found(path)?;
                 Ok(found.is_some_and(|facts| facts.kind == Kind::Folder))
             }
-            Err(error) => Err(error.into()),
+            Err(error) => Err(error),
         }
     }
 
     /// Makes the folders below another one that lead to a folder, the highest first, unless something is in the way.
-    fn make_below(&self, top: &str, folder: &str) -> Result<bool, TreeFault> {
+    fn make_below(&self, top: &str, folder: &str) -> io::Result<bool> {
         for end in top.len()..folder.len() {
             if let Some((above, rest)) = folder.split_at_checked(end)
                 && top.len() < end
@@ -162,8 +175,104 @@ impl<'a, R: Files> SystemTree<'a, R> {
         self.make_folder(folder)
     }
 
-    fn store(&self, folder: &str) -> Result<(), TreeFault> {
-        Ok(File::open(self.rt, folder)?.sync_all()?)
+    /// The same, and all of them are stored, the lowest first.
+    fn make_stored(&self, top: &str, folder: &str) -> io::Result<bool> {
+        if !is_within(top, folder) {
+            return Err(refusal("not below the folder"));
+        }
+        if top.len() < folder.len() && !self.make_below(top, folder)? {
+            return Ok(false);
+        }
+        let mut at = folder;
+        while top.len() < at.len() {
+            self.store(at)?;
+            at = folder_above(at);
+        }
+        self.store(top)?;
+        Ok(true)
+    }
+
+    fn store(&self, folder: &str) -> io::Result<()> {
+        File::open(self.rt, folder)?.sync_all()
+    }
+
+    /// Whether two regular files have the same bytes.
+    fn compare(&self, one: &str, other: &str) -> io::Result<bool> {
+        let (first, first_facts) = self.regular(one)?;
+        let (second, second_facts) = self.regular(other)?;
+        if is_one_file(&first_facts, &second_facts) {
+            return Ok(true);
+        }
+        if first_facts.bytes != second_facts.bytes {
+            return Ok(false);
+        }
+        let mut first = FromRead::new(first);
+        let mut second = FromRead::new(second);
+        match has_same_bytes(self.alloc, &mut first, &mut second) {
+            Ok(same) => Ok(same),
+            Err(DeviceFault::Failed) => Err(refusal("read fault")),
+            Err(DeviceFault::Memory) => Err(ErrorKind::OutOfMemory.into()),
+        }
+    }
+
+    fn copy_file(&self, from: &str, to: &str) -> io::Result<()> {
+        match self.found(from)? {
+            Some(facts) if facts.kind == Kind::Regular => {}
+            Some(_) => return Err(refusal("not a regular file")),
+            None => return Err(ErrorKind::NotFound.into()),
+        }
+        match self.link(from, to) {
+            Linked::Done => Ok(()),
+            Linked::HasName => Err(ErrorKind::AlreadyExists.into()),
+            Linked::Refused => self.copy_bytes(from, to),
+        }
+    }
+
+    fn rename_over(&self, from: &str, to: &str) -> io::Result<()> {
+        fs::rename(self.rt, from, to)?;
+        // Between two names of one file a rename does nothing.
+        if self.found(from)?.is_some() {
+            fs::remove_file(self.rt, from)?;
+        }
+        Ok(())
+    }
+
+    fn rename_free(&self, from: &str, to: &str) -> io::Result<bool> {
+        match self.link(from, to) {
+            Linked::Done => fs::remove_file(self.rt, from)?,
+            Linked::HasName => return Ok(false),
+            Linked::Refused => {
+                if self.found(to)?.is_some() {
+                    return Ok(false);
+                }
+                fs::rename(self.rt, from, to)?;
+            }
+        }
+        Ok(true)
+    }
+
+    fn store_bytes(&self, path: &str) -> io::Result<()> {
+        let (file, _) = self.regular(path)?;
+        file.sync_all()
+    }
+
+    fn dress_file(&self, path: &str, facts: &Facts, time: Option<Time>) -> io::Result<()> {
+        let (file, _) = self.regular(path)?;
+        let rights = facts.rights;
+        lchown(self.rt, path, Some(rights.owner), Some(rights.group))?;
+        file.set_permissions(Permissions::from_mode(rights.mode & RIGHTS))?;
+        if let Some(time) = time {
+            let Some(modified) = system_time(time) else {
+                return Err(refusal("a time before 1970"));
+            };
+            file.set_times(FileTimes::new().set_modified(modified))?;
+        }
+        let dressed = facts_of(&file.metadata()?);
+        if dressed.rights == rights && time.is_none_or(|time| dressed.changed == time) {
+            Ok(())
+        } else {
+            Err(refusal("owner, mode or time cannot be kept"))
+        }
     }
 }
 
@@ -174,6 +283,11 @@ enum Linked {
     HasName,
     /// The system gives it none.
     Refused,
+}
+
+/// What is not the system's own refusal.
+fn refusal(reason: &str) -> io::Error {
+    io::Error::new(ErrorKind::Other, reason)
 }
 
 /// Whether such an error tells that nothing stands under a name.
@@ -195,17 +309,20 @@ impl<'a, R: Files> Tree for SystemTree<'a, R> {
     ghost went = { λ _ _. ⊥ };
 
     fn look(&mut self, path: &str) -> Result<Option<Facts>, TreeFault> {
-        self.found(path)
+        let found = self.found(path);
+        self.told(found)
     }
 
     fn open(&mut self, path: &str) -> Result<FromRead<R::File>, TreeFault> {
-        let (file, _) = self.regular(path)?;
+        let opened = self.regular(path);
+        let (file, _) = self.told(opened)?;
         Ok(FromRead::new(file))
     }
 
     fn make(&mut self, path: &str) -> Result<SystemWriter<R::File>, TreeFault> {
         let path = String::from_str(self.alloc, path)?;
-        let file = File::create_new(self.rt, path.as_str())?;
+        let made = File::create_new(self.rt, path.as_str());
+        let file = self.told(made)?;
         Ok(SystemWriter {
             path,
             sink: FromWrite::new(file),
@@ -213,109 +330,68 @@ impl<'a, R: Files> Tree for SystemTree<'a, R> {
     }
 
     fn finish(&mut self, path: &str, writer: SystemWriter<R::File>) -> Result<(), TreeFault> {
-        if writer.path.as_str() == path {
+        let is_one = writer.path.as_str() == path;
+        let answer = if is_one {
             Ok(())
         } else {
-            Err(TreeFault::Failed)
-        }
+            Err(refusal("another file was made"))
+        };
+        self.told(answer)
     }
 
     fn is_same(&mut self, one: &str, other: &str) -> Result<bool, TreeFault> {
-        let (first, first_facts) = self.regular(one)?;
-        let (second, second_facts) = self.regular(other)?;
-        if is_one_file(&first_facts, &second_facts) {
-            return Ok(true);
-        }
-        if first_facts.bytes != second_facts.bytes {
-            return Ok(false);
-        }
-        let mut first = FromRead::new(first);
-        let mut second = FromRead::new(second);
-        Ok(has_same_bytes(self.alloc, &mut first, &mut second)?)
+        let answer = self.compare(one, other);
+        self.told(answer)
     }
 
     fn copy(&mut self, from: &str, to: &str) -> Result<(), TreeFault> {
-        match self.found(from)? {
-            Some(facts) if facts.kind == Kind::Regular => {}
-            _ => return Err(TreeFault::Failed),
-        }
-        match self.link(from, to) {
-            Linked::Done => Ok(()),
-            Linked::HasName => Err(TreeFault::Failed),
-            Linked::Refused => self.copy_bytes(from, to),
-        }
+        let copied = self.copy_file(from, to);
+        self.told(copied)
     }
 
     fn rename(&mut self, from: &str, to: &str) -> Result<(), TreeFault> {
-        fs::rename(self.rt, from, to)?;
-        // Between two names of one file a rename does nothing.
-        if self.found(from)?.is_some() {
-            fs::remove_file(self.rt, from)?;
-        }
-        Ok(())
+        let renamed = self.rename_over(from, to);
+        self.told(renamed)
     }
 
     fn rename_new(&mut self, from: &str, to: &str) -> Result<bool, TreeFault> {
-        match self.link(from, to) {
-            Linked::Done => fs::remove_file(self.rt, from)?,
-            Linked::HasName => return Ok(false),
-            Linked::Refused => {
-                if self.found(to)?.is_some() {
-                    return Ok(false);
-                }
-                fs::rename(self.rt, from, to)?;
-            }
-        }
-        Ok(true)
+        let renamed = self.rename_free(from, to);
+        self.told(renamed)
     }
 
     fn remove(&mut self, path: &str) -> Result<(), TreeFault> {
         match fs::remove_file(self.rt, path) {
-            Ok(()) => Ok(()),
             Err(error) if tells_none(error.kind()) => Ok(()),
-            Err(error) => Err(error.into()),
+            removed => self.told(removed),
         }
     }
 
     fn store_file(&mut self, path: &str) -> Result<(), TreeFault> {
-        let (file, _) = self.regular(path)?;
-        Ok(file.sync_all()?)
+        let stored = self.store_bytes(path);
+        self.told(stored)
     }
 
     fn store_folder(&mut self, folder: &str) -> Result<(), TreeFault> {
-        self.store(folder)
+        let stored = self.store(folder);
+        self.told(stored)
     }
 
     fn make_folders(&mut self, top: &str, folder: &str) -> Result<bool, TreeFault> {
-        if !is_within(top, folder) {
-            return Err(TreeFault::Failed);
+        let made = self.make_stored(top, folder);
+        self.told(made)
+    }
+
+    fn remove_folder(&mut self, folder: &str) -> Result<bool, TreeFault> {
+        match fs::remove_dir(self.rt, folder) {
+            Ok(()) => Ok(true),
+            Err(error) if error.kind() == ErrorKind::DirectoryNotEmpty => Ok(false),
+            Err(error) if tells_none(error.kind()) => Ok(true),
+            Err(error) => self.told(Err(error)),
         }
-        if top.len() < folder.len() && !self.make_below(top, folder)? {
-            return Ok(false);
-        }
-        let mut at = folder;
-        while top.len() < at.len() {
-            self.store(at)?;
-            at = folder_above(at);
-        }
-        self.store(top)?;
-        Ok(true)
     }
 
     fn dress(&mut self, path: &str, facts: &Facts, time: Option<Time>) -> Result<(), TreeFault> {
-        let (file, _) = self.regular(path)?;
-        let rights = facts.rights;
-        lchown(self.rt, path, Some(rights.owner), Some(rights.group))?;
-        file.set_permissions(Permissions::from_mode(rights.mode & RIGHTS))?;
-        if let Some(time) = time {
-            let modified = system_time(time).ok_or(TreeFault::Failed)?;
-            file.set_times(FileTimes::new().set_modified(modified))?;
-        }
-        let dressed = facts_of(&file.metadata()?);
-        if dressed.rights == rights && time.is_none_or(|time| dressed.changed == time) {
-            Ok(())
-        } else {
-            Err(TreeFault::Failed)
-        }
+        let dressed = self.dress_file(path, facts, time);
+        self.told(dressed)
     }
 }

@@ -31,7 +31,7 @@ impl From<AllocError> for TreeFault {
 /// The names of a file system. Nobody else changes what they lead to. A call that fails has done its step or not.
 pub trait Tree {
     /// An open file to be read.
-    type Reader: Source;
+    type Reader: Source + Drop;
 
     /// A file that is being made.
     type Writer: Sink;
@@ -92,6 +92,10 @@ pub trait Tree {
     /// folder, is in the way.
     fn make_folders(&mut self, top: &str, folder: &str) -> Result<bool, TreeFault>
         ensures { Goes (went self.old) (went self.new) (MakesFolders result) };
+
+    /// Takes a folder away if it is empty, and tells whether it is gone.
+    fn remove_folder(&mut self, folder: &str) -> Result<bool, TreeFault>
+        ensures { Goes (went self.old) (went self.new) (Tells (λ _ _. Unit {0}) result) };
 
     /// Gives a file the owner, group, mode and time that are asked for.
     fn dress(&mut self, path: &str, facts: &Facts, time: Option<Time>) -> Result<(), TreeFault>

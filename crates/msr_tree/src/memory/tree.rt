@@ -1,5 +1,5 @@
 //! The tree in memory.
-ghost use Rattle.std.specs.Prelude.{◌≡◌, ◌∷◌, ℕ, List, [], None, string_bytes, option_map, IfErr, IfOk, IsSome, MatchOption, MatchResult, OnOk};
+ghost use Rattle.std.specs.Prelude.{◌≡◌, ◌∷◌, ℕ, List, [], None, string_bytes, option_map, IfErr, IfOk, IsSome, length, MatchOption, MatchResult, OnOk};
 ghost use Rattle.msr_tree.specs.Calls.{DoesStep, Stops};
 ghost use Rattle.msr_tree.specs.Steps.{Failed, FileStored, FolderStored, IsAtRest, Made, MayLeave, Path, folder_above, now, seen};
 ghost use Rattle.msr_tree.specs.declared.facts.Kind.TheVariants.{Regular};
@@ -241,7 +241,8 @@ impl MemoryTree {
 
     /// What a look tells of a file.
     fn facts_of(&self, file: Found<'_>) -> Facts
-        ensures { result.kind ≡ Regular }
+        ensures kind { result.kind ≡ Regular }
+        ensures bytes { result.bytes ≡ length file.entry.bytes.now }
     {
         let dress = self
             .dresses
@@ -273,6 +274,14 @@ impl MemoryTree {
         self.deeds.iter().any(|deed| match deed {
             Deed::FolderMade(folder) => is_within(path, folder.as_str()),
             _ => deed.target().is_some_and(|name| is_within(path, name)),
+        })
+    }
+
+    /// Whether a name below a folder leads to a file.
+    fn has_files(&self, folder: &str) -> bool {
+        self.deeds.iter().any(|deed| match deed.target() {
+            Some(name) => is_within(folder, name) && self.seen(name).is_some(),
+            None => false,
         })
     }
 
@@ -407,6 +416,11 @@ impl Tree for MemoryTree {
         }
         self.does(made)?;
         Ok(true)
+    }
+
+    fn remove_folder(&mut self, folder: &str) -> Result<bool, TreeFault> {
+        self.tells()?;
+        Ok(!self.has_files(folder))
     }
 
     fn dress(&mut self, path: &str, facts: &Facts, time: Option<Time>) -> Result<(), TreeFault> {

@@ -1,13 +1,12 @@
-use Rattle.std.proofs.Common.{[], Option, Some, ◌≡◌, ◌∷◌, sym, subst}
+use Rattle.std.proofs.Common.{[], Option, sym, ◌∙◌}
 use Rattle.std.proofs.lemmas.Result.{err_from_is_err_and}
-use Rattle.msr_tree.specs.declared.facts.Facts.{Facts}
 use Rattle.msr_tree.specs.Calls.{Looks}
-use Rattle.msr_tree.specs.Steps.{seen}
-use Rattle.msr_tree.proofs.Acting.{goes_more, goes_tells, stopped_as, then_given}
-use Rattle.msr_replace.specs.Moves.{KeepsAs}
+use Rattle.msr_tree.specs.declared.facts.Facts.{Facts}
+use Rattle.msr_tree.proofs.Acting.{goes_tells, stopping}
 use Rattle.msr_replace.specs.Names.{path_at}
 use Rattle.msr_replace.specs.declared.moves.Hindrance.{Hindrance}
 use Rattle.msr_replace.specs.declared.names.Place.TheVariants.{Day}
+use Rattle.msr_replace.proofs.Alone.{named_looked, named_there, named_told, then_named}
 use Rattle.msr_replace.proofs.moves.keep_at.Goals as goal
 
 pub returns-in_err-look : goal.returns-in_err-look
@@ -16,25 +15,20 @@ returns-in_err-look g c =
     let day = path_at c.args.names.now Day in
     let part = path_at c.args.names.now c.args.part in
     let name = path_at c.args.names.now c.args.place in
-    rw (p.1, p.2) (stopped_as {A = Option Facts} {B = Option Hindrance} (name ∷ part ∷ []) _ (KeepsAs day name) _ _ _ (goes_tells {T = Option Facts} (name ∷ part ∷ []) (Looks c.at.result.now) _ _ _ c.in_err-look.ensures))
+    rw (p.1, p.2) (named_told {R = Hindrance} day name part {A = Option Facts} _ (stopping (Option Facts) _) (stopping (Option Hindrance) _) _ _ (λ is. cc) (λ is. cc) (goes_tells {T = Option Facts} [] (Looks c.at.result.now) _ _ _ c.in_err-look.ensures))
 
 pub returns-then-is_some : goal.returns-then-is_some
 returns-then-is_some g c =
     let day = path_at c.args.names.now Day in
     let part = path_at c.args.names.now c.args.part in
     let name = path_at c.args.names.now c.args.place in
-    let l = name ∷ part ∷ [] in
-    let first = goes_tells {T = Option Facts} l (Looks c.at.result.now) _ _ _ c.in_ok-look.ensures in
-    let second = goes_more {T = Option Hindrance} [] l (KeepsAs day name) _ _ _ (λ n none. tt) c.is_kept.ensures in
-    then_given {A = Option Facts} {B = Option Hindrance} l _ (KeepsAs day name) (KeepsAs day name) c.in_ok-look.field-0 _ _ _ _
-    (λ p q r b looks keeps x y. λ none bytes is. keeps none bytes (subst (λ s. seen s day ≡ Some bytes) (sym looks.0) is)) first second
+    then_named {R = Hindrance} day name part {A = Option Facts} _ c.in_ok-look.field-0 _ _ _ _
+    (goes_tells {T = Option Facts} [] (Looks c.at.result.now) _ _ _ c.in_ok-look.ensures)
+    (named_there {R = Hindrance} day name part _ _ _ c.is_kept.ensures)
 
 pub returns : goal.returns
 returns g c =
     let day = path_at c.args.names.now Day in
     let part = path_at c.args.names.now c.args.part in
     let name = path_at c.args.names.now c.args.place in
-    let l = name ∷ part ∷ [] in
-    let first = goes_tells {T = Option Facts} l (Looks c.at.result.now) _ _ _ c.in_ok-look.ensures in
-    then_given {A = Option Facts} {B = Option Hindrance} l _ (KeepsAs day name) (KeepsAs day name) c.in_ok-look.field-0 _ _ _ _
-    (λ p q r b looks keeps x y. λ none bytes is. keeps none bytes (subst (λ s. seen s day ≡ Some bytes) (sym looks.0) is)) first c.copy_as.ensures
+    named_looked {R = Hindrance} day name part c.at.result.now c.in_ok-look.field-0 _ _ _ _ c.at.ensures (sym c.is_some.ensures ∙ c.if-is_some.false) c.in_ok-look.ensures c.copy_as.ensures
