@@ -1,5 +1,5 @@
 -- How what holds at each moment goes on.
-use Rattle.std.proofs.Common.{◌≡◌, ◌⊎◌, ⊎_elim, List, [], ◌∷◌, ◌++◌, sym, ◌∙◌, ap, subst, append_assoc}
+use Rattle.std.proofs.Common.{◌≡◌, List, [], ◌∷◌, ◌++◌, sym, ◌∙◌, ap, subst, append_assoc}
 use Rattle.msr_tree.specs.Steps.{AtEachMoment, Step, Throughout}
 
 module _ (P : List Step → Type 0) where
