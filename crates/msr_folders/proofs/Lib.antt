@@ -1,6 +1,9 @@
 pub mod AddLemmas
+pub mod EntryLemmas
 pub mod FirstNameLemmas
 pub mod FolderLemmas
+pub mod ReadingLemmas
 pub mod RowLemmas
 pub mod VisitLemmas
+pub mod WalkedLemmas
 pub mod WalkLemmas

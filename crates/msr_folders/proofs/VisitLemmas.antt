@@ -6,7 +6,7 @@ use Rattle.msr_devices.specs.Device.{Device, IsCalm, Takes}
 use Rattle.msr_devices.specs.declared.fault.DeviceFault.{DeviceFault}
 use Rattle.msr_devices.specs.declared.fault.DeviceFault.TheVariants.{Failed, Memory}
 use Rattle.msr_devices.proofs.Chaining.{takes_append, takes_none, calm_same, calm_calm, calm_failed, steady_steady}
-use Rattle.msr_folders.specs.Visits.{AreLines, StopsAt, Tells, TellsInPart, VisitorLaws}
+use Rattle.msr_folders.specs.Visits.{AreLines, StopsAt, Tells, TellsInPart, TellsThese, VisitorLaws}
 
 all_joined : {E : Type 0} (P : E → Type 0) (entries others : List E) → AllByRecursion P entries → AllByRecursion P others
     → AllByRecursion P (entries ++ others)
@@ -113,6 +113,28 @@ module _ {E : Type 0} (is_entry : E → Type 0) (is_line : E → List ℕ → Ty
           let P : List E → Type 0 = λ es. is_tally es tally in
           subst P (append_assoc before first.entries second.entries)
           (second.counts (before ++ first.entries) (first.counts before h));
+    }
+
+    -- these entries were told
+    pub these_none : (out : Device) (tally : T) → TellsThese is_entry is_line is_tally [] out out tally tally
+    unfolding tells_none
+    these_none out tally = record { told = tells_none out tally; are = refl }
+
+    pub these_one : (out0 out : Device) (tally0 tally : T) (entry : E) (line : List ℕ) → is_entry entry
+        → is_line entry line → Takes out0 out line → IsCalm out0 out
+        → ((before : List E) → is_tally before tally0 → is_tally (before ++ entry ∷ []) tally)
+        → TellsThese is_entry is_line is_tally (entry ∷ []) out0 out tally0 tally
+    unfolding tells_one
+    these_one out0 out tally0 tally entry line told lined prints calm counts =
+        record { told = tells_one out0 out tally0 tally entry line told lined prints calm counts; are = refl }
+
+    pub these_more : (one two : List E) (out0 out1 out : Device) (tally0 tally1 tally : T)
+        → TellsThese is_entry is_line is_tally one out0 out1 tally0 tally1 → TellsThese is_entry is_line is_tally two out1 out tally1 tally
+        → TellsThese is_entry is_line is_tally (one ++ two) out0 out tally0 tally
+    unfolding tells_more
+    these_more one two out0 out1 out tally0 tally1 tally first second = record {
+      told = tells_more out0 out1 out tally0 tally1 tally first.told second.told;
+      are = ap (λ l. l ++ second.told.entries) first.are ∙ ap (λ l. one ++ l) second.are;
     }
 
     part_more : (out0 out1 out : Device) (tally0 tally1 : T) → Tells is_entry is_line is_tally out0 out1 tally0 tally1

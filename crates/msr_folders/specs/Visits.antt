@@ -27,6 +27,12 @@ pub record Tells {E T : Type 0} (is_entry : E → Type 0) (is_line : E → List 
   pub calm : IsCalm out0 out
   pub counts : (before : List E) → is_tally before tally0 → is_tally (before ++ entries) tally
 
+-- These entries were told.
+pub record TellsThese {E T : Type 0} (is_entry : E → Type 0) (is_line : E → List ℕ → Type 0) (is_tally : List E → T → Type 0)
+    (entries : List E) (out0 out : Device) (tally0 tally : T) : Type 0 where
+  pub told : Tells is_entry is_line is_tally out0 out tally0 tally
+  pub are : told.entries ≡ entries
+
 -- A prefix of the lines of some more entries was printed.
 pub record TellsInPart {E : Type 0} (is_entry : E → Type 0) (is_line : E → List ℕ → Type 0) (out0 out : Device) : Type 0 where
   pub entries : List E

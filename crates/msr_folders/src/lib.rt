@@ -2,18 +2,17 @@
 //! paths of them.
 #![tactic(auto)]
 
+mod entries;
 mod files;
 mod found;
-mod kind;
-mod listing;
 mod paths;
 mod places;
 mod totals;
 mod visitor;
 
+pub use entries::{EntryVisitor, EntryWalk, visit_entries};
 pub use files::{FileId, Look, is_gone, open_regular, settle, settle_regular};
 pub use found::WalkFound;
-pub use kind::FileKind;
 pub use paths::{Shown, ended, folder_of, join, shown_path};
 pub use places::{Place, folders_overlap, place_of};
 pub use totals::{Total, Totals};

@@ -4,13 +4,11 @@ ghost use Rattle.msr_devices.specs.Device.{CanCountCall, Device};
 ghost use Rattle.msr_devices.specs.declared.fault.DeviceFault.{DeviceFault};
 ghost use Rattle.msr_folders.specs.Visits.{VisitorLaws};
 
-use crate::kind::{FileKind, kind_of};
-use crate::listing::names_in;
 use crate::paths::{entry_path, join};
 use msr_devices::{DeviceFault, Sink};
 use msr_sds::{FOLDERS, levels_below};
+use msr_tree::{FileKind, SystemTree, Tree, TreeFault};
 use std::alloc::{AllocError, Global};
-use std::io::ErrorKind;
 use std::rt::Files;
 
 /// What is done on a walk through folders: each step prints to a sink, and counts.
@@ -85,10 +83,11 @@ fn visit_folder<R: Files, V: Visitor, O: Sink>(
 {
     let alloc = walk.alloc;
     let place = join(alloc, walk.root, folder)?;
-    let names = match names_in(walk.rt, alloc, place.as_str()) {
+    let mut tree = SystemTree::new(walk.rt, alloc);
+    let names = match tree.list(place.as_str()) {
         Ok(names) => names,
-        Err(error) if error.kind() == ErrorKind::OutOfMemory => return Err(DeviceFault::Memory),
-        Err(_) => return walk
+        Err(TreeFault::Memory) => return Err(DeviceFault::Memory),
+        Err(TreeFault::Failed) => return walk
             .visitor
             .visit_unlisted(folder, place.as_str(), out, tally),
     };
@@ -99,7 +98,7 @@ fn visit_folder<R: Files, V: Visitor, O: Sink>(
         let kind = if levels == 0 {
             FileKind::Other
         } else {
-            kind_of(walk.rt, place.as_str())
+            tree.kind(place.as_str())
         };
         if 0 < levels && kind == FileKind::Folder {
             visit_folder(walk, path.as_str(), levels - 1, out, tally)?;

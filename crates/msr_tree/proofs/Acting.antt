@@ -3,7 +3,7 @@ use Rattle.std.proofs.Common.{◌≡◌, ◌<◌, ◌≤◌, inl, inr, ⊎_elim,
 use Rattle.msr_tree.specs.Acts.{Acts}
 use Rattle.msr_tree.specs.Calls.{IsSameAs, Copied, Copies, DoesStep, Goes, PerhapsCopied, PerhapsDone, RenamesNew, Stops, Tells, MakesFolders, AreOfFolders}
 use Rattle.std.specs.Str.{bytes_eq}
-use Rattle.msr_tree.specs.Steps.{ChangesOnly, Failed, FileStored, FolderMade, FolderStored, IsNoneOf, Linked, Made, Path, Removed, Renamed, Spares, Step, failures, now, touches}
+use Rattle.msr_tree.specs.Steps.{ChangesOnly, Failed, FileStored, FolderMade, FolderStored, IsNoneOf, Linked, Made, Path, Removed, Renamed, Spares, Step, Unlisted, failures, now, touches}
 use Rattle.msr_tree.specs.declared.tree.TreeFault.{TreeFault}
 use Rattle.msr_tree.specs.declared.tree.TreeFault.TheVariants as fault
 use Rattle.msr_tree.proofs.Changes.{changes_more, changes_none, changes_then}
@@ -24,6 +24,7 @@ more_fail old (Removed at ∷ made) = more_fail old made
 more_fail old (FileStored at ∷ made) = more_fail old made
 more_fail old (FolderStored at ∷ made) = more_fail old made
 more_fail old (FolderMade at ∷ made) = more_fail old made
+more_fail old (Unlisted at ∷ made) = more_fail old made
 more_fail old (Failed ∷ made) = let so = more_fail old made in omega arith
 
 pub no_fewer : (names : List Path) (old new : List Step) → ChangesOnly names old new → failures old ≤ failures new
@@ -250,6 +251,7 @@ folders_spare name (Linked from to ∷ made) are = absurd are
 folders_spare name (Renamed from to ∷ made) are = absurd are
 folders_spare name (Removed at ∷ made) are = absurd are
 folders_spare name (FileStored at ∷ made) are = absurd are
+folders_spare name (Unlisted at ∷ made) are = absurd are
 
 pub goes_folders : {T : Type 0} (names : List Path) (result : Result T TreeFault) (one two : List Step → Type 0) → Goes one two (MakesFolders result) → Goes one two (Acts names (λ old new answer. Unit {0}) result)
 goes_folders names result one two goes = goes_as _ _ one two (λ p q makes. record {

@@ -2,7 +2,7 @@
 use Rattle.std.proofs.Common.{◌≡◌, ◌⊎◌, inl, inr, ⊎_elim, ℕ, Bool, true, false, ◌||◌, List, [], ◌∷◌, refl, if◌then◌else◌, subst, Option, Some, None, option_map}
 use Rattle.std.specs.Str.{bytes_eq}
 use Rattle.std.proofs.lemmas.Slice.Eq.{bytes_eq-Decides}
-use Rattle.msr_tree.specs.Steps.{Failed, File, FileStored, FolderMade, FolderStored, IfThenElse, IsStored, Leaves, Linked, Made, MayLead, MayLeave, Path, Removed, Renamed, ShowsAfter, Step, now, seen, stands_in, touches}
+use Rattle.msr_tree.specs.Steps.{Failed, File, FileStored, FolderMade, FolderStored, IfThenElse, IsStored, Leaves, Linked, Made, MayLead, MayLeave, Path, Removed, Renamed, ShowsAfter, Step, Unlisted, now, seen, stands_in, touches}
 
 both : {P Q : Type 0} (test : Bool) → P → Q → IfThenElse test P Q
 both true p q = p
@@ -25,6 +25,7 @@ leads_now (Removed at ∷ past) name = inr refl
 leads_now (FileStored at ∷ past) name = inr refl
 leads_now (FolderStored at ∷ past) name = both (stands_in at name) refl (leads_now past name)
 leads_now (FolderMade at ∷ past) name = inr refl
+leads_now (Unlisted at ∷ past) name = inr refl
 leads_now (Failed ∷ past) name = inr refl
 
 shows_seen : (past : List Step) (found : Option File) → ShowsAfter past found (option_map (λ file. file.bytes) found)
@@ -44,6 +45,7 @@ stays (Removed at) past file stored = stored
 stays (FileStored at) past file stored = inl stored
 stays (FolderStored at) past file stored = stored
 stays (FolderMade at) past file stored = stored
+stays (Unlisted at) past file stored = stored
 stays Failed past file stored = stored
 
 fewer : (step : Step) (past : List Step) (found : Option File) (after : Option (List ℕ)) → ShowsAfter (step ∷ past) found after → ShowsAfter past found after
@@ -59,6 +61,7 @@ leads (Removed at) past name found may = may
 leads (FileStored at) past name found may = may
 leads (FolderStored at) past name found may = ⊎_elim (λ same. inr same) (λ before. inl before) (either (stands_in at name) may)
 leads (FolderMade at) past name found may = may
+leads (Unlisted at) past name found may = may
 leads Failed past name found may = may
 
 -- after a step a crash may leave what it might before, or what the name leads to now
@@ -113,6 +116,7 @@ untouched (Removed at) past name not = rw not refl
 untouched (FileStored at) past name not = refl
 untouched (FolderStored at) past name not = refl
 untouched (FolderMade at) past name not = refl
+untouched (Unlisted at) past name not = refl
 untouched Failed past name not = refl
 
 -- what a crash leaves goes on while a name is left alone

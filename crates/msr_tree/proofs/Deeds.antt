@@ -9,7 +9,7 @@ use Rattle.msr_tree.specs.Memory.{LeavesName, step_of, steps_kept, target_of}
 use Rattle.msr_tree.specs.Calls.{Goes, MakesFolders, PerhapsDone, Stops}
 use Rattle.msr_tree.specs.declared.tree.TreeFault.{TreeFault}
 use Rattle.msr_tree.specs.declared.tree.TreeFault.TheVariants as fault
-use Rattle.msr_tree.specs.Steps.{Failed, FileStored, FolderMade, FolderStored, IsAtRest, Leaves, Linked, Made, MayLeave, Path, Removed, Renamed, ShowsAfter, Step, folder_above, now, seen}
+use Rattle.msr_tree.specs.Steps.{Failed, FileStored, FolderMade, FolderStored, IsAtRest, Leaves, Linked, Made, MayLeave, Path, Removed, Renamed, ShowsAfter, Step, Unlisted, folder_above, now, seen}
 use Rattle.msr_tree.specs.declared.memory.deed.Deed.{Deed}
 use Rattle.msr_tree.proofs.Changes.{ready_settled, ready_stored}
 use Rattle.msr_tree.proofs.Crash.{is_self, leaves_seen, still}
@@ -59,6 +59,7 @@ without (Removed at) past name not none = two (bytes_eq name at)
 without (FileStored at) past name not none = none
 without (FolderStored at) past name not none = none
 without (FolderMade at) past name not none = none
+without (Unlisted at) past name not none = none
 without Failed past name not none = none
 
 -- A name after a crash while the names of some steps are still to be given: it is as it may be, or has no file, as it

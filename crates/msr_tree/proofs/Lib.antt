@@ -4,4 +4,7 @@ pub mod Crash
 pub mod Deeds
 pub mod FolderLemmas
 pub mod Moments
+pub mod Names
+pub mod PathLemmas
+pub mod Reading
 pub mod Unknown

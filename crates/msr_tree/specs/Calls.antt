@@ -1,7 +1,7 @@
 -- What one call does.
 use Rattle.std.specs.Prelude.{◌<◌, IsErrOf, ◌≡◌, ◌≢◌, ◌⊎◌, ℕ, Bool, true, false, List, [], ◌∷◌, ◌++◌, Option, None, Some, Result, Ok, Err, IsSome, IsSomeAnd, length}
 use Rattle.msr_devices.specs.Device.{Device, unused}
-use Rattle.msr_tree.specs.Steps.{Failed, FolderMade, FolderStored, Linked, Made, Path, Renamed, Step, failures, now, seen}
+use Rattle.msr_tree.specs.Steps.{Failed, File, FolderMade, FolderStored, Linked, Made, Path, Renamed, Step, failures, now, seen}
 use Rattle.msr_tree.specs.declared.tree.TreeFault.{TreeFault}
 use Rattle.msr_tree.specs.declared.tree.TreeFault.TheVariants as fault
 use Rattle.msr_tree.specs.declared.facts.Facts.{Facts}
@@ -82,6 +82,15 @@ pub record IsSameAs (one other : Path) (past : List Step) (same : Bool) : Type 0
   pub has_other : IsSome (now past other)
   pub yes : same ≡ true → seen past one ≡ seen past other
   pub no : same ≡ false → seen past one ≢ seen past other
+
+-- both names lead to one file
+abbrev pub AreOneFile : (one other : Path) → List Step → Type 0
+AreOneFile one other past = (file : File) × (now past one ≡ Some file) × (now past other ≡ Some file)
+
+-- the answer is whether they do
+pub record TellsOneFile (one other : Path) (past : List Step) (answer : Bool) : Type 0 where
+  pub yes : answer ≡ true → AreOneFile one other past
+  pub no : answer ≡ false → ¬ (AreOneFile one other past)
 
 -- what can be read is what the name leads to
 abbrev pub Opens : Path → List Step → Device → Type 0

@@ -1,4 +1,6 @@
 pub mod Acts
 pub mod Calls
+pub mod Listing
 pub mod Memory
+pub mod Reads
 pub mod Steps

@@ -13,7 +13,8 @@ is_separator byte = byte == 47
 abbrev pub folder_above : Path → Path
 folder_above path = before_last is_separator path
 
--- Something that was done. `Failed` is a call that failed, whatever it has done before it did.
+-- Something that was done. `Failed` is a call that failed, whatever it has done before it did; `Unlisted` is a folder of
+-- which a call gave no list.
 pub data Step : Type 0 where
   Made : Path → (bytes : List ℕ) → Step
   Linked : (from to : Path) → Step
@@ -22,6 +23,7 @@ pub data Step : Type 0 where
   FileStored : Path → Step
   FolderStored : (folder : Path) → Step
   FolderMade : (folder : Path) → Step
+  Unlisted : (folder : Path) → Step
   Failed : Step
 
 -- its bytes, and how many steps came before it was made, which no other file has
@@ -41,6 +43,7 @@ now (Removed at ∷ past) name = if bytes_eq name at then None else now past nam
 now (FileStored at ∷ past) name = now past name
 now (FolderStored at ∷ past) name = now past name
 now (FolderMade at ∷ past) name = now past name
+now (Unlisted at ∷ past) name = now past name
 now (Failed ∷ past) name = now past name
 
 -- what a reader sees under a name
@@ -113,6 +116,7 @@ touches (Removed at) name = bytes_eq name at
 touches (FileStored at) name = false
 touches (FolderStored at) name = false
 touches (FolderMade at) name = false
+touches (Unlisted at) name = false
 touches Failed name = false
 
 -- none of these steps does

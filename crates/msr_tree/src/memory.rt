@@ -5,6 +5,7 @@ mod crash;
 pub(crate) mod deed;
 pub(crate) mod deeds;
 mod failure;
+mod listing;
 mod reader;
 mod tree;
 mod writer;

@@ -4,12 +4,15 @@ ghost use Rattle.std.specs.Prelude.{◌≡◌};
 
 mod bytes;
 mod facts;
+mod listing;
 mod writer;
 
 use crate::facts::{Facts, Kind, Time};
+use crate::kind::FileKind;
 use crate::paths::{folder_above, is_within};
 use crate::system::bytes::has_same_bytes;
 use crate::system::facts::{RIGHTS, facts_of, system_time};
+use crate::system::listing::{kind_of, names_in};
 pub use crate::system::writer::SystemWriter;
 use crate::tree::{Tree, TreeFault};
 use msr_devices::{DeviceFault, FromRead, FromWrite};
@@ -68,6 +71,15 @@ impl<'a, R: Files> SystemTree<'a, R> {
             Ok(metadata) => Ok(Some(facts_of(&metadata))),
             Err(error) if tells_none(error.kind()) => Ok(None),
             Err(error) => Err(error),
+        }
+    }
+
+    /// What stands under a name, links followed.
+    fn followed(&self, path: &str) -> Result<Option<Facts>, TreeFault> {
+        match fs::metadata(self.rt, path) {
+            Ok(metadata) => Ok(Some(facts_of(&metadata))),
+            Err(error) if tells_none(error.kind()) => Ok(None),
+            Err(error) => Err(error.into()),
         }
     }
 
@@ -311,6 +323,36 @@ impl<'a, R: Files> Tree for SystemTree<'a, R> {
     fn look(&mut self, path: &str) -> Result<Option<Facts>, TreeFault> {
         let found = self.found(path);
         self.told(found)
+    }
+
+    fn list(&mut self, folder: &str) -> Result<Vec<String>, TreeFault> {
+        Ok(names_in(self.rt, self.alloc, folder)?)
+    }
+
+    fn kind(&self, path: &str) -> FileKind {
+        kind_of(self.rt, path)
+    }
+
+    fn has(&mut self, path: &str) -> Result<bool, TreeFault> {
+        Ok(self.found(path)?.is_some())
+    }
+
+    fn is_one(&mut self, one: &str, other: &str) -> Result<bool, TreeFault> {
+        let Some(first) = self.followed(one)? else {
+            return Ok(false);
+        };
+        match self.followed(other)? {
+            Some(second) => Ok(is_one_file(&first, &second)),
+            None => Ok(false),
+        }
+    }
+
+    fn follow(&mut self, path: &str) -> Result<FromRead<R::File>, TreeFault> {
+        match self.followed(path)? {
+            Some(facts) if facts.kind == Kind::Regular => {}
+            _ => return Err(TreeFault::Failed),
+        }
+        Ok(FromRead::new(File::open(self.rt, path)?))
     }
 
     fn open(&mut self, path: &str) -> Result<FromRead<R::File>, TreeFault> {

@@ -1,11 +1,16 @@
 //! What is done with names.
 ghost use Rattle.std.specs.Prelude.{◌≡◌, List, IfOk};
+ghost use Rattle.std.specs.Cmp.Lexicographic.{slice_cmp};
+ghost use Rattle.std.specs.List.Sorted.{IsStrictlySortedBy};
+ghost use Rattle.std.specs.Ordering.{nat_cmp};
 ghost use Rattle.msr_devices.specs.Device.{CanCountCall};
-ghost use Rattle.msr_tree.specs.Calls.{Begins, Copies, DoesStep, Finishes, Goes, IsSameAs, Looks, MakesFolders, Opens, RenamesNew, Tells};
+ghost use Rattle.msr_tree.specs.Calls.{Begins, Copies, DoesStep, Finishes, Goes, IsSameAs, Looks, MakesFolders, Opens, RenamesNew, Tells, TellsOneFile};
+ghost use Rattle.msr_tree.specs.Listing.{IsTold, ListsFolder, is_there, listed};
 ghost use Rattle.msr_tree.specs.Steps.{FileStored, FolderStored, Removed, Renamed, Step};
 ghost use Rattle.msr_tree.specs.declared.tree.TreeFault.TheVariants.{Memory};
 
 use crate::facts::{Facts, Time};
+use crate::kind::FileKind;
 use msr_devices::{Sink, Source};
 use std::alloc::AllocError;
 use thiserror::Error;
@@ -42,6 +47,31 @@ pub trait Tree {
     /// What stands under a name, links not followed.
     fn look(&mut self, path: &str) -> Result<Option<Facts>, TreeFault>
         ensures { Goes (went self.old) (went self.new) (Tells (Looks path.now) result) };
+
+    /// The names of what stands in a folder, in the order of their bytes, each once. A folder that goes away meanwhile has
+    /// no list, nor has one with a name that is not UTF-8.
+    fn list(&mut self, folder: &str) -> Result<Vec<String>, TreeFault>
+        ensures went { Goes (went self.old) (went self.new)
+            (ListsFolder folder.now (λ names. listed names.items) result) }
+        ensures ascend { IfOk result (λ names. IsStrictlySortedBy (slice_cmp nat_cmp) (listed names.items)) };
+
+    /// What stands under a name, links followed. What the system does not tell of may be a folder.
+    fn kind(&self, path: &str) -> FileKind
+        ensures { (past : List Step) → went self.now past → IsTold past path.now result };
+
+    /// Whether something stands under a name, links not followed.
+    fn has(&mut self, path: &str) -> Result<bool, TreeFault>
+        ensures { Goes (went self.old) (went self.new) (Tells (λ past answer. answer ≡ is_there past path.now) result) };
+
+    /// Whether two names lead to one file, links followed.
+    fn is_one(&mut self, one: &str, other: &str) -> Result<bool, TreeFault>
+        ensures { Goes (went self.old) (went self.new) (Tells (TellsOneFile one.now other.now) result) };
+
+    /// Opens the regular file to which a name leads, links followed, to be read from its start.
+    fn follow(&mut self, path: &str) -> Result<Self::Reader, TreeFault>
+        ensures went { Goes (went self.old) (went self.new)
+            (Tells (λ past reader. Opens path.now past (Self.Reader.device reader)) result) }
+        ensures count { IfOk result (λ reader. CanCountCall (Self.Reader.device reader)) };
 
     /// Opens a regular file to be read from its start.
     fn open(&mut self, path: &str) -> Result<Self::Reader, TreeFault>

@@ -10,10 +10,11 @@ use crate::day::judge_day;
 use crate::judgement::{Judgement, Refusal};
 use crate::tally::VerifyTally;
 use msr_devices::{DeviceFault, Sink, write_all};
-use msr_folders::{FileKind, FolderWalk, Visitor, WalkFound, is_gone, join, visit_folders};
+use msr_folders::{FolderWalk, Visitor, WalkFound, is_gone, join, visit_folders};
 use msr_options::Verifying;
 use msr_sds::SdsName;
 use msr_tool::ToolFault;
+use msr_tree::FileKind;
 use std::alloc::{AllocError, Global};
 use std::rt::Files;
 

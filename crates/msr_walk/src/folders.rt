@@ -14,12 +14,11 @@ use crate::outcome::{DayFault, Outcome};
 use crate::summary::write_summary;
 use crate::tally::Tally;
 use msr_devices::{DeviceFault, Sink, write_all};
-use msr_folders::{
-    FileId, FileKind, FolderWalk, Place, Visitor, WalkFound, join, place_of, visit_folders,
-};
+use msr_folders::{FileId, FolderWalk, Place, Visitor, WalkFound, join, place_of, visit_folders};
 use msr_options::{Archiving, Unopened};
 use msr_sds::SdsName;
 use msr_tool::ToolFault;
+use msr_tree::FileKind;
 use std::alloc::{AllocError, Global};
 use std::fs;
 use std::rt::Files;

@@ -11,11 +11,12 @@ pub(crate) enum Deed {
     FileStored(String),
     FolderStored(String),
     FolderMade(String),
+    Unlisted(String),
     Failed,
 }
 
 impl Deed {
-    ghost use Rattle.msr_tree.specs.Memory.{step_of, target_of};
+    ghost use Rattle.msr_tree.specs.Memory.{made_at, step_of, target_of};
 
     /// The name that gets a file.
     pub(super) fn target(&self) -> Option<&str>
@@ -25,6 +26,16 @@ impl Deed {
             Deed::Made(at, _) => Some(at.as_str()),
             Deed::Linked(_, to) | Deed::Renamed(_, to) => Some(to.as_str()),
             _ => None,
+        }
+    }
+
+    /// The name that gets a file or a folder.
+    pub(super) fn place(&self) -> Option<&str>
+        ensures { option_map (λ name. name.now) result ≡ made_at (step_of self.now) }
+    {
+        match self {
+            Deed::FolderMade(at) => Some(at.as_str()),
+            _ => self.target(),
         }
     }
 }

@@ -45,7 +45,11 @@ pub(crate) fn find<'a>(deeds: &'a [Deed], name: &str) -> Option<Found<'a>>
                     return None;
                 }
             }
-            Deed::FileStored(_) | Deed::FolderStored(_) | Deed::FolderMade(_) | Deed::Failed => {}
+            Deed::FileStored(_)
+            | Deed::FolderStored(_)
+            | Deed::FolderMade(_)
+            | Deed::Unlisted(_)
+            | Deed::Failed => {}
         }
         rest = before;
     }

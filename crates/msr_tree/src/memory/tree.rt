@@ -6,11 +6,13 @@ ghost use Rattle.msr_tree.specs.declared.facts.Kind.TheVariants.{Regular};
 ghost use Rattle.msr_tree.specs.declared.tree.TreeFault.TheVariants.{Memory};
 
 use crate::facts::{Facts, Kind, Rights, Time};
+use crate::kind::FileKind;
 use crate::memory::choices::Choices;
 use crate::memory::crash::left;
 use crate::memory::deed::Deed;
 use crate::memory::deeds::{Found, find};
 use crate::memory::failure::{Ending, Failure};
+use crate::memory::listing::{are_one, has_folder, is_there, kind_at, names_in};
 use crate::memory::reader::MemoryReader;
 use crate::memory::writer::MemoryWriter;
 use crate::paths::{folder_above, is_within};
@@ -314,6 +316,32 @@ impl Tree for MemoryTree {
             None if self.is_folder(path) => Ok(Some(FOLDER)),
             None => Ok(None),
         }
+    }
+
+    fn list(&mut self, folder: &str) -> Result<Vec<String>, TreeFault> {
+        let unlisted = Deed::Unlisted(self.own(folder)?);
+        if !has_folder(self.deeds.as_slice(), folder) || self.next_ending().is_some() {
+            return Err(self.refuse_after(unlisted));
+        }
+        Ok(names_in(self.alloc, self.deeds.as_slice(), folder)?)
+    }
+
+    fn kind(&self, path: &str) -> FileKind {
+        kind_at(self.deeds.as_slice(), path)
+    }
+
+    fn has(&mut self, path: &str) -> Result<bool, TreeFault> {
+        self.tells()?;
+        Ok(is_there(self.deeds.as_slice(), path))
+    }
+
+    fn is_one(&mut self, one: &str, other: &str) -> Result<bool, TreeFault> {
+        self.tells()?;
+        Ok(are_one(self.deeds.as_slice(), one, other))
+    }
+
+    fn follow(&mut self, path: &str) -> Result<MemoryReader, TreeFault> {
+        self.open(path)
     }
 
     fn open(&mut self, path: &str) -> Result<MemoryReader, TreeFault> {

@@ -1,6 +1,6 @@
 use Rattle.std.proofs.lemmas.Result.{err_from_is_err_and}
 use Rattle.msr_devices.specs.declared.fault.DeviceFault.TheVariants.{Memory}
-use Rattle.msr_folders.proofs.visitor.+visit_folder.Goals.{then-levels-gt0+then-eq-2+in_ok-visit_folder, else-levels-gt0+in_ok-visit_entry}
+use Rattle.msr_folders.proofs.visitor.+visit_folder.Goals.{then-levels-gt0+then-eq+in_ok-visit_folder, else-levels-gt0+in_ok-visit_entry}
 use Rattle.msr_folders.proofs.visitor.+visit_folder.Goals as goal
 
 -- A `_` in place of an argument is dear: it is filled in with all that the walk knows.
@@ -36,7 +36,7 @@ returns-in_err-visit_entry-clause-stops g t c =
 
 pub loop-name-preserved : goal.loop-name-preserved
 loop-name-preserved g t c = elim c.if-levels-gt0.branch [
-  | then-levels-gt0+then-eq-2+in_ok-visit_folder w ↦ rw (w.out-is, w.tally-is) (g.met.V.Visitor.laws.more
+  | then-levels-gt0+then-eq+in_ok-visit_folder w ↦ rw (w.out-is, w.tally-is) (g.met.V.Visitor.laws.more
       c.args.walk.now.visitor.now (g.O.Sink.device c.args.out.now) (g.O.Sink.device c.loop-name.out)
       (g.O.Sink.device w.visit_folder.new.out) c.args.tally.now c.loop-name.tally w.visit_folder.new.tally
       c.loop-name.invariant w.in_ok-visit_folder.ensures.told)

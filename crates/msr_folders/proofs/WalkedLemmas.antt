@@ -1,0 +1,273 @@
+-- A walk, put together from visits.
+use Rattle.std.proofs.Common.{◌≡◌, ◌≢◌, ◌<◌, inl, inr, ⊎_elim, ℕ, zero, suc, ◌-◌, Bool, true, false, if◌then◌else◌, List, [], ◌∷◌, ◌++◌, refl, sym, ◌∙◌, ap, subst, append_assoc, arith, get_or, length, Ok, Err, OnOk, Result, Option, unwrap_or}
+use Rattle.std.proofs.lemmas.List.{append-nil}
+use Rattle.std.specs.Borrow.{Bor}
+use Rattle.std.specs.Prelude.{String, string_bytes}
+use Rattle.msr_sds.specs.Folders.{IsDepthBelow}
+use Rattle.msr_devices.specs.Device.{Device}
+use Rattle.msr_devices.specs.declared.fault.DeviceFault.{DeviceFault}
+use Rattle.msr_tree.specs.Calls.{Goes}
+use Rattle.msr_tree.specs.Listing.{IsListing, IsTold, has_folder, is_there, kind_now, listed, unlisted_after}
+use Rattle.msr_tree.specs.Steps.{Failed, Path, Step, Unlisted}
+use Rattle.msr_tree.specs.declared.kind.FileKind.{FileKind}
+use Rattle.msr_tree.specs.declared.kind.FileKind.TheVariants.{Folder, Gone, Other}
+use Rattle.msr_folders.specs.Entries.{AreEntriesBelow, AreEntries, AreOfEntry, Entry, ForEach, IsSameWithin, Visit, WithoutList, unlisted_in}
+use Rattle.msr_folders.specs.Paths.{below, joined}
+use Rattle.msr_folders.specs.Walks.{IsSaidBetween, IsWalked, TellsVisit, TellsWalk, VisitDoes, VisitLaws}
+use Rattle.msr_folders.proofs.EntryLemmas.{entries_same, entry_same, for_each_append, for_each_as, for_each_one, for_each_push, unlisted_append}
+
+-- one call, and then another
+pub goes_then : (One Two Both : (old new : List Step) → Type 0) (before mid after : List Step → Type 0)
+    → ((old middle new : List Step) → One old middle → Two middle new → Both old new)
+    → Goes before mid One → Goes mid after Two → Goes before after Both
+goes_then One Two Both before mid after so one two = record {
+  from = λ new went.
+      let later = two.from new went in
+      let sooner = one.from later.0 later.1 in
+      (sooner.0, sooner.1, so sooner.0 later.0 new sooner.2 later.2);
+}
+
+-- the same in other words, of steps that may have been done before
+pub goes_so : (One Two : (old new : List Step) → Type 0) (before after : List Step → Type 0)
+    → ((old new : List Step) → before old → One old new → Two old new) → Goes before after One → Goes before after Two
+goes_so One Two before after so goes = record {
+  from = λ new went. let sooner = goes.from new went in (sooner.0, sooner.1, so sooner.0 new sooner.1 sooner.2);
+}
+
+-- nothing was done
+pub goes_none : (Does : (old new : List Step) → Type 0) (before : List Step → Type 0) → ((past : List Step) → Does past past) → Goes before before Does
+goes_none Does before still = record { from = λ new went. (new, went, still new) }
+
+said_now : {L : Type 0} (Says : (old new : List Step) → Visit → List L → Type 0) (Does : (old new : List Step) → Type 0) → ((past : List Step) → Does past past)
+    → (old new : List Step) (visit : Visit) (lines : List L) → Says old new visit lines → IsSaidBetween Says Does old new visit lines
+said_now Says Does still old new visit lines said = record { from = old; to = new; before = still old; says = said; after = still new }
+
+-- what was said between two moments was so between earlier and later ones
+said_between : {L : Type 0} (Says : (old new : List Step) → Visit → List L → Type 0) (Does : (old new : List Step) → Type 0)
+    → ((old mid new : List Step) → Does old mid → Does mid new → Does old new) → (old from to new : List Step) → Does old from → Does to new
+    → (visit : Visit) (lines : List L) → IsSaidBetween Says Does from to visit lines → IsSaidBetween Says Does old new visit lines
+said_between Says Does onward old from to new before after visit lines said = record {
+  from = said.from;
+  to = said.to;
+  before = onward old from said.from before said.before;
+  says = said.says;
+  after = onward said.to to new said.after after;
+}
+
+-- what is told of an entry that is no folder
+pub entry_alone : (past : List Step) (root path : Path) (levels : ℕ) (kind : FileKind) → (0 < levels → kind ≢ Folder) → (0 < levels → IsTold past (joined root path) kind)
+    → (levels ≡ 0 → kind ≡ Other) → AreOfEntry past root levels path (Entry path kind ∷ [])
+entry_alone past root path zero kind alone told none = ap (λ k. Entry path k ∷ []) (none refl)
+entry_alone past root path (suc levels) kind alone told none = ⊎_elim
+    (λ folder. absurd (alone (omega arith) folder))
+    (λ is. inr (no_folder (alone (omega arith)) is, ap (λ k. Entry path k ∷ []) is))
+    (told (omega arith))
+  where
+    no_folder : kind ≢ Folder → kind ≡ kind_now past (joined root path) → has_folder past (joined root path) ≡ false
+    no_folder apart is = by (has_folder past (joined root path)) refl
+      where
+        by : (test : Bool) → has_folder past (joined root path) ≡ test → test ≡ false
+        by false e = refl
+        by true e = absurd (apart (is ∙ ap (λ f. if f then Folder else if is_there past (joined root path) then Other else Gone) e))
+
+-- the entries of a folder are those of an entry
+pub folder_entry : (past : List Step) (root path : Path) (levels : ℕ) (visits : List Visit) → 0 < levels → AreEntries past root (levels - 1) path visits → AreOfEntry past root levels path visits
+folder_entry past root path zero visits some are = absurd (omega arith)
+folder_entry past root path (suc levels) visits some are =
+    let less : suc levels - 1 ≡ levels = omega arith in
+    inl (subst (λ n. AreEntries past root n path visits) less are)
+
+-- the entries of a folder that were visited so far
+abbrev pub SoFar : (root : Path) → (levels : ℕ) → (folder : Path) → (names taken : List Path) → List Step → List Visit → Type 0
+SoFar root levels folder names taken past visits =
+    IsListing past (joined root folder) names × ForEach (λ name. AreOfEntry past root levels (below folder name)) taken visits
+
+-- a call that gave no list
+abbrev pub IsUnlisted : (place : Path) → (old new : List Step) → Type 0
+IsUnlisted place old new = (left : List Step) × (left ≡ Unlisted place ∷ old) × (new ≡ Failed ∷ left)
+
+without : (place : Path) (old new : List Step) → IsUnlisted place old new → new ≡ Failed ∷ Unlisted place ∷ old
+without place old new is = is.2 ∙ ap (λ l. Failed ∷ l) is.1
+
+pub on_ok_as : {A E : Type 0} {P Q : Type 0} (result : Result A E) → (P → Q) → OnOk result P → OnOk result Q
+on_ok_as (Ok x) so p = so p
+on_ok_as (Err why) so p = tt
+
+-- the name of an entry among all
+pub name_at : {Z : Type 0} (items : List (String Z)) (i : ℕ) (item : String Z) → i < length items → get_or items i item ≡ item → get_or (listed items) i [] ≡ string_bytes item
+name_at [] i item lt is = absurd (omega (arith, lt))
+name_at (first ∷ items) zero item lt is = ap (λ s. string_bytes s) is
+name_at (first ∷ items) (suc i) item lt is = name_at items i item (omega (arith, lt)) is
+
+module _ {V L T : Type 0} (tells : V → List L → (out0 out : Device) → (tally0 tally : T) → Type 0)
+    (stops : V → (out0 out : Device) → DeviceFault → Type 0) (says : V → (old new : List Step) → Visit → List L → Type 0)
+    (does : V → (old new : List Step) → Type 0) (spared : V → Path) (laws : VisitLaws tells stops does spared) (visitor : V) (root : Path) where
+  abbrev Walk : (Are : List Step → List Visit → Type 0) (before after : List Step → Type 0) (out0 out : Device) (tally0 tally : T) → Type 0
+  Walk Are before after out0 out tally0 tally = TellsWalk (tells visitor) (says visitor) (does visitor) root Are before after out0 out tally0 tally
+
+  walked_more : (One Two Both : List Step → List Visit → Type 0) (visits more : List Visit) (lines others : List L) (old mid new : List Step)
+      → ((old mid : List Step) (visits more : List Visit) → does visitor old mid → One old visits → Two mid more → Both old (visits ++ more))
+      → IsWalked (says visitor) (does visitor) root One visits lines old mid → IsWalked (says visitor) (does visitor) root Two more others mid new
+      → IsWalked (says visitor) (does visitor) root Both (visits ++ more) (lines ++ others) old new
+  walked_more One Two Both visits more lines others old mid new so one two = record {
+    are = so old mid visits more one.does one.are two.are;
+    says =
+        let Said : (old new : List Step) → Visit → List L → Type 0 = IsSaidBetween (says visitor) (does visitor) in
+        let wider = said_between (says visitor) (does visitor) (laws.onward visitor) in
+        for_each_append (Said old new) visits more lines others
+        (for_each_as (Said old mid) (Said old new) visits lines (wider old old mid new (laws.still visitor old) two.does) one.says)
+        (for_each_as (Said mid new) (Said old new) more others (wider old mid new new one.does (laws.still visitor new)) two.says);
+    does = laws.onward visitor old mid new one.does two.does;
+    unlisted = two.unlisted ∙ (ap (λ l. l ++ unlisted_in root more) one.unlisted
+        ∙ (append_assoc (unlisted_after old) (unlisted_in root visits) (unlisted_in root more)
+        ∙ ap (λ l. unlisted_after old ++ l) (sym (unlisted_append root visits more))));
+  }
+
+  -- one part of a walk, and then another
+  pub walk_more : (One Two Both : List Step → List Visit → Type 0) (before mid after : List Step → Type 0) (out0 out1 out : Device) (tally0 tally1 tally : T)
+      → ((old mid : List Step) (visits more : List Visit) → does visitor old mid → One old visits → Two mid more → Both old (visits ++ more))
+      → Walk One before mid out0 out1 tally0 tally1 → Walk Two mid after out1 out tally1 tally → Walk Both before after out0 out tally0 tally
+  walk_more One Two Both before mid after out0 out1 out tally0 tally1 tally so one two = record {
+    visits = one.visits ++ two.visits;
+    lines = one.lines ++ two.lines;
+    told = laws.more visitor one.lines two.lines out0 out1 out tally0 tally1 tally one.told two.told;
+    goes = goes_then _ _ _ before mid after (λ old middle new first second. walked_more One Two Both one.visits two.visits one.lines two.lines old middle new so first second) one.goes two.goes;
+  }
+
+  -- before the first visit
+  pub walk_none : (Before : (old new : List Step) → Type 0) (Are : List Step → List Visit → Type 0) (before after : List Step → Type 0) (out : Device) (tally : T)
+      → ((old new : List Step) → Before old new → (new ≡ old) × Are old [])
+      → Goes before after Before → Walk Are before after out out tally tally
+  walk_none Before Are before after out tally so goes = record {
+    visits = [];
+    lines = [];
+    told = laws.none visitor out tally;
+    goes = goes_so _ _ before after (λ old new went first.
+        let is = so old new first in
+        record {
+          are = is.1;
+          says = refl;
+          does = subst (λ l. does visitor old l) (sym is.0) (laws.still visitor old);
+          unlisted = ap unlisted_after is.0 ∙ sym (append-nil (unlisted_after old));
+        }) goes;
+  }
+
+  -- an entry
+  pub walk_entry : (Are : List Step → List Visit → Type 0) (path : Path) (kind : FileKind) (before after : List Step → Type 0) (out0 out : Device) (tally0 tally : T)
+      → ((past : List Step) → before past → Are past (Entry path kind ∷ []))
+      → TellsVisit (tells visitor) (says visitor) (does visitor) (Entry path kind) before after out0 out tally0 tally
+      → Walk Are before after out0 out tally0 tally
+  walk_entry Are path kind before after out0 out tally0 tally so visit = record {
+    visits = Entry path kind ∷ [];
+    lines = visit.lines;
+    told = visit.told;
+    goes = goes_so _ _ before after (λ old new went is. record {
+      are = so old went;
+      says = for_each_one (IsSaidBetween (says visitor) (does visitor) old new) (Entry path kind) visit.lines (said_now (says visitor) (does visitor) (laws.still visitor) old new (Entry path kind) visit.lines is.says);
+      does = is.done.does;
+      unlisted = is.done.lists_none ∙ sym (append-nil (unlisted_after old));
+    }) visit.goes;
+  }
+
+  pub does_without : (place : Path) (old mid new : List Step) → IsUnlisted place old mid → does visitor mid new → does visitor old new
+  does_without place old mid new is next = laws.onward visitor old mid new (subst (λ l. does visitor old l) (sym (without place old mid is)) (laws.unlisted visitor old place)) next
+
+  -- a folder that has no list
+  pub walk_unlisted : (levels : ℕ) (folder place : Path) (before mid after : List Step → Type 0) (out0 out : Device) (tally0 tally : T)
+      → place ≡ joined root folder
+      → Goes before mid (IsUnlisted place)
+      → TellsVisit (tells visitor) (says visitor) (does visitor) (WithoutList folder) mid after out0 out tally0 tally
+      → Walk (λ past. AreEntries past root levels folder) before after out0 out tally0 tally
+  walk_unlisted levels folder place before mid after out0 out tally0 tally at lists visit = record {
+    visits = WithoutList folder ∷ [];
+    lines = visit.lines;
+    told = visit.told;
+    goes = goes_then _ _ _ before mid after (λ old middle new fails is.
+        let so = without place old middle fails in
+        let done = subst (λ l. does visitor old l) (sym so) (laws.unlisted visitor old place) in
+        record {
+          are = inl refl;
+          says = for_each_one (IsSaidBetween (says visitor) (does visitor) old new) (WithoutList folder) visit.lines
+              (said_between (says visitor) (does visitor) (laws.onward visitor) old middle new new done (laws.still visitor new) (WithoutList folder) visit.lines
+              (said_now (says visitor) (does visitor) (laws.still visitor) middle new (WithoutList folder) visit.lines is.says));
+          does = laws.onward visitor old middle new done is.done.does;
+          unlisted = is.done.lists_none ∙ (ap unlisted_after so ∙ ap (λ p. unlisted_after old ++ p ∷ []) at);
+        }) lists visit.goes;
+  }
+
+  -- the same walk, seen another way
+  pub walk_as : (Are Seen : List Step → List Visit → Type 0) (before after : List Step → Type 0) (out0 out : Device) (tally0 tally : T)
+      → ((past : List Step) (visits : List Visit) → Are past visits → Seen past visits) → Walk Are before after out0 out tally0 tally → Walk Seen before after out0 out tally0 tally
+  walk_as Are Seen before after out0 out tally0 tally so walk = record {
+    visits = walk.visits;
+    lines = walk.lines;
+    told = walk.told;
+    goes = goes_so _ _ before after (λ old new went is. record { are = so old walk.visits is.are; says = is.says; does = is.does; unlisted = is.unlisted }) walk.goes;
+  }
+
+  -- what was done
+  pub walk_does : (Are : List Step → List Visit → Type 0) (before after : List Step → Type 0) (out0 out : Device) (tally0 tally : T)
+      → Walk Are before after out0 out tally0 tally → Goes before after (does visitor)
+  walk_does Are before after out0 out tally0 tally walk = goes_so _ _ before after (λ old new went is. is.does) walk.goes
+
+  -- one call after another
+  pub then_does : (before mid after : List Step → Type 0) → Goes before mid (does visitor) → Goes mid after (does visitor) → Goes before after (does visitor)
+  then_does before mid after one two = goes_then _ _ _ before mid after (λ old middle new first second. laws.onward visitor old middle new first second) one two
+
+  pub then_visits : (before mid after : List Step → Type 0) → Goes before mid (does visitor) → Goes mid after (VisitDoes (does visitor)) → Goes before after (does visitor)
+  then_visits before mid after one two = goes_then _ _ _ before mid after (λ old middle new first second. laws.onward visitor old middle new first second.does) one two
+
+  pub same_does : (Before : (old new : List Step) → Type 0) (before after : List Step → Type 0) → ((old new : List Step) → Before old new → new ≡ old) → Goes before after Before → Goes before after (does visitor)
+  same_does Before before after so goes = goes_so _ _ before after (λ old new went first. subst (λ l. does visitor old l) (sym (so old new first)) (laws.still visitor old)) goes
+
+  -- the next name of a folder
+  pub next_name : (levels : ℕ) (folder name : Path) (names taken : List Path) (before mid after : List Step → Type 0) (out0 out1 out : Device) (tally0 tally1 tally : T)
+      → spared visitor ≡ root
+      → Walk (SoFar root levels folder names taken) before mid out0 out1 tally0 tally1
+      → Walk (λ past. AreOfEntry past root levels (below folder name)) mid after out1 out tally1 tally
+      → Walk (SoFar root levels folder names (taken ++ name ∷ [])) before after out0 out tally0 tally
+  next_name levels folder name names taken before mid after out0 out1 out tally0 tally1 tally is one two =
+      walk_more (SoFar root levels folder names taken) (λ past. AreOfEntry past root levels (below folder name)) (SoFar root levels folder names (taken ++ name ∷ []))
+      before mid after out0 out1 out tally0 tally1 tally
+      (λ old middle visits more done are entry.
+      let same : IsSameWithin root old middle = subst (λ r. IsSameWithin r old middle) is (laws.same visitor old middle done) in
+      (are.0, for_each_push (λ n. AreOfEntry old root levels (below folder n)) taken name visits more are.1 (entry_same root old middle same levels (below folder name) more entry)))
+      one two
+
+  pub next_folder : (levels : ℕ) (path : Path) (before after : List Step → Type 0) (out0 out : Device) (tally0 tally : T) → 0 < levels
+      → Walk (λ past. AreEntries past root (levels - 1) path) before after out0 out tally0 tally → Walk (λ past. AreOfEntry past root levels path) before after out0 out tally0 tally
+  next_folder levels path before after out0 out tally0 tally some walk =
+      walk_as _ _ before after out0 out tally0 tally (λ past visits are. folder_entry past root path levels visits some are) walk
+
+  pub next_entry : (levels : ℕ) (path : Path) (kind : FileKind) (before after : List Step → Type 0) (out0 out : Device) (tally0 tally : T)
+      → (0 < levels → kind ≢ Folder) → (0 < levels → (past : List Step) → before past → IsTold past (joined root path) kind) → (levels ≡ 0 → kind ≡ Other)
+      → TellsVisit (tells visitor) (says visitor) (does visitor) (Entry path kind) before after out0 out tally0 tally
+      → Walk (λ past. AreOfEntry past root levels path) before after out0 out tally0 tally
+  next_entry levels path kind before after out0 out tally0 tally alone told none visit =
+      walk_entry _ path kind before after out0 out tally0 tally (λ past went. entry_alone past root path levels kind alone (λ some. told some past went) none) visit
+
+  -- all of them
+  pub all_names : (levels : ℕ) (folder : Path) (names : List Path) (before after : List Step → Type 0) (out0 out : Device) (tally0 tally : T)
+      → Walk (SoFar root levels folder names names) before after out0 out tally0 tally → Walk (λ past. AreEntries past root levels folder) before after out0 out tally0 tally
+  all_names levels folder names before after out0 out tally0 tally walk =
+      walk_as _ _ before after out0 out tally0 tally (λ past visits are. inr (names, are.0, are.1)) walk
+
+  -- before the first folder that is asked for
+  pub no_folder_yet : (before : List Step → Type 0) (out : Device) (tally : T) → Walk (λ past. ForEach (AreEntriesBelow past root) []) before before out out tally tally
+  no_folder_yet before out tally = walk_none (λ old new. new ≡ old) (λ past. ForEach (AreEntriesBelow past root) []) before before out tally (λ old new is. (is, refl))
+      (goes_none (λ old new. new ≡ old) before (λ past. refl))
+
+  -- the next one
+  pub next_below : (levels : ℕ) (depth : Option ℕ) (folder : Bor Path) (taken : List (Bor Path)) (before mid after : List Step → Type 0) (out0 out1 out : Device) (tally0 tally1 tally : T)
+      → spared visitor ≡ root → IsDepthBelow folder.now depth → levels ≡ unwrap_or depth 0
+      → Walk (λ past. ForEach (AreEntriesBelow past root) taken) before mid out0 out1 tally0 tally1
+      → Walk (λ past. AreEntries past root levels folder.now) mid after out1 out tally1 tally
+      → Walk (λ past. ForEach (AreEntriesBelow past root) (taken ++ folder ∷ [])) before after out0 out tally0 tally
+  next_below levels depth folder taken before mid after out0 out1 out tally0 tally1 tally is deep so_deep one two =
+      walk_more (λ past. ForEach (AreEntriesBelow past root) taken) (λ past. AreEntries past root levels folder.now) (λ past. ForEach (AreEntriesBelow past root) (taken ++ folder ∷ []))
+      before mid after out0 out1 out tally0 tally1 tally
+      (λ old middle visits more done are entries.
+      let same : IsSameWithin root old middle = subst (λ r. IsSameWithin r old middle) is (laws.same visitor old middle done) in
+      let there : AreEntries old root levels folder.now more = entries_same root old middle same levels folder.now more entries in
+      for_each_push (AreEntriesBelow old root) taken folder visits more are (depth, deep, subst (λ n. AreEntries old root n folder.now more) so_deep there))
+      one two
