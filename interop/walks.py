@@ -393,18 +393,18 @@ class Walk:
 
     def hold(self, source, parts):
         """The report that was written has to show the records that were, and these have to have the segments of the
-        day's file, which is read again; another file may be read in the place of one of them."""
+        day's file; all are read again first, and another file may be read in the place of one of them."""
         packed, report = (self.read_again(path) for path in parts[:2])
+        try:
+            content = read_regular(source)
+        except OSError:
+            raise NotDone("cannot open") from None
         try:
             is_shown = verdict(packed, parsed(report))
         except (NotAReport, model.Refused):
             is_shown = False
         if not is_shown:
             raise NotKept("notshown")
-        try:
-            content = read_regular(source)
-        except OSError:
-            raise NotDone("cannot open") from None
         if model.compared(content, packed, self.task.tolerance).status != 0:
             raise NotKept("differs")
 
@@ -517,8 +517,8 @@ class Verification:
             return self.refused(path, why)
 
     def found_of(self, file, records, report):
-        """What is told of a day. All of its files are opened first; then the report is judged, then the records, and
-        then both against its own file."""
+        """What is told of a day. All of its files are opened first; then the report is judged, and then the records, read
+        side by side with its own file: what cannot be read to its end comes first."""
         report = f"{report}.txt"
         if self.is_not_there(records) or self.is_not_there(report):
             return "missing"
@@ -527,9 +527,10 @@ class Verification:
             raise NotDone("records: the file itself")
         content = self.opened("file", file)
         try:
-            read = parsed(text)
+            read = parsed(self.whole("report", text))
         except NotAReport as why:
             raise NotDone(f"report: {str(why).removeprefix('report ')}") from None
+        packed, content = self.whole("records", packed), self.whole("file", content)
         try:
             if not verdict(packed, read):
                 return "notshown"
@@ -541,11 +542,20 @@ class Verification:
         return "differs" if answer.status else "verified"
 
     def opened(self, which, path):
-        """The bytes of a regular file."""
+        """The bytes of a regular file; None if reading fails."""
         try:
-            return read_regular(path)
+            if not stat.S_ISREG(os.stat(path).st_mode):
+                raise OSError
+            file = os.open(path, os.O_RDONLY)
         except OSError:
             raise NotDone(f"{which}: cannot open") from None
+        return read_to_end(file)
+
+    @staticmethod
+    def whole(which, content):
+        if content is None:
+            raise NotDone(f"{which}: read fault")
+        return content
 
 
 def stamp_of(path):

@@ -1,141 +1,110 @@
 -- What the three files of a day show, put together from what was read of each.
-use Rattle.std.proofs.Common.{◌≡◌, ℕ, List, Result, Ok, Err, inl, inr, refl}
+use Rattle.std.proofs.Common.{◌≡◌, ◌↔◌, ℕ, List, Option, None, Some, Result, Ok, Err, IsErrOf, ap, refl}
 use Rattle.msr_devices.specs.Device.{Device, HasLeft}
 use Rattle.msr_devices.proofs.Chaining.{left_of}
-use Rattle.msr_compare.specs.Answers.{CompareAnswers}
+use Rattle.msr_compare.specs.Answers.{HaveSameSegments}
+use Rattle.msr_compare.specs.declared.comparison.Comparison.{Comparison}
+use Rattle.msr_compare.specs.declared.comparison.Comparison.TheVariants.{Same, Differ}
+use Rattle.msr_compare.specs.declared.fault.CompareFault.{CompareFault}
 use Rattle.msr_compare.specs.declared.fault.CompareFault.TheVariants.{One, Other}
-use Rattle.msr_input.specs.declared.settings.Settings.{Settings}
 use Rattle.msr_report.specs.declared.report.Report.{Report}
 use Rattle.msr_report_reader.specs.Reading.{ReadsReport}
 use Rattle.msr_report_reader.specs.declared.fault.ReportFault.{ReportFault}
 use Rattle.msr_report_reader.specs.declared.fault.ReportFault.TheVariants as report_stop
 use Rattle.msr_input.specs.declared.fault.ReadFault.{ReadFault}
 use Rattle.msr_input.specs.declared.fault.ReadFault.TheVariants as stop
-use Rattle.msr_verdict.specs.Packed.{VerifyAnswers, settings_by}
-use Rattle.msr_verdict.specs.declared.verdict.Verdict.TheVariants as verdict
-use Rattle.msr_verify.specs.Day.{ComparesData, DataAnswers, DayAnswers, IsShownLeast, VerifiesDay, verify_fault_of_report}
+use Rattle.msr_verdict.specs.Beside.{BesideAnswers}
+use Rattle.msr_verdict.specs.Packed.{ShowsLeast}
+use Rattle.msr_verify.specs.Day.{DayAnswers, IsShownLeast, VerifiesDay, finding_of, verify_fault_of_report}
 use Rattle.msr_verify.specs.declared.judging.Finding.{Finding}
-use Rattle.msr_verify.specs.declared.judging.Finding.TheVariants.{Verified, NotShown, Differs}
 use Rattle.msr_verify.specs.declared.judging.VerifyFault.{VerifyFault}
-use Rattle.msr_verify.specs.declared.judging.VerifyFault.TheVariants.{File, Records, ReportLine, ReportRead, ReportMemory}
+use Rattle.msr_verify.specs.declared.judging.VerifyFault.TheVariants.{File, Records}
 
-fault_said : (first second third text : List ℕ) (why : ReportFault) → ReadsReport text (Err why)
-    → DayAnswers first second third text (Err (verify_fault_of_report why))
-fault_said first second third text (report_stop.Line line) reads = reads
-fault_said first second third text report_stop.Read reads = tt
-fault_said first second third text report_stop.Memory reads = tt
+fault_said : (first second text : List ℕ) (why : ReportFault) → ReadsReport text (Err why)
+    → DayAnswers first second text (Err (verify_fault_of_report why))
+fault_said first second text (report_stop.Line line) reads = reads
+fault_said first second text report_stop.Read reads = tt
+fault_said first second text report_stop.Memory reads = tt
 
 -- a report that is at fault
-pub report_fails : (file records again report : Device) (text : List ℕ) (why : ReportFault) → HasLeft report text
-    → ReadsReport text (Err why) → VerifiesDay file records again report (Err (verify_fault_of_report why))
-report_fails file records again report text why left reads =
+pub report_fails : (file records report : Device) (text : List ℕ) (why : ReportFault) → HasLeft report text
+    → ReadsReport text (Err why) → VerifiesDay file records report (Err (verify_fault_of_report why))
+report_fails file records report text why left reads =
     let f = left_of file in
     let r = left_of records in
-    let a = left_of again in
     record {
       first = f.0;
       second = r.0;
-      third = a.0;
       text = text;
       left_file = f.1;
       left_records = r.1;
-      left_again = a.1;
       left_report = left;
-      answers = fault_said f.0 r.0 a.0 text why reads;
+      answers = fault_said f.0 r.0 text why reads;
     }
 
-refusal_said : (first second third text : List ℕ) (found : Report) (why : ReadFault) → ReadsReport text (Ok found)
-    → VerifyAnswers found second (Err why) → DayAnswers first second third text (Err (Records why))
-refusal_said first second third text found (stop.Input fault) reads answers =
-    inl (record { report = found; read = reads; first = answers })
-refusal_said first second third text found stop.Read reads answers = tt
-refusal_said first second third text found stop.Memory reads answers = tt
+module _ (file records text : List ℕ) (found : Report) (reads : ReadsReport text (Ok found)) where
+  -- the report that was read shows it
+  abbrev shown_by : ShowsLeast found records → IsShownLeast records text
+  shown_by least = record { report = found; read = reads; least = least }
 
--- records that are at fault, read for the report
-pub records_fail : (file records again report : Device) (second text : List ℕ) (found : Report) (why : ReadFault)
-    → HasLeft records second → HasLeft report text → ReadsReport text (Ok found) → VerifyAnswers found second (Err why)
-    → VerifiesDay file records again report (Err (Records why))
-records_fail file records again report second text found why left_records left reads answers =
-    let f = left_of file in
-    let a = left_of again in
-    record {
-      first = f.0;
-      second = second;
-      third = a.0;
-      text = text;
-      left_file = f.1;
-      left_records = left_records;
-      left_again = a.1;
-      left_report = left;
-      answers = refusal_said f.0 second a.0 text found why reads answers;
-    }
+  -- what is found of the records beside the day's own file
+  found_so : (answer : Result (Option Comparison) CompareFault) → BesideAnswers found records file answer
+      → DayAnswers file records text (finding_of answer)
+  found_so (Ok (Some (Same told))) said =
+      let same = said.same.same in
+      record {
+        shown = shown_by said.shown;
+        same = record { segments = same.segments; one_has = same.other_has; other_has = same.one_has };
+      }
+  found_so (Ok (Some (Differ difference))) said =
+      record { shown = shown_by said.shown; difference = difference; differ = said.differ }
+  found_so (Ok None) said = record { report = found; read = reads; unshown = said }
+  found_so (Err (One (stop.Input fault))) said = record { report = found; read = reads; first = said }
+  found_so (Err (One stop.Read)) said = tt
+  found_so (Err (One stop.Memory)) said = tt
+  found_so (Err (Other (stop.Input fault))) said =
+      record { shown = shown_by said.shown; first = said.faulty.faulty }
+  found_so (Err (Other stop.Read)) said = tt
+  found_so (Err (Other stop.Memory)) said = tt
 
--- records that are not shown
-pub records_unshown : (file records again report : Device) (second text : List ℕ) (found : Report)
-    → HasLeft records second → HasLeft report text → ReadsReport text (Ok found)
-    → VerifyAnswers found second (Ok verdict.NotShown) → VerifiesDay file records again report (Ok NotShown)
-records_unshown file records again report second text found left_records left reads answers =
-    let f = left_of file in
-    let a = left_of again in
-    record {
-      first = f.0;
-      second = second;
-      third = a.0;
-      text = text;
-      left_file = f.1;
-      left_records = left_records;
-      left_again = a.1;
-      left_report = left;
-      answers = record { report = found; read = reads; unshown = answers };
-    }
+  pub day_found : (file_at records_at report_at : Device) (answer : Result (Option Comparison) CompareFault)
+      → HasLeft file_at file → HasLeft records_at records → HasLeft report_at text
+      → BesideAnswers found records file answer → VerifiesDay file_at records_at report_at (finding_of answer)
+  day_found file_at records_at report_at answer left_file left_records left_report said = record {
+    first = file;
+    second = records;
+    text = text;
+    left_file = left_file;
+    left_records = left_records;
+    left_report = left_report;
+    answers = found_so answer said;
+  }
 
-comparison_said : (first second third text : List ℕ) (found : Report) (result : Result Finding VerifyFault)
-    (shown : IsShownLeast second text) → shown.report ≡ found → DataAnswers (settings_by found) first third result
-    → DayAnswers first second third text result
-comparison_said first second third text found (Ok Verified) shown is said =
-    record { shown = shown; same = rw is said }
-comparison_said first second third text found (Ok NotShown) shown is said = absurd said
-comparison_said first second third text found (Ok Differs) shown is said =
-    record { shown = shown; differ = rw is said }
-comparison_said first second third text found (Err (File (stop.Input fault))) shown is said =
-    record { shown = shown; first = rw is said }
-comparison_said first second third text found (Err (File stop.Read)) shown is said = tt
-comparison_said first second third text found (Err (File stop.Memory)) shown is said = tt
-comparison_said first second third text found (Err (Records (stop.Input fault))) shown is said =
-    inr (record { shown = shown; first = rw is said })
-comparison_said first second third text found (Err (Records stop.Read)) shown is said = tt
-comparison_said first second third text found (Err (Records stop.Memory)) shown is said = tt
-comparison_said first second third text found (Err (ReportLine line)) shown is said = absurd said
-comparison_said first second third text found (Err ReportRead) shown is said = absurd said
-comparison_said first second third text found (Err ReportMemory) shown is said = absurd said
+-- a failure of a source is found as such, and nothing else is
+failed_file : (answer : Result (Option Comparison) CompareFault)
+    → IsErrOf (finding_of answer) (File stop.Read) → IsErrOf answer (Other stop.Read)
+failed_file (Ok (Some (Same told))) e = absurd cc
+failed_file (Ok (Some (Differ difference))) e = absurd cc
+failed_file (Ok None) e = absurd cc
+failed_file (Err (One why)) e = absurd cc
+failed_file (Err (Other (stop.Input fault))) e = absurd cc
+failed_file (Err (Other stop.Read)) e = refl
+failed_file (Err (Other stop.Memory)) e = absurd cc
 
--- records that are shown, compared with the day's own file
-pub data_compared : (file records again report : Device) (second text : List ℕ) (found : Report)
-    (result : Result Finding VerifyFault) → HasLeft records second → HasLeft report text → ReadsReport text (Ok found)
-    → VerifyAnswers found second (Ok verdict.Least) → ComparesData (settings_by found) file again result
-    → VerifiesDay file records again report result
-data_compared file records again report second text found result left_records left reads least compared = record {
-  first = compared.first;
-  second = second;
-  third = compared.second;
-  text = text;
-  left_file = compared.left_file;
-  left_records = left_records;
-  left_again = compared.left_records;
-  left_report = left;
-  answers = comparison_said compared.first second compared.second text found result
-      (record { report = found; read = reads; least = least }) refl compared.answers;
-}
+failed_records : (answer : Result (Option Comparison) CompareFault)
+    → IsErrOf (finding_of answer) (Records stop.Read) → IsErrOf answer (One stop.Read)
+failed_records (Ok (Some (Same told))) e = absurd cc
+failed_records (Ok (Some (Differ difference))) e = absurd cc
+failed_records (Ok None) e = absurd cc
+failed_records (Err (Other why)) e = absurd cc
+failed_records (Err (One (stop.Input fault))) e = absurd cc
+failed_records (Err (One stop.Read)) e = refl
+failed_records (Err (One stop.Memory)) e = absurd cc
 
--- what comparing says of the day's own file that is at fault, and of its records
-pub file_said : (settings : Settings) (first second : List ℕ) (why : ReadFault)
-    → CompareAnswers settings first second (Err (One why)) → DataAnswers settings first second (Err (File why))
-file_said settings first second (stop.Input found) answers = answers
-file_said settings first second stop.Read answers = tt
-file_said settings first second stop.Memory answers = tt
+pub file_failed : {failed : Type 0} (answer : Result (Option Comparison) CompareFault)
+    → IsErrOf answer (Other stop.Read) ↔ failed → IsErrOf (finding_of answer) (File stop.Read) ↔ failed
+file_failed answer exact = (λ e. exact.0 (failed_file answer e), λ f. ap finding_of (exact.1 f))
 
-pub records_said : (settings : Settings) (first second : List ℕ) (why : ReadFault)
-    → CompareAnswers settings first second (Err (Other why)) → DataAnswers settings first second (Err (Records why))
-records_said settings first second (stop.Input found) answers = answers
-records_said settings first second stop.Read answers = tt
-records_said settings first second stop.Memory answers = tt
+pub records_failed : {failed : Type 0} (answer : Result (Option Comparison) CompareFault)
+    → IsErrOf answer (One stop.Read) ↔ failed → IsErrOf (finding_of answer) (Records stop.Read) ↔ failed
+records_failed answer exact = (λ e. exact.0 (failed_records answer e), λ f. ap finding_of (exact.1 f))

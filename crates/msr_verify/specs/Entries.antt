@@ -27,14 +27,13 @@ judgement_of (Ok finding.NotShown) = NotShown
 judgement_of (Ok finding.Differs) = Differs
 judgement_of (Err fault) = Refused (Day fault)
 
--- Some files, the day's own, its records, twice, and its report, have this answer. Nothing is known of the files of the
+-- Some files, the day's own, its records and its report, have this answer. Nothing is known of the files of the
 -- system but that they have some bytes.
 pub record HasDayAnswer (answer : Result Finding VerifyFault) : Type 0 where
   pub file : List ℕ
   pub records : List ℕ
-  pub again : List ℕ
   pub text : List ℕ
-  pub answers : DayAnswers file records again text answer
+  pub answers : DayAnswers file records text answer
 
 -- what a judgement says of a day
 abbrev pub IsJudgementOfDay : Judgement → Type 0

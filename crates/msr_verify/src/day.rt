@@ -26,7 +26,7 @@ pub(crate) fn judge_day<R: Files>(
     Ok(judge_at(rt, alloc, file.as_str(), records.as_str(), report.as_str()))
 }
 
-/// What the files with these names show. All are opened before one is read, the records twice.
+/// What the files with these names show. All are opened before one is read.
 fn judge_at<R: Files>(rt: &R, alloc: Global, file: &str, records: &str, report: &str) -> Judgement
     ensures { IsJudgementOfDay result }
 {
@@ -42,9 +42,6 @@ fn judge_at<R: Files>(rt: &R, alloc: Global, file: &str, records: &str, report: 
     if Look::at(rt, file).may_be(&Look::at(rt, records)) {
         return Judgement::Refused(Refusal::SameFile);
     }
-    let Ok(again) = open_regular(rt, records) else {
-        return Judgement::Refused(Refusal::RecordsUnopened);
-    };
     let Ok(own) = open_regular(rt, file) else {
         return Judgement::Refused(Refusal::FileUnopened);
     };
@@ -52,7 +49,6 @@ fn judge_at<R: Files>(rt: &R, alloc: Global, file: &str, records: &str, report: 
         alloc,
         &mut FromRead::new(own),
         &mut FromRead::new(packed),
-        &mut FromRead::new(again),
         &mut FromRead::new(text),
     ))
 }

@@ -13,7 +13,7 @@ use Rattle.msr_tool.specs.declared.fault.ToolFault.{ToolFault}
 use Rattle.msr_tool.specs.declared.fault.ToolFault.TheVariants as fault
 use Rattle.msr_options.specs.declared.days.DayOptions.{DayOptions}
 use Rattle.msr_options.specs.declared.hint.Unopened.{Unopened}
-use Rattle.msr_walk.specs.Day.{RepacksDay, HasAnswer, IsComparedIfAsked, IsDayOutcome, IsOutcomeOfDay, IsRepackedDay, IsShownIfAsked, IsReadOrMemory, fault_of_checking}
+use Rattle.msr_walk.specs.Day.{RepacksDay, HasAnswer, IsDayOutcome, IsOutcomeOfDay, IsRepackedDay, IsReadOrMemory, VerifiedAnswers}
 use Rattle.msr_walk.specs.Entries.{IsDayOf, IsOutcomeOf}
 use Rattle.msr_walk.specs.declared.outcome.Outcome.{Outcome}
 use Rattle.msr_walk.specs.declared.outcome.Outcome.TheVariants.{Skipped, Refused}
@@ -78,30 +78,14 @@ day_unread choice repacked why does (inr is) = rw is (record {
   answers = inr (told_whole choice does.input does.written does.told does.answers.report does.answers.reported);
 })
 
--- a failed read of what was written is told as such, and nothing else is
-pub failure_told : {T : Type 0} (why : ToolFault) (P : Type 0) → IsErrOf {T = T} (Err why) fault.Read ↔ P
-    → IsErrOf {T = Unit {0}} (Err (fault_of_checking why)) (Tool fault.Read) ↔ P
-failure_told fault.Read P is = ((λ e. is.0 refl), (λ p. refl))
-failure_told _ P is = ((λ e. absurd cc), (λ p. let e = is.1 p in absurd cc))
-
 -- what was written is not kept
 pub day_unkept : (asked : DayOptions) (repacked : Repacked) (why : DayFault) → HasAnswer asked.options (Ok repacked)
-    → IsTrue asked.check → IsShownIfAsked true (Err why) → IsRepackedDay asked (Err why)
+    → IsTrue asked.check → VerifiedAnswers asked.options (Err why) → IsRepackedDay asked (Err why)
 day_unkept asked repacked (CannotOpen unopened) does check is = tt
-day_unkept asked repacked NotShown does check is = record { check = check; unshown = is.1 }
-day_unkept asked repacked (Tool why) does check is =
-    day_unread asked.options repacked why does is.1
-day_unkept asked repacked _ does check is = absurd is.1
-
--- what was written is not the same data as the day's own file
-pub day_differs : (asked : DayOptions) (repacked : Repacked) (why : DayFault) → HasAnswer asked.options (Ok repacked)
-    → IsComparedIfAsked asked (Err why) → IsRepackedDay asked (Err why)
-day_differs asked repacked (CannotOpen unopened) does is = tt
-day_differs asked repacked Differs does is =
-    record { check = is.0; different = is.1 }
-day_differs asked repacked (Tool why) does is =
-    day_unread asked.options repacked why does is.1
-day_differs asked repacked _ does is = absurd is
+day_unkept asked repacked NotShown does check is = record { check = check; unshown = is }
+day_unkept asked repacked Differs does check is = record { check = check; different = is }
+day_unkept asked repacked (Tool why) does check is = day_unread asked.options repacked why does is
+day_unkept asked repacked _ does check is = absurd is
 
 -- what becomes of a day for which this length is asked
 pub outcome_of_day : {E : Type 0} (days : DayOptions) (record_length : Length) (result : Result Outcome E) →

@@ -1,28 +1,30 @@
 -- What is said of a day file that was repacked, or refused.
-use Rattle.std.specs.Prelude.{◌≡◌, ◌≢◌, ◌↔◌, ◌⊎◌, ◌<◌, ◌*◌, ℕ, ⊤, Bool, false, IsTrue, List, Result, Ok, Err, IsErrOf}
-use Rattle.msr_devices.specs.Device.{Device, HasFailed, HasLeft, Takes}
+use Rattle.std.specs.Prelude.{◌≡◌, ◌⊎◌, ◌<◌, ◌*◌, ℕ, ⊤, false, IsTrue, List, Option, None, Some, Result, Ok, Err}
+use Rattle.msr_devices.specs.Device.{Device, HasLeft, Takes}
 use Rattle.msr_report_reader.specs.Reading.{IsReadFrom}
+use Rattle.msr_report_reader.specs.declared.fault.ReportFault.{ReportFault}
+use Rattle.msr_report_reader.specs.declared.fault.ReportFault.TheVariants as report_stop
 use Rattle.msr_report.specs.Proper.{records_in}
 use Rattle.msr_report.specs.declared.report.Report.{Report}
-use Rattle.msr_input.specs.declared.fault.ReadFault.{ReadFault}
 use Rattle.msr_input.specs.declared.fault.ReadFault.TheVariants as read
 use Rattle.msr_compare.specs.Answers.{HaveSameSegments}
-use Rattle.msr_tool.specs.Checking.{CheckAnswers, IsChecked}
+use Rattle.msr_compare.specs.declared.comparison.Comparison.{Comparison}
+use Rattle.msr_compare.specs.declared.comparison.Comparison.TheVariants.{Same, Differ}
+use Rattle.msr_compare.specs.declared.fault.CompareFault.{CompareFault}
+use Rattle.msr_compare.specs.declared.fault.CompareFault.TheVariants.{One, Other}
 use Rattle.msr_tool.specs.Settings.{settings_of}
 use Rattle.msr_options.specs.Choice.{Choice, as_strict, record_size}
 use Rattle.msr_options.specs.Days.{in_length}
 use Rattle.msr_options.specs.declared.days.DayOptions.{DayOptions}
 use Rattle.msr_tool.specs.Tasks.{IsReported, ReportAnswers}
 use Rattle.msr_tool.specs.declared.fault.ToolFault.{ToolFault}
-use Rattle.msr_tool.specs.declared.fault.ToolFault.TheVariants as fault
 use Rattle.msr_tool.specs.declared.fault.ToolFault.TheVariants.{Memory, Read}
-use Rattle.msr_verdict.specs.declared.verdict.Verdict.{Verdict}
-use Rattle.msr_verdict.specs.declared.verdict.Verdict.TheVariants.{Least}
+use Rattle.msr_verdict.specs.Packed.{ShowsLeast}
 use Rattle.msr_kinds.specs.Lengths.{bytes_of}
 use Rattle.msr_kinds.specs.declared.lengths.Length.{Length}
 use Rattle.msr_folders.specs.Totals.{saturated}
 use Rattle.msr_walk.specs.declared.outcome.Outcome.{Outcome}
-use Rattle.msr_walk.specs.declared.outcome.Outcome.TheVariants.{Done, Same, Skipped, Refused}
+use Rattle.msr_walk.specs.declared.outcome.Outcome.TheVariants as outcomes
 use Rattle.msr_walk.specs.declared.outcome.DayFault.{DayFault}
 use Rattle.msr_walk.specs.declared.outcome.DayFault.TheVariants.{CannotOpen, NotShown, Differs, Larger, ClaimedByAnother, Tool}
 use Rattle.msr_walk.specs.declared.outcome.Repacked.{Repacked}
@@ -70,109 +72,107 @@ pub record HasAnswer (choice : Choice) (result : Result Repacked ToolFault) : Ty
   pub told : List ℕ
   pub answers : CountAnswers choice input written told result
 
--- Some bytes are records that some text, a report, shows to be the fewest.
-pub record WasShown : Type 0 where
-  pub input : List ℕ
-  pub text : List ℕ
-  pub shown : IsChecked input text (Ok Least)
-
--- Some bytes and some text were checked, with another answer that is one about them.
-pub record WasNotShown : Type 0 where
-  pub input : List ℕ
-  pub text : List ℕ
-  pub answer : Result Verdict ToolFault
-  pub answers : CheckAnswers input text answer
-  pub other : answer ≢ Ok Least
-  pub was_read : answer ≢ Err Read
-  pub had_memory : answer ≢ Err Memory
-
--- reading one of two files failed, or memory was refused
-abbrev pub IsReadOrMemory : ToolFault → Type 0
-IsReadOrMemory fault = (fault ≡ Read) ⊎ (fault ≡ Memory)
-
--- What is told of a day if holding its records against their report stops so. Both were just written, so if one of them
--- is at fault, nothing is shown.
-abbrev pub fault_of_checking : ToolFault → DayFault
-fault_of_checking fault.Read = Tool Read
-fault_of_checking fault.Memory = Tool Memory
-fault_of_checking _ = NotShown
-
--- why records that were written are not kept
-abbrev pub IsUnkept : DayFault → Type 0
-IsUnkept (CannotOpen unopened) = ⊤
-IsUnkept NotShown = WasNotShown
-IsUnkept (Tool fault) = IsReadOrMemory fault
-IsUnkept _ = ⊥
-
--- what holding records against their report answers
-abbrev pub ShownAnswers : Result (Unit {0}) DayFault → Type 0
-ShownAnswers (Ok done) = WasShown
-ShownAnswers (Err refusal) = IsUnkept refusal
-
--- what holding records against their report answers, if it is asked for
-abbrev pub IsShownIfAsked : Bool → Result (Unit {0}) DayFault → Type 0
-IsShownIfAsked check (Ok done) = IsTrue check → WasShown
-IsShownIfAsked check (Err refusal) = IsTrue check × IsUnkept refusal
+-- The text is that of a report of this tolerance, which shows that the records are the fewest.
+pub record ShowsWritten (choice : Choice) (records text : List ℕ) : Type 0 where
+  pub report : Report
+  pub read : IsReadFrom report text
+  pub tolerance : report.tolerance ≡ choice.tolerance
+  pub least : ShowsLeast report records
 
 -- A day's file and its records have the same segments, read with the tolerance of these options, and never strictly.
 abbrev pub HaveSameData : Choice → (file records : List ℕ) → Type 0
 HaveSameData choice file records = HaveSameSegments (settings_of (as_strict false choice)) file records
 
--- What is told of a day if reading its file or its records again stops so. Both could be read before, so what is refused
--- now is not the same.
-abbrev pub fault_of_comparing : ReadFault → DayFault
-fault_of_comparing (read.Input found) = Differs
-fault_of_comparing read.Read = Tool Read
-fault_of_comparing read.Memory = Tool Memory
-
--- what comparing a day's file with its records answers
-abbrev pub SameAnswers : Choice → (file records : List ℕ) → Result (Unit {0}) DayFault → Type 0
-SameAnswers choice file records (Ok done) = HaveSameData choice file records
-SameAnswers choice file records (Err Differs) = ¬ (HaveSameData choice file records)
-SameAnswers choice file records (Err (Tool fault)) = IsReadOrMemory fault
-SameAnswers choice file records (Err _) = ⊥
-
--- What comparing a day's file with its records did with both sources, and what it answers. A failure of a source is
--- answered as such, and nothing else is.
-pub record ComparesDay (choice : Choice) (file0 file records0 records : Device)
-    (result : Result (Unit {0}) DayFault) : Type 0 where
-  pub input : List ℕ
-  pub written : List ℕ
-  pub left : HasLeft file0 input
-  pub left_records : HasLeft records0 written
-  pub answers : SameAnswers choice input written result
-  pub read : IsErrOf result (Tool Read) ↔ (HasFailed file0 file ⊎ HasFailed records0 records)
-
--- Some file and some records were compared, and have the same segments.
-pub record WasCompared (choice : Choice) : Type 0 where
-  pub file : List ℕ
-  pub records : List ℕ
+-- The text shows the records to be the fewest, and the day's file has the same segments as these records.
+pub record IsVerifiedBy (choice : Choice) (file records text : List ℕ) : Type 0 where
+  pub shown : ShowsWritten choice records text
   pub same : HaveSameData choice file records
 
--- Some file and some records were compared, and have other segments, or one of them cannot be read.
+-- The text shows it, and the file has other segments, or cannot be read.
+pub record IsOtherData (choice : Choice) (file records text : List ℕ) : Type 0 where
+  pub shown : ShowsWritten choice records text
+  pub differ : ¬ (HaveSameData choice file records)
+
+-- reading one of the files failed, or memory was refused
+abbrev pub IsReadOrMemory : ToolFault → Type 0
+IsReadOrMemory fault = (fault ≡ Read) ⊎ (fault ≡ Memory)
+
+-- What is told of a day if reading its report again stops so. It was just written, so if it is at fault, nothing is
+-- shown.
+abbrev pub told_of_report : ReportFault → DayFault
+told_of_report (report_stop.Line line) = NotShown
+told_of_report report_stop.Read = Tool Read
+told_of_report report_stop.Memory = Tool Memory
+
+-- What is told of a day whose records, by their report, and beside them its own file have this answer.
+abbrev pub told_of : Result (Option Comparison) CompareFault → Result (Unit {0}) DayFault
+told_of (Ok (Some (Same told))) = Ok tt
+told_of (Ok (Some (Differ difference))) = Err Differs
+told_of (Ok None) = Err NotShown
+told_of (Err (One (read.Input found))) = Err NotShown
+told_of (Err (Other (read.Input found))) = Err Differs
+told_of (Err (One read.Read)) = Err (Tool Read)
+told_of (Err (Other read.Read)) = Err (Tool Read)
+told_of (Err (One read.Memory)) = Err (Tool Memory)
+told_of (Err (Other read.Memory)) = Err (Tool Memory)
+
+-- what that says of a day's file, its records and the text of its report
+abbrev pub RepackAnswers : Choice → (file records text : List ℕ) → Result (Unit {0}) DayFault → Type 0
+RepackAnswers choice file records text (Ok done) = IsVerifiedBy choice file records text
+RepackAnswers choice file records text (Err NotShown) = ¬ (ShowsWritten choice records text)
+RepackAnswers choice file records text (Err Differs) = IsOtherData choice file records text
+RepackAnswers choice file records text (Err (Tool fault)) = IsReadOrMemory fault
+RepackAnswers choice file records text (Err _) = ⊥
+
+-- What verifying what was written of a day answers, for the bytes of its sources.
+pub record VerifiesRepack (choice : Choice) (file records report : Device) (result : Result (Unit {0}) DayFault)
+    : Type 0 where
+  pub input : List ℕ
+  pub written : List ℕ
+  pub text : List ℕ
+  pub left : HasLeft file input
+  pub left_records : HasLeft records written
+  pub left_report : HasLeft report text
+  pub answers : RepackAnswers choice input written text result
+
+-- Some file, records and report were read, and are verified.
+pub record WasVerified (choice : Choice) : Type 0 where
+  pub file : List ℕ
+  pub records : List ℕ
+  pub text : List ℕ
+  pub verified : IsVerifiedBy choice file records text
+
+-- Some records and some text were read, and the text does not show the records to be the fewest.
+pub record WasNotShown (choice : Choice) : Type 0 where
+  pub records : List ℕ
+  pub text : List ℕ
+  pub unshown : ¬ (ShowsWritten choice records text)
+
+-- Some file, records and report were read; the report shows the records to be the fewest, and the file has other data.
 pub record WasDifferent (choice : Choice) : Type 0 where
   pub file : List ℕ
   pub records : List ℕ
-  pub differ : ¬ (HaveSameData choice file records)
+  pub text : List ℕ
+  pub other : IsOtherData choice file records text
 
--- what comparing a day's file with its records answers, if it is asked for
-abbrev pub IsComparedIfAsked : DayOptions → Result (Unit {0}) DayFault → Type 0
-IsComparedIfAsked asked (Ok done) = IsTrue asked.check → WasCompared asked.options
-IsComparedIfAsked asked (Err (CannotOpen unopened)) = IsTrue asked.check
-IsComparedIfAsked asked (Err Differs) = IsTrue asked.check × WasDifferent asked.options
-IsComparedIfAsked asked (Err (Tool fault)) = IsTrue asked.check × IsReadOrMemory fault
-IsComparedIfAsked asked (Err _) = ⊥
+-- what verifying what was written of a day answers; nothing is known of the files of the system
+abbrev pub VerifiedAnswers : Choice → Result (Unit {0}) DayFault → Type 0
+VerifiedAnswers choice (Ok done) = WasVerified choice
+VerifiedAnswers choice (Err (CannotOpen unopened)) = ⊤
+VerifiedAnswers choice (Err NotShown) = WasNotShown choice
+VerifiedAnswers choice (Err Differs) = WasDifferent choice
+VerifiedAnswers choice (Err (Tool fault)) = IsReadOrMemory fault
+VerifiedAnswers choice (Err _) = ⊥
 
 -- the bytes that were written are fewer than those that were read
 abbrev pub GotSmaller : Repacked → Type 0
 GotSmaller repacked = repacked.bytes_written < repacked.bytes_read
 
--- Some input was repacked with these counts, and if that is asked for, what was written was shown to be the fewest and
--- compared with the day's file, and is smaller than what was read.
+-- Some input was repacked with these counts, and if that is asked for, what was written is verified, and smaller than
+-- what was read.
 pub record IsDone (asked : DayOptions) (repacked : Repacked) : Type 0 where
   pub answer : HasAnswer asked.options (Ok repacked)
-  pub shown : IsTrue asked.check → WasShown
-  pub same : IsTrue asked.check → WasCompared asked.options
+  pub verified : IsTrue asked.check → WasVerified asked.options
   pub smaller : IsTrue asked.only_smaller → GotSmaller repacked
 
 -- Some input was repacked with these counts, it was asked for that only what gets smaller is kept, and it did not.
@@ -181,12 +181,12 @@ pub record IsLarger (asked : DayOptions) (repacked : Repacked) : Type 0 where
   pub only_smaller : IsTrue asked.only_smaller
   pub larger : ¬ (GotSmaller repacked)
 
--- It was asked for that what is written is shown, and it was not.
+-- It was asked for that what is written is verified, and it was not shown.
 pub record IsNotShown (asked : DayOptions) : Type 0 where
   pub check : IsTrue asked.check
-  pub unshown : WasNotShown
+  pub unshown : WasNotShown asked.options
 
--- It was asked for that what is written is compared with the day's file, and it was not the same.
+-- It was asked for that what is written is verified, and it was shown, and not the same data as the day's file.
 pub record IsDifferent (asked : DayOptions) : Type 0 where
   pub check : IsTrue asked.check
   pub different : WasDifferent asked.options
@@ -229,10 +229,10 @@ pub record IsSame (asked : DayOptions) (repacked : Repacked) : Type 0 where
 
 -- what an outcome says of a day file of which this is asked
 abbrev pub IsDayOutcome : DayOptions → Outcome → Type 0
-IsDayOutcome asked (Done repacked) = IsDone asked repacked
-IsDayOutcome asked (Same repacked) = IsSame asked repacked
-IsDayOutcome asked (Skipped fault) = ⊥
-IsDayOutcome asked (Refused why) = IsRepackedDay asked (Err why)
+IsDayOutcome asked (outcomes.Done repacked) = IsDone asked repacked
+IsDayOutcome asked (outcomes.Same repacked) = IsSame asked repacked
+IsDayOutcome asked (outcomes.Skipped fault) = ⊥
+IsDayOutcome asked (outcomes.Refused why) = IsRepackedDay asked (Err why)
 
 -- What an outcome says of a day of an archive of whose days this is asked.
 pub record IsOutcomeOfDay (days : DayOptions) (outcome : Outcome) : Type 0 where

@@ -1,14 +1,12 @@
 //! One day file: from its file to the files of its records and its report.
 ghost use Rattle.std.specs.Prelude.{◌≡◌, false, true, IfOk, IfSome, IsTrue, Ok};
-ghost use Rattle.msr_walk.specs.Day.{GotSmaller, HasAnswer, IsComparedIfAsked, IsDayOutcome, IsKept, IsOutcomeOfDay, IsRepackedDay, IsShownIfAsked};
+ghost use Rattle.msr_walk.specs.Day.{GotSmaller, HasAnswer, IsDayOutcome, IsKept, IsOutcomeOfDay, IsRepackedDay, VerifiedAnswers};
 ghost use Rattle.msr_walk.specs.Files.{day_names, new_file};
 
 use crate::claim::{Claim, ClaimFault, LockFile, claim_day};
 use crate::files::{NewFile, opened};
 use crate::outcome::{DayFault, Outcome, Repacked};
-use crate::repacking::{
-    Counting, counts_kept, first_length, repack_day_of, require_same, require_shown,
-};
+use crate::repacking::{Counting, counts_kept, first_length, repack_day_of, require_verified};
 use crate::stamp::Stamp;
 use msr_devices::{FromRead, FromWrite};
 use msr_folders::{Look, ended, is_gone, join, open_regular, settle_regular};
@@ -69,15 +67,6 @@ impl DayFiles {
         self.records.clear(rt)?;
         self.report.keep(rt)?;
         self.records.keep(rt)
-    }
-
-    /// Reads the records and the report again that were written, and holds one against the other.
-    fn hold<R: Files>(&self, rt: &R, alloc: Global) -> Result<(), DayFault>
-        ensures { IsShownIfAsked true result }
-    {
-        let mut records = FromRead::new(self.records.open(rt)?);
-        let mut report = FromRead::new(self.report.open(rt)?);
-        require_shown(alloc, &mut records, &mut report)
     }
 
     /// Stamps the day, if its input is as it was; without a stamp the next walk repacks it again. Tells whether nothing
@@ -173,18 +162,20 @@ impl Day {
         })
     }
 
-    /// Reads the day's own file and the records again that were written, and compares them.
-    fn compare<R: Files>(&self, work: &Work<'_, R>, files: &DayFiles) -> Result<(), DayFault>
-        requires { IsTrue work.now.asked.check }
-        ensures { IsComparedIfAsked work.now.asked result }
+    /// Reads the records and the report again that were written, and the day's own file, and holds the records against the
+    /// other two.
+    fn verify<R: Files>(&self, work: &Work<'_, R>, files: &DayFiles) -> Result<(), DayFault>
+        ensures { VerifiedAnswers work.now.asked.options result }
     {
+        let mut records = FromRead::new(files.records.open(work.rt)?);
+        let mut report = FromRead::new(files.report.open(work.rt)?);
         let input = opened(Side::File, open_regular(work.rt, self.input.as_str()))?;
         let mut input = FromRead::new(input);
-        let mut records = FromRead::new(files.records.open(work.rt)?);
-        require_same(work.alloc, &mut input, &mut records, work.asked.options)
+        let options = work.asked.options;
+        require_verified(work.alloc, &mut input, &mut records, &mut report, options)
     }
 
-    /// Gives what was made its names; what is to be shown is shown, and what is to be compared is compared, before.
+    /// Gives what was made its names; what is to be verified is verified before.
     fn keep<R: Files>(
         &self,
         work: &Work<'_, R>,
@@ -197,8 +188,7 @@ impl Day {
     {
         let files = &claimed.files;
         if work.asked.check {
-            files.hold(work.rt, work.alloc)?;
-            self.compare(work, files)?;
+            self.verify(work, files)?;
         }
         if !claimed.claim.is_ours(work.rt, self.claim.as_str()) {
             return Err(DayFault::ClaimedByAnother);

@@ -4,19 +4,19 @@ ghost use Rattle.msr_devices.specs.Device.{CanCountCall, HasFailed};
 ghost use Rattle.msr_options.specs.Choice.{record_size};
 ghost use Rattle.msr_report.specs.Proper.{IsProper, records_in};
 ghost use Rattle.msr_folders.specs.Totals.{saturated};
-ghost use Rattle.msr_walk.specs.Day.{ComparesDay, IsReportKept, RepacksDay, ShownAnswers, fault_of_checking, fault_of_comparing};
+ghost use Rattle.msr_walk.specs.Day.{IsReportKept, RepacksDay, VerifiesRepack, told_of_report, told_of};
 
 use crate::outcome::{DayFault, Repacked};
-use msr_compare::{CompareFault, compare};
+use msr_compare::{CompareFault, Comparison};
 use msr_devices::{DeviceFault, ReadBuffer, Sink, Source};
 use msr_header::{read_header, record_length};
-use msr_input::{ReadFault, Settings};
+use msr_input::ReadFault;
 use msr_kinds::Length;
 use msr_options::Options;
 use msr_report::Report;
-use msr_report_reader::read_report;
-use msr_tool::{ToolFault, check_packed, repack_and_report};
-use msr_verdict::Verdict;
+use msr_report_reader::{ReportFault, read_report};
+use msr_tool::{ToolFault, repack_and_report};
+use msr_verdict::verify_beside;
 use std::alloc::{AllocError, Global};
 use std::io;
 
@@ -146,73 +146,64 @@ pub(crate) fn counts_kept<S: Source>(
     })
 }
 
-/// What is told of a day whose records or report cannot be read again, or are at fault.
-fn fault_of_checking(fault: ToolFault) -> DayFault
-    ensures { result ≡ fault_of_checking fault }
+/// What is told of a day whose report is read again, and is at fault.
+fn told_of_report(fault: ReportFault) -> DayFault
+    ensures { result ≡ told_of_report fault }
 {
     match fault {
-        ToolFault::Read => DayFault::Tool(ToolFault::Read),
-        ToolFault::Memory => DayFault::Tool(ToolFault::Memory),
-        ToolFault::Input(_) | ToolFault::Report(_) | ToolFault::Write => DayFault::NotShown,
+        ReportFault::Line(_) => DayFault::NotShown,
+        ReportFault::Read => DayFault::Tool(ToolFault::Read),
+        ReportFault::Memory => DayFault::Tool(ToolFault::Memory),
     }
 }
 
-/// Holds packed records against their report. What cannot be read is not told as not shown.
-pub(crate) fn require_shown<P: Source, Q: Source>(
+/// What is told of a day whose records, by their report, and beside them its own file have this answer. What is at fault
+/// now was not when it was written, and when it was repacked.
+fn told_of(answer: Result<Option<Comparison>, CompareFault>) -> Result<(), DayFault>
+    ensures { result ≡ told_of answer }
+{
+    match answer {
+        Ok(Some(Comparison::Same(_))) => Ok(()),
+        Ok(Some(Comparison::Differ(_))) => Err(DayFault::Differs),
+        Ok(None) => Err(DayFault::NotShown),
+        Err(CompareFault::One(ReadFault::Input(_))) => Err(DayFault::NotShown),
+        Err(CompareFault::Other(ReadFault::Input(_))) => Err(DayFault::Differs),
+        Err(CompareFault::One(ReadFault::Read) | CompareFault::Other(ReadFault::Read)) => {
+            Err(DayFault::Tool(ToolFault::Read))
+        }
+        Err(CompareFault::One(ReadFault::Memory) | CompareFault::Other(ReadFault::Memory)) => {
+            Err(DayFault::Tool(ToolFault::Memory))
+        }
+    }
+}
+
+/// Holds the records that were written for a day against their report, and beside them against its own file; each is read
+/// once. Records that end in the last microsecond of the supported years may not be readable, and a report does not show
+/// these; so what an honest repack wrote never differs.
+pub(crate) fn require_verified<F: Source, P: Source, Q: Source>(
     alloc: Global,
+    file: &mut F,
     packed: &mut P,
     report: &mut Q,
+    options: Options,
 ) -> Result<(), DayFault>
+    requires file { CanCountCall (F.device file.old) }
     requires packed { CanCountCall (P.device packed.old) }
     requires report { CanCountCall (Q.device report.old) }
-    ensures answer { ShownAnswers result }
+    ensures answer { VerifiesRepack options (F.device file.old) (P.device packed.old) (Q.device report.old) result }
 
     // A failure of a source is answered as such, and nothing else is.
     ensures read { IsErrOf result (DayFault.Tool ToolFault.Read)
-        ↔ (HasFailed (P.device packed.old) (P.device packed.new)
-        ⊎ HasFailed (Q.device report.old) (Q.device report.new)) }
+        ↔ (HasFailed (F.device file.old) (F.device file.new)
+        ⊎ (HasFailed (P.device packed.old) (P.device packed.new)
+        ⊎ HasFailed (Q.device report.old) (Q.device report.new))) }
 {
-    match check_packed(alloc, packed, report) {
-        Ok(Verdict::Least) => Ok(()),
-        Ok(Verdict::NotShown) => Err(DayFault::NotShown),
-        Err(fault) => Err(fault_of_checking(fault)),
-    }
-}
-
-/// What is told of a day whose file or records cannot be read again.
-fn fault_of_comparing(why: ReadFault) -> DayFault
-    ensures { result ≡ fault_of_comparing why }
-{
-    match why {
-        // Both could be read before: the file when it was repacked, the records when they were shown.
-        ReadFault::Input(_) => DayFault::Differs,
-        ReadFault::Read => DayFault::Tool(ToolFault::Read),
-        ReadFault::Memory => DayFault::Tool(ToolFault::Memory),
-    }
-}
-
-/// Compares a day's own file with the records that were written for it. Those that end in the last microsecond of the
-/// supported years may not be readable, and a report does not show these: so records are compared that were shown, and
-/// what an honest repack wrote never differs.
-pub(crate) fn require_same<P: Source, Q: Source>(
-    alloc: Global,
-    input: &mut P,
-    packed: &mut Q,
-    options: Options,
-) -> Result<(), DayFault>
-    requires input { CanCountCall (P.device input.old) }
-    requires packed { CanCountCall (Q.device packed.old) }
-    ensures { ComparesDay options (P.device input.old) (P.device input.new) (Q.device packed.old) (Q.device packed.new)
-        result }
-{
-    let settings = Settings {
-        tolerance: options.tolerance(),
-        strict: false,
+    let report = match read_report(alloc, report) {
+        Ok(report) => report,
+        Err(fault) => return Err(told_of_report(fault)),
     };
-    match compare(alloc, input, packed, settings) {
-        Ok(found) if found.is_same() => Ok(()),
-        Ok(_) => Err(DayFault::Differs),
-        Err(CompareFault::One(why)) => Err(fault_of_comparing(why)),
-        Err(CompareFault::Other(why)) => Err(fault_of_comparing(why)),
+    if report.tolerance != options.tolerance() {
+        return Err(DayFault::NotShown);
     }
+    told_of(verify_beside(alloc, packed, file, &report))
 }

@@ -18,7 +18,6 @@ returns g c =
     rw c.judgement_of.ensures (told c.verify_day.result (record {
       file = found.first;
       records = found.second;
-      again = found.third;
       text = found.text;
       answers = found.answers;
     }))
