@@ -275,7 +275,9 @@ impl MemoryTree {
     fn is_folder(&self, path: &str) -> bool {
         self.deeds.iter().any(|deed| match deed {
             Deed::FolderMade(folder) => is_within(path, folder.as_str()),
-            _ => deed.target().is_some_and(|name| is_within(path, name)),
+            _ => deed
+                .target()
+                .is_some_and(|name| name != path && is_within(path, name)),
         })
     }
 
