@@ -1,8 +1,7 @@
 -- What the three files of a day show, put together from what was read of each.
-use Rattle.std.proofs.Common.{◌≡◌, ◌↔◌, ℕ, List, Option, None, Some, Result, Ok, Err, IsErrOf, ap, refl}
+use Rattle.std.proofs.Common.{◌↔◌, ℕ, List, Option, None, Some, Result, Ok, Err, IsErrOf, ap, refl}
 use Rattle.msr_devices.specs.Device.{Device, HasLeft}
 use Rattle.msr_devices.proofs.Chaining.{left_of}
-use Rattle.msr_compare.specs.Answers.{HaveSameSegments}
 use Rattle.msr_compare.specs.declared.comparison.Comparison.{Comparison}
 use Rattle.msr_compare.specs.declared.comparison.Comparison.TheVariants.{Same, Differ}
 use Rattle.msr_compare.specs.declared.fault.CompareFault.{CompareFault}
@@ -11,14 +10,11 @@ use Rattle.msr_report.specs.declared.report.Report.{Report}
 use Rattle.msr_report_reader.specs.Reading.{ReadsReport}
 use Rattle.msr_report_reader.specs.declared.fault.ReportFault.{ReportFault}
 use Rattle.msr_report_reader.specs.declared.fault.ReportFault.TheVariants as report_stop
-use Rattle.msr_input.specs.declared.fault.ReadFault.{ReadFault}
 use Rattle.msr_input.specs.declared.fault.ReadFault.TheVariants as stop
 use Rattle.msr_verdict.specs.Beside.{BesideAnswers}
 use Rattle.msr_verdict.specs.Packed.{ShowsLeast}
 use Rattle.msr_verify.specs.Day.{DayAnswers, IsShownLeast, VerifiesDay, finding_of, verify_fault_of_report}
-use Rattle.msr_verify.specs.declared.judging.Finding.{Finding}
-use Rattle.msr_verify.specs.declared.judging.VerifyFault.{VerifyFault}
-use Rattle.msr_verify.specs.declared.judging.VerifyFault.TheVariants.{File, Records}
+use Rattle.msr_verify.specs.declared.judging.VerifyFault.TheVariants.{File, Records, ReportRead}
 
 fault_said : (first second text : List ℕ) (why : ReportFault) → ReadsReport text (Err why)
     → DayAnswers first second text (Err (verify_fault_of_report why))
@@ -108,3 +104,15 @@ file_failed answer exact = (λ e. exact.0 (failed_file answer e), λ f. ap findi
 pub records_failed : {failed : Type 0} (answer : Result (Option Comparison) CompareFault)
     → IsErrOf answer (One stop.Read) ↔ failed → IsErrOf (finding_of answer) (Records stop.Read) ↔ failed
 records_failed answer exact = (λ e. exact.0 (failed_records answer e), λ f. ap finding_of (exact.1 f))
+
+-- of a report that was read nothing failed
+no_report : (answer : Result (Option Comparison) CompareFault) → IsErrOf (finding_of answer) ReportRead → ⊥
+no_report (Ok (Some (Same told))) e = absurd cc
+no_report (Ok (Some (Differ difference))) e = absurd cc
+no_report (Ok None) e = absurd cc
+no_report (Err (One why)) e = absurd cc
+no_report (Err (Other why)) e = absurd cc
+
+pub report_read : {failed : Type 0} (answer : Result (Option Comparison) CompareFault) → (failed → ⊥)
+    → IsErrOf (finding_of answer) ReportRead ↔ failed
+report_read answer none = (λ e. absurd (no_report answer e), λ f. absurd (none f))

@@ -1,4 +1,4 @@
-use Rattle.msr_verify.proofs.Judged.{day_found, file_failed, records_failed, report_fails}
+use Rattle.msr_verify.proofs.Judged.{day_found, file_failed, records_failed, report_fails, report_read}
 use Rattle.msr_verify.proofs.judging.verify_day.Goals as goal
 
 pub returns-in-Err-clause-answer : goal.returns-in-Err-clause-answer
@@ -19,3 +19,7 @@ returns-in-Ok-clause-read_file g c =
 pub returns-in-Ok-clause-read_records : goal.returns-in-Ok-clause-read_records
 returns-in-Ok-clause-read_records g c =
     rw c.finding_of.ensures (records_failed c.verify_beside.result c.verify_beside.ensures.read_packed)
+
+pub returns-in-Ok-clause-read_report : goal.returns-in-Ok-clause-read_report
+returns-in-Ok-clause-read_report g c =
+    rw c.finding_of.ensures (report_read c.verify_beside.result (λ failed. let e = c.in-Ok.ensures.read.1 failed in cc))
