@@ -5,25 +5,12 @@ ghost use Rattle.msr_tree.specs.Calls.{Goes};
 ghost use Rattle.msr_replace.specs.Restored.{RestoresDay, restored_of};
 ghost use Rattle.msr_replace.specs.Work.{AreThreeFolders, names_in};
 
-use crate::answers::{DayAnswer, DayRestored};
+use crate::answers::DayRestored;
 use crate::names::DayNames;
 use crate::restore::restore_day;
 use crate::told::Told;
 use crate::work::DayWork;
 use msr_tree::{Tree, TreeFault};
-
-/// Verifies the day with this path from ROOT, and gives its records the place of its file, which is set aside.
-pub fn replace_path<T: Tree>(
-    _tree: &mut T,
-    work: &DayWork<'_>,
-    path: &str,
-) -> Result<DayAnswer, TreeFault>
-    requires apart { AreThreeFolders work.now }
-    requires day { (day : SdsPath) × ReadsAsDay path.now day }
-{
-    let _names = DayNames::new(work, path)?;
-    Err(TreeFault::Memory)
-}
 
 fn restored_of(told: Told) -> DayRestored
     ensures { result ≡ restored_of told }

@@ -13,8 +13,8 @@ mod start;
 mod told;
 mod work;
 
-pub use answers::{DayAnswer, DayRefusal, DayRestored};
-pub use day::{replace_path, restore_path};
+pub use answers::{DayRefusal, DayRestored};
+pub use day::restore_path;
 pub use exchange::replace_day;
 pub use folders::clear_parts;
 pub use moves::Hindrance;
