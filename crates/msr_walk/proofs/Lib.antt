@@ -3,3 +3,9 @@ pub mod Days
 pub mod Compared
 pub mod ChannelLines
 pub mod FirstDay
+pub mod Kills
+pub mod Names
+pub mod Order
+pub mod Plan
+pub mod Promises
+pub mod Stamps

@@ -4,6 +4,7 @@ ghost use Rattle.msr_walk.specs.Files.{new_file};
 
 use msr_folders::{ended, folder_of, is_gone, open_regular};
 use msr_options::{Side, Unopened};
+use msr_tree::{SystemTree, Tree};
 use std::alloc::{AllocError, Global};
 use std::fs::File;
 use std::io::ErrorKind;
@@ -12,17 +13,51 @@ use std::rt::Files;
 use std::{fs, io};
 
 /// Makes a file, if nothing has its name, not even a link, and before that its folder if it is missing.
-pub(crate) fn create_new<R: Files>(rt: &R, path: &str) -> io::Result<R::File> {
+pub(crate) fn create_new<R: Files>(rt: &R, alloc: Global, path: &str) -> io::Result<R::File> {
     match File::create_new(rt, path) {
         Err(error) if error.kind() == ErrorKind::NotFound => {}
         result => return result,
     }
-    match fs::create_dir_all(rt, folder_of(path)) {
-        Ok(()) => File::create_new(rt, path),
-        // A link that leads nowhere has the folder's name. Nothing has the file's.
-        Err(error) if error.kind() == ErrorKind::AlreadyExists => Err(ErrorKind::NotFound.into()),
-        Err(error) => Err(error),
+    make_folders(rt, alloc, folder_of(path))?;
+    File::create_new(rt, path)
+}
+
+/// Makes a folder, and those that lead to it.
+fn make_folders<R: Files>(rt: &R, alloc: Global, folder: &str) -> io::Result<()> {
+    let mut missing = Vec::new(alloc);
+    let mut at = folder;
+    for _ in 0..=folder.len() {
+        if at.is_empty() || !is_gone(rt, at) {
+            break;
+        }
+        missing.push(at)?;
+        at = folder_of(at);
     }
+    // It may be as new itself, if a walk was killed that made it.
+    store_name(rt, alloc, at)?;
+    for folder in missing.iter().rev() {
+        make_folder(rt, alloc, folder)?;
+    }
+    Ok(())
+}
+
+/// Makes a folder, unless another walk has, and stores its name before there is another one in it: so the names of all
+/// folders that lead to one are stored, but perhaps the last.
+fn make_folder<R: Files>(rt: &R, alloc: Global, folder: &str) -> io::Result<()> {
+    match fs::create_dir(rt, folder) {
+        Err(error) if error.kind() != ErrorKind::AlreadyExists => return Err(error),
+        _ => {}
+    }
+    store_name(rt, alloc, folder)
+}
+
+/// Stores the name of a folder, if that can be. If not, none of its days gets a stamp.
+fn store_name<R: Files>(rt: &R, alloc: Global, folder: &str) -> io::Result<()> {
+    if !folder.is_empty() {
+        let above = format!(in alloc; "{folder}/..")?;
+        let _ = SystemTree::new(rt, alloc).store_folder(above.as_str());
+    }
+    Ok(())
 }
 
 /// What was opened or made, or on which side it could not be, and why.
@@ -73,6 +108,20 @@ impl NewFile {
         })
     }
 
+    /// The name that it gets.
+    pub(crate) fn path(&self) -> &str
+        ensures { result.now ≡ self.now.path }
+    {
+        self.path.as_str()
+    }
+
+    /// That under which it is written.
+    pub(crate) fn part(&self) -> &str
+        ensures { result.now ≡ self.now.part }
+    {
+        self.part.as_str()
+    }
+
     /// What the system answers.
     fn answered<T>(&self, answer: io::Result<T>) -> Result<T, Unopened>
         ensures { IfErr result (λ unopened. unopened.side ≡ self.now.side) }
@@ -82,14 +131,14 @@ impl NewFile {
 
     /// Makes the file beside its name. What stands there was left by a walk that was killed and had the same number,
     /// and is removed: no file that is there is written to.
-    pub(crate) fn create<R: Files>(&self, rt: &R) -> Result<R::File, Unopened>
+    pub(crate) fn create<R: Files>(&self, rt: &R, alloc: Global) -> Result<R::File, Unopened>
         ensures { IfErr result (λ unopened. unopened.side ≡ self.now.side) }
     {
-        if let Ok(file) = create_new(rt, self.part.as_str()) {
+        if let Ok(file) = create_new(rt, alloc, self.part.as_str()) {
             return Ok(file);
         }
         self.sweep(rt);
-        self.answered(create_new(rt, self.part.as_str()))
+        self.answered(create_new(rt, alloc, self.part.as_str()))
     }
 
     /// Opens what was written beside its name.
@@ -102,22 +151,5 @@ impl NewFile {
     /// Removes what stands beside its name, and tells whether nothing is there any more.
     pub(crate) fn sweep<R: Files>(&self, rt: &R) -> bool {
         fs::remove_file(rt, self.part.as_str()).is_ok() || is_gone(rt, self.part.as_str())
-    }
-
-    /// Removes an older file of its name, if there is one.
-    pub(crate) fn clear<R: Files>(&self, rt: &R) -> Result<(), Unopened>
-        ensures { IfErr result (λ unopened. unopened.side ≡ self.now.side) }
-    {
-        match fs::remove_file(rt, self.path.as_str()) {
-            Err(error) if error.kind() == ErrorKind::NotFound => Ok(()),
-            answer => self.answered(answer),
-        }
-    }
-
-    /// Gives the file its name, in the place of what had it.
-    pub(crate) fn keep<R: Files>(&self, rt: &R) -> Result<(), Unopened>
-        ensures { IfErr result (λ unopened. unopened.side ≡ self.now.side) }
-    {
-        self.answered(fs::rename(rt, self.part.as_str(), self.path.as_str()))
     }
 }

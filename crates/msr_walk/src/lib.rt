@@ -2,10 +2,12 @@
 //! same path in another folder, and tells a line for each entry and the totals of the channels.
 #![tactic(auto)]
 
+mod batch;
 mod claim;
 mod day;
 mod files;
 mod folders;
+mod naming;
 mod outcome;
 mod repacking;
 mod stamp;
@@ -14,3 +16,4 @@ mod tally;
 
 pub use claim::{Lock, LockFile};
 pub use folders::{Walked, walk};
+pub use naming::records_without_a_report;

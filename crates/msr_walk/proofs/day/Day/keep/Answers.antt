@@ -14,9 +14,9 @@ returns-in_err-compare g c =
     let p = err_from_is_err_and c.from_residual-in_err-compare.result c.from_residual-in_err-compare.ensures.1 in
     rw (p.1, p.2) (day_differs _ _ c.in_err-compare.field-0.0 c.requires.answer c.in_err-compare.ensures)
 
-pub returns-in_err-keep : goal.returns-in_err-keep
-returns-in_err-keep g c =
-    let p = err_from_is_err_and c.from_residual-in_err-keep.result c.from_residual-in_err-keep.ensures.1 in
+pub returns-in_err-give_names : goal.returns-in_err-give_names
+returns-in_err-give_names g c =
+    let p = err_from_is_err_and c.from_residual-in_err-give_names.result c.from_residual-in_err-give_names.ensures.1 in
     rw (p.1, p.2) tt
 
 pub returns : goal.returns
