@@ -14,6 +14,7 @@ use msr_options::{
     Archiving, Checking, Feeding, Folders, ListForm, Listing, Options, Repacking, Task, Verifying,
 };
 use msr_tool::{ToolFault, check_and_tell, feed_and_report, list_segments, repack_and_report};
+use msr_tree::SystemTree;
 use msr_verify::verify;
 use msr_walk::{LockFile, walk};
 use std::alloc::Global;
@@ -306,6 +307,6 @@ fn verify_archive<'a, R: Files, O: Sink>(
     ensures { VerifiesArchive asked.now (O.device output.old) (O.device output.new) result }
 {
     require_apart(rt, alloc, asked.folders)?;
-    let found = verify(rt, alloc, asked, output)?;
+    let found = verify(&mut SystemTree::new(rt, alloc), alloc, asked, output)?;
     Ok(Done::of_walk(found, None, asked.below.is_empty(), true))
 }

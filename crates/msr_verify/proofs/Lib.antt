@@ -1,3 +1,5 @@
 pub mod EntriesFound
 pub mod Judged
+pub mod OpeningLemmas
 pub mod Repacks
+pub mod TellingThere

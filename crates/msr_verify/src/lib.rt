@@ -8,6 +8,7 @@ mod judgement;
 mod judging;
 mod laws;
 mod tally;
+mod visitors;
 
 pub use folders::verify;
 pub use judging::{Finding, VerifyFault, verify_day};
