@@ -171,15 +171,15 @@ read_stop report_stop.Memory e = absurd cc
 told_alone : {F P Q : Type 0} (why : ReportFault) → (F → ⊥) → (P → ⊥)
     → IsErrOf {T = Report} (Err why) report_stop.Read ↔ Q → F ⊎ (P ⊎ Q)
     → IsErrOf {T = Unit {0}} (Err (told_of_report why)) (Tool fault.Read)
-told_alone why no_file no_records exact (inl f) = absurd (no_file f)
-told_alone why no_file no_records exact (inr (inl p)) = absurd (no_records p)
-told_alone why no_file no_records exact (inr (inr q)) = read_stop why (exact.1 q)
+told_alone why no_file no_records so (inl f) = absurd (no_file f)
+told_alone why no_file no_records so (inr (inl p)) = absurd (no_records p)
+told_alone why no_file no_records so (inr (inr q)) = read_stop why (so.1 q)
 
 pub report_failed : {F P Q : Type 0} (why : ReportFault) → (F → ⊥) → (P → ⊥)
     → IsErrOf {T = Report} (Err why) report_stop.Read ↔ Q
     → IsErrOf {T = Unit {0}} (Err (told_of_report why)) (Tool fault.Read) ↔ (F ⊎ (P ⊎ Q))
-report_failed why no_file no_records exact =
-    (λ e. inr (inr (exact.0 (one_read why e))), told_alone why no_file no_records exact)
+report_failed why no_file no_records so =
+    (λ e. inr (inr (so.0 (one_read why e))), told_alone why no_file no_records so)
 
 -- nothing failed
 pub still : (device : Device) → HasFailed device device → ⊥

@@ -9,7 +9,8 @@ returns-in-Err-clause-answer g c =
 
 pub returns-in-Err-clause-read : goal.returns-in-Err-clause-read
 returns-in-Err-clause-read g c =
-    rw c.told_of_report.ensures (report_failed c.in-Err.fault (still _) (still _) c.in-Err.ensures.read)
+    rw c.told_of_report.ensures (report_failed c.in-Err.fault (still (g.F.Source.device c.args.file.now))
+    (still (g.P.Source.device c.args.packed.now)) c.in-Err.ensures.read)
 
 pub returns-then-report-tolerance-clause-answer : goal.returns-then-report-tolerance-clause-answer
 returns-then-report-tolerance-clause-answer g c =
@@ -19,7 +20,8 @@ returns-then-report-tolerance-clause-answer g c =
 
 pub returns-then-report-tolerance-clause-read : goal.returns-then-report-tolerance-clause-read
 returns-then-report-tolerance-clause-read g c =
-    none_failed (still _) (still _) (λ failed. let e = c.in-Ok.ensures.read.1 failed in cc)
+    none_failed (still (g.F.Source.device c.args.file.now)) (still (g.P.Source.device c.args.packed.now))
+    (λ failed. let e = c.in-Ok.ensures.read.1 failed in cc)
 
 pub returns-clause-answer : goal.returns-clause-answer
 returns-clause-answer g c =
