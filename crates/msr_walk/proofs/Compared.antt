@@ -1,11 +1,11 @@
 -- What is told of a day whose records were held against their report and against its own file.
-use Rattle.std.proofs.Common.{◌≡◌, ◌≢◌, ◌↔◌, ◌⊎◌, ◌∙◌, ℕ, false, refl, sym, ap, arith, List, inl, inr, Option, None, Some, Result, Ok, Err, IsErrOf}
+use Rattle.std.proofs.Common.{◌≡◌, ◌≢◌, ◌↔◌, ◌⊎◌, ◌∙◌, ℕ, refl, sym, ap, arith, List, inl, inr, Option, None, Some, Result, Ok, Err, IsErrOf}
 use Rattle.msr_devices.specs.Device.{Device, HasFailed, HasLeft}
 use Rattle.msr_devices.proofs.Chaining.{left_of}
 use Rattle.msr_input.specs.declared.settings.Settings.{Settings}
 use Rattle.msr_input.specs.declared.fault.ReadFault.TheVariants as read
 use Rattle.msr_input.proofs.OneReading.{readable_has_no_fault}
-use Rattle.msr_options.specs.Choice.{Choice, as_strict}
+use Rattle.msr_options.specs.Choice.{Choice}
 use Rattle.msr_compare.specs.Answers.{CompareAnswers, HaveSameSegments, IsOfInputs}
 use Rattle.msr_compare.specs.declared.comparison.Comparison.{Comparison}
 use Rattle.msr_compare.specs.declared.comparison.Comparison.TheVariants.{Same, Differ}
@@ -22,7 +22,6 @@ use Rattle.msr_report_reader.proofs.OneContent.{no_fault, one_report}
 use Rattle.msr_verdict.specs.Beside.{BesideAnswers}
 use Rattle.msr_verdict.specs.Packed.{ShowsLeast, settings_by}
 use Rattle.msr_verdict.proofs.StoppedReading.{shown_readable}
-use Rattle.msr_tool.specs.Settings.{settings_of}
 use Rattle.msr_tool.specs.declared.fault.ToolFault.TheVariants as fault
 use Rattle.msr_tool.proofs.RepackedLeast.{shows_same}
 use Rattle.msr_walk.specs.Day.{HaveSameData, ShowsWritten, RepackAnswers, VerifiesRepack, told_of_report, told_of}

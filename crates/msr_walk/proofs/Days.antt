@@ -1,5 +1,5 @@
 -- Answers about days.
-use Rattle.std.proofs.Common.{◌≡◌, ◌↔◌, ℕ, refl, sym, map, false, true, IfOk, List, [], inl, inr, Result, Ok, Err, IsErrOf, IsTrue}
+use Rattle.std.proofs.Common.{◌≡◌, ℕ, refl, sym, map, false, IfOk, List, [], inl, inr, Result, Ok, Err, IsTrue}
 use Rattle.std.proofs.lemmas.List.{append-nil}
 use Rattle.msr_devices.specs.Device.{Device}
 use Rattle.msr_kinds.specs.declared.lengths.Length.{Length}
@@ -10,7 +10,6 @@ use Rattle.msr_report.specs.declared.report.Report.{Report}
 use Rattle.msr_tool.specs.Answer.{IsRepacked, IsStopped}
 use Rattle.msr_tool.specs.Tasks.{IsReported, IsReportedInPart, Reports}
 use Rattle.msr_tool.specs.declared.fault.ToolFault.{ToolFault}
-use Rattle.msr_tool.specs.declared.fault.ToolFault.TheVariants as fault
 use Rattle.msr_options.specs.declared.days.DayOptions.{DayOptions}
 use Rattle.msr_options.specs.declared.hint.Unopened.{Unopened}
 use Rattle.msr_walk.specs.Day.{RepacksDay, HasAnswer, IsDayOutcome, IsOutcomeOfDay, IsRepackedDay, IsReadOrMemory, VerifiedAnswers}

@@ -1,4 +1,4 @@
-use Rattle.std.proofs.Common.{◌∙◌, ap, sym}
+use Rattle.std.proofs.Common.{◌∙◌, sym}
 use Rattle.msr_walk.proofs.Compared.{failure_told, fault_said, none_failed, other_tolerance, report_alone, report_failed, still, verified}
 use Rattle.msr_walk.proofs.repacking.require_verified.Goals as goal
 
