@@ -1,9 +1,10 @@
+use Rattle.std.proofs.Common.{rules}
 use Rattle.msr_verdict.proofs.BesideInputs.{answered_beside, one_told, other_told}
 use Rattle.msr_verdict.proofs.StoppedReading.{own}
 use Rattle.msr_verdict.proofs.verify.verify_beside.Goals as goal
 
 pub compare_observed-compared-requires-clause-tolerance : goal.compare_observed-compared-requires-clause-tolerance
-compare_observed-compared-requires-clause-tolerance g c = rw c.settings_by.ensures c.requires.tolerance
+compare_observed-compared-requires-clause-tolerance g c = search rules
 
 pub compare_observed-compared-requires-clause-observer : goal.compare_observed-compared-requires-clause-observer
 compare_observed-compared-requires-clause-observer g c = rw c.settings_by.ensures (own c.new-checker.ensures)
