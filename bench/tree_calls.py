@@ -1,6 +1,7 @@
 """The calls of the system by which a run and its processes change a tree, as strace shows them.
 
-A process is where its last chdir, or the last AT_FDCWD that strace told of it, was. An open file is known by its path.
+A process is where its last chdir, or the last AT_FDCWD that strace told of it, was. An open file is known by its path. A call
+that is not known here, and has to do with the tree, is refused.
 """
 from __future__ import annotations
 
@@ -11,10 +12,13 @@ from typing import Iterator, Union
 
 from crash import DELETED, Call, Disk
 
-TRACED = (
-    "open openat creat rename renameat renameat2 link linkat unlink unlinkat rmdir mkdir mkdirat write pwrite64 writev "
-    "pwritev pwritev2 copy_file_range sendfile splice ioctl ftruncate truncate fallocate fsync fdatasync sync syncfs chdir "
-    "fchdir symlink symlinkat mknod mknodat utimensat"
+# Calls that change no name and no byte of a file. All others are traced.
+HARMLESS = (
+    "read pread64 readv preadv lseek close dup dup2 dup3 fcntl flock poll ppoll select pselect6 pipe pipe2 getdents64 getcwd "
+    "stat lstat fstat newfstatat statx statfs fstatfs access faccessat faccessat2 readlink readlinkat fadvise64 umask execve "
+    "chmod fchmod fchmodat chown lchown fchown fchownat getxattr lgetxattr fgetxattr listxattr llistxattr flistxattr "
+    "brk mprotect munmap mremap rt_sigaction rt_sigprocmask rt_sigreturn wait4 futex getrandom arch_prctl prlimit64 "
+    "set_tid_address set_robust_list rseq getuid geteuid getgid getegid getpid getppid gettid sched_getaffinity"
 )
 HEX = r"(?:\\x[0-9a-f]{2})*"
 WORD = re.compile(rf'(AT_FDCWD|\d+)<({HEX})>(\(deleted\))?|"({HEX})"(\.\.\.)?')
@@ -78,10 +82,12 @@ class Reader:
         return opened, named, data
 
     def read(self, process: str, text: str) -> Iterator[Call]:
-        found = re.match(r"(\w+)\((.*)\) += (\d+)", text)
+        found = re.match(r"(\w+)\((.*)\) += (0x[0-9a-f]+|\d+)", text)
         if not found:
             return
-        name, words, result = found[1], found[2], int(found[3])
+        name, words, result = found[1], found[2], int(found[3], 0)
+        if name.startswith("io_uring"):
+            raise ValueError("calls by a ring are not read")
         opened, named, data = self.words(process, words)
         if name in ("chdir", "fchdir"):
             self.places[process] = (named or opened)[0]
@@ -99,14 +105,14 @@ class Reader:
 
     def change(self, name: str, words: str, paths: list[str], data: bytes, result: int) -> Iterator[Call]:
         """What a call does to paths of the tree."""
-        if name in OPENS:
+        if name in OPENS and "O_TMPFILE" not in words:
             if "O_CREAT" in words or name == "creat":
                 yield Call("make", paths[0])
             if "O_TRUNC" in words or name == "creat":
                 yield Call("cut", paths[0])
         elif name in ONE:
             yield Call(ONE[name], paths[0])
-        elif name in TWO and len(paths) == 2 and "RENAME_EXCHANGE" not in words:
+        elif name in TWO and len(paths) == 2 and not re.search("RENAME_(EXCHANGE|WHITEOUT)", words):
             yield Call(TWO[name], paths[0], paths[1])
         elif name in WRITES:
             yield Call("write", paths[0], data=data)
@@ -126,7 +132,7 @@ class Reader:
             yield Call("copy", paths[0], paths[1], size=result)
         elif name == "ioctl" and "CLONE" in words and len(paths) == 2:
             yield Call("copy", paths[0], paths[1], size=1 << 62)
-        elif name != "ioctl":
+        elif name != "ioctl" and not (name == "mmap" and re.search("PROT_WRITE.*MAP_SHARED", words) is None):
             raise ValueError(f"a call that is not read: {name}({words[:200]})")
 
 
@@ -141,7 +147,7 @@ def recorded(words: list[str], disk: Disk, tops: dict[str, str], folder: str, en
     what the run made of the trees."""
     trace, printed = f"{folder}/trace", f"{folder}/printed"
     more = ("-f", "--seccomp-bpf", "-qq", "-y", "-xx", "-s", str(1 << 20), "-e", "signal=none", "-o", trace)
-    traced = ["strace", *more, "-e", f"trace={','.join(TRACED.split())}", *words]
+    traced = ["strace", *more, "-e", f"trace=!{','.join(HARMLESS.split())}", *words]
     with open(printed, "wb") as to, open(f"{folder}/errors", "wb") as errors:
         subprocess.run(traced, stdin=subprocess.DEVNULL, stdout=to, stderr=errors, env=environment, timeout=600, check=False)
     with open(trace, encoding="ascii") as it:

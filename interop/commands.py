@@ -11,10 +11,12 @@ import re
 from collections import namedtuple
 
 import model
+import replaced
 import walks
 from reports import NotAReport, parsed, verdict
 
 OF_DAYS = ("--resume", "--check", "--only-smaller", "--bytes")
+OF_ORIGINALS = ("--undo", "--below", "--only-smaller", "--older-than", "--touch", "--int24")
 COMMANDS = {
     "repack": (("--length", "--no-int24", "--tolerance", "--strict"), (1, 2)),
     "feed": (("--length", "--no-int24", "--tolerance", "--strict"), (1, 1)),
@@ -23,12 +25,16 @@ COMMANDS = {
     "compare": (("--tolerance",), (2, 2)),
     "archive": (("--length", "--no-int24", "--tolerance", "--strict", "--below", *OF_DAYS), (3, 3)),
     "verify": (("--below",), (3, 3)),
+    "replace": (OF_ORIGINALS, (4, 4)),
 }
-VALUED = ("--length", "--tolerance", "--below")
+# The options that have a value; of a number the least and the greatest.
+VALUED = {"--length": (0, 2**32 - 1), "--tolerance": (1, 1_000_000), "--older-than": (0, 2**32 - 1), "--below": None}
+WALKS = ("archive", "verify", "replace")
 LENGTHS = [2**exponent for exponent in range(8, 17)]
 HINT_OF_LENGTHS = b"hint: msrepack writes records of %d, %d, %d, %d, %d, %d, %d, %d or %d bytes\n" % tuple(LENGTHS)
 
-Task = namedtuple("Task", "command names length kinds tolerance strict json below resume check only_smaller bytes")
+OF_TASK = "command names length kinds tolerance strict json below resume check only_smaller bytes"
+Task = namedtuple("Task", f"{OF_TASK} aside undo older_than touch int24")
 Device = namedtuple("Device", "most fails")
 # What a run is given beside its words.
 # The last is the file that tells what standard output had at each read, if one does.
@@ -72,7 +78,7 @@ def value_of(option, text):
     if (option, text) == ("--length", "same"):
         return text
     number = int(text) if re.fullmatch("-?[0-9]+", text) else -1
-    least, most = (1, 1_000_000) if option == "--tolerance" else (0, 2**32 - 1)
+    least, most = VALUED[option]
     if not least <= number <= most:
         raise Ends(2, None)
     return number
@@ -134,14 +140,18 @@ def read_words(words):
         raise Ends(2, told("the output is the input"))
     if command == "compare" and names == ["-", "-"]:
         raise Ends(2, told("only one input can be standard input"))
-    if command in ("archive", "verify") and (overlap(names) or overlap(below)):
+    if command in WALKS and (overlap(names) or overlap(below)):
         raise Ends(2, told("the folders overlap"))
+    if "--undo" in chosen and "--touch" in chosen:
+        raise Ends(2, told("--undo takes no --touch"))
     if not all(map(is_place, below)):
         raise Ends(2, told("not a folder of an archive"))
     kinds = model.WITHOUT_INT24 if "--no-int24" in chosen else model.KINDS
     flags = [option in chosen for option in OF_DAYS]
     tolerance, strict, json = chosen.get("--tolerance", 1000), "--strict" in chosen, "--json" in chosen
-    return Task(command, names, length, kinds, tolerance, strict, json, below, *flags)
+    aside = names.pop() if command == "replace" else None
+    of_originals = "--undo" in chosen, chosen.get("--older-than", 7), "--touch" in chosen, "--int24" in chosen
+    return Task(command, names, length, kinds, tolerance, strict, json, below, *flags, aside, *of_originals)
 
 
 # Files and streams.
@@ -341,6 +351,21 @@ def verify(task, given):
     yield Outcome(int(found.is_to_be_looked_at()), text, hint_of(found, given), lines=True)
 
 
+def replace(task, given):
+    if walks.overlap([*task.names, task.aside]):
+        raise Ends(2, told("the folders overlap"))
+    for folder in [task.names[0], task.aside][: 1 + task.undo]:
+        try:
+            os.listdir(folder)
+        except (FileNotFoundError, NotADirectoryError) as why:
+            hint = f"hint: {why.strerror} (os error {why.errno})\n".encode()
+            raise Ends(1, told(f"cannot open {walks.in_one_line(folder)}"), hint) from None
+    walk = replaced.Restoration(task) if task.undo else replaced.Replacement(task, given.odd)
+    text = model.text(walk.lines()).encode()
+    hint = b"" if task.undo else hint_of(walk, given)
+    yield Outcome(int(walk.is_to_be_looked_at()), text, hint, lines=True)
+
+
 DOES = {
     "repack": repack,
     "feed": feed,
@@ -349,6 +374,7 @@ DOES = {
     "compare": compare,
     "archive": archive,
     "verify": verify,
+    "replace": replace,
 }
 
 
@@ -370,7 +396,7 @@ def run(words, given):
     which is made even so."""
     try:
         task = read_words(words)
-        if given.is_terminal and task.command not in ("archive", "verify"):
+        if given.is_terminal and task.command not in WALKS:
             raise Unsaid("what a person is told")
         if given.writing.fails == 0 and task.command != "feed":
             return [Outcome(1, b"", told("write fault"))]

@@ -79,7 +79,8 @@ def outputs_of(words):
         task = commands.read_words(words)
     except (commands.Ends, commands.Asked):
         return []
-    return {"repack": task.names[1:], "feed": task.names, "archive": task.names[1:]}.get(task.command, [])
+    changed = {"repack": task.names[1:], "feed": task.names, "archive": task.names[1:], "replace": [*task.names, task.aside]}
+    return changed.get(task.command, [])
 
 
 def all_of(terminal):

@@ -333,7 +333,9 @@ class Script:
         given, into = self.settings(" ".join(settings))
         with contextlib.ExitStack() as files:
             for path in held:
-                fcntl.flock(files.enter_context(open(path, "ab")), fcntl.LOCK_EX | fcntl.LOCK_NB)
+                file = os.open(path, os.O_RDONLY)
+                files.callback(os.close, file)
+                fcntl.flock(file, fcntl.LOCK_EX | fcntl.LOCK_NB)
             return [printed(outcome, words, into) for outcome in commands.run(words, given)]
 
     def runs(self, asked):
@@ -438,6 +440,11 @@ FOUND = ["verified PATH", "missing PATH", "notshown PATH", "differs PATH", "refu
 FOUND += ["refused PATH: records: TEXT", "refused PATH: report: TEXT", "refused PATH: listing", "skipped PATH: TEXT"]
 FOUND += ["cannot open", "the file itself", "files N skipped N refused N missing N notshown N differs N orphan N"]
 HELP["verify"] = [*STATUSES, *FOUND, "--below", "ROOT", "OUT", "REPORTS"]
+PLACED = ["replaced PATH bytes N M", "same PATH", "young PATH", "larger PATH bytes N M", "changed PATH", "refused PATH: TEXT"]
+PLACED += ["missing PATH", "notshown PATH", "differs PATH", "skipped PATH: TEXT", "orphan PATH", "restored PATH"]
+PLACED += ["total replaced N same N young N larger N changed N skipped N refused N missing N notshown N differs N orphan N"]
+PLACED += ["unfinished FOLDER", "unfinished N bytes N M", "total restored N changed N refused N unfinished N", "PATH.touch-time", "0 to 4294967295", "[default: 7]"]
+HELP["replace"] = [*STATUSES, *PLACED, *commands.OF_ORIGINALS, "ROOT", "OUT", "REPORTS", "ASIDE"]
 
 
 def is_told(words, text):

@@ -1,5 +1,5 @@
 # Completions of msrepack for fish: commands, options, lengths, files and folders.
-set -l commands repack feed list check compare archive verify help
+set -l commands repack feed list check compare archive verify replace help
 set -l none "not __fish_seen_subcommand_from $commands"
 complete -c msrepack -f
 complete -c msrepack -n $none -a repack -d 'Write the segments of a file in the fewest records'
@@ -9,13 +9,14 @@ complete -c msrepack -n $none -a check -d 'Say whether a report shows that recor
 complete -c msrepack -n $none -a compare -d 'Say whether two files have the same segments'
 complete -c msrepack -n $none -a archive -d 'Repack every day file of an SDS archive'
 complete -c msrepack -n $none -a verify -d 'Say of every day file of an SDS archive whether its repack holds'
+complete -c msrepack -n $none -a replace -d 'Put the records of an SDS archive in the place of its files, or undo that'
 complete -c msrepack -n $none -a help -d 'Print help'
 complete -c msrepack -n $none -s V -l version -d 'Print the version'
 complete -c msrepack -s h -l help -d 'Print help'
-complete -c msrepack -n '__fish_seen_subcommand_from help' -a 'repack feed list check compare archive verify'
+complete -c msrepack -n '__fish_seen_subcommand_from help' -a 'repack feed list check compare archive verify replace'
 
 complete -c msrepack -n '__fish_seen_subcommand_from repack feed list check compare' -F
-complete -c msrepack -n '__fish_seen_subcommand_from archive verify' -a '(__fish_complete_directories)'
+complete -c msrepack -n '__fish_seen_subcommand_from archive verify replace' -a '(__fish_complete_directories)'
 complete -c msrepack -n '__fish_seen_subcommand_from repack feed archive' -x -l length \
     -a '256 512 1024 2048 4096 8192 16384 32768 65536' -d 'Bytes of each record'
 complete -c msrepack -n '__fish_seen_subcommand_from archive' -x -l length -a same -d 'That of each first record'
@@ -26,9 +27,15 @@ complete -c msrepack -n '__fish_seen_subcommand_from repack feed list compare ar
 complete -c msrepack -n '__fish_seen_subcommand_from repack feed list archive' -l strict \
     -d 'Refuse a record whose last sample is not its reverse constant'
 complete -c msrepack -n '__fish_seen_subcommand_from list' -l json -d 'Print each line as an object of JSON'
-complete -c msrepack -n '__fish_seen_subcommand_from archive verify' -x -l below \
+complete -c msrepack -n '__fish_seen_subcommand_from archive verify replace' -x -l below \
     -d 'Walk only this folder, by its path from ROOT'
 complete -c msrepack -n '__fish_seen_subcommand_from archive' -l resume -d 'Leave files alone that an earlier walk did'
 complete -c msrepack -n '__fish_seen_subcommand_from archive' -l check -d 'Hold records against their report and their file'
 complete -c msrepack -n '__fish_seen_subcommand_from archive' -l only-smaller -d 'Keep only what gets smaller in bytes'
+complete -c msrepack -n '__fish_seen_subcommand_from replace' -l undo -d 'Put the originals back'
+complete -c msrepack -n '__fish_seen_subcommand_from replace' -l only-smaller -d 'Only days whose records are fewer bytes'
+complete -c msrepack -n '__fish_seen_subcommand_from replace' -x -l older-than \
+    -d 'Only days whose file was not changed for so many days'
+complete -c msrepack -n '__fish_seen_subcommand_from replace' -l touch -d 'Give the records the time of now'
+complete -c msrepack -n '__fish_seen_subcommand_from replace' -l int24 -d 'Also days whose records have 24-bit integers'
 complete -c msrepack -n '__fish_seen_subcommand_from archive' -l bytes -d 'Tell bytes read and written too'

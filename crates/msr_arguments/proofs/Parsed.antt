@@ -1,5 +1,5 @@
 -- In a line that it lets through clap has found what the command needs.
-use Rattle.std.proofs.Common.{◌≡◌, ◌≢◌, ◌<◌, ◌≤◌, ◌∙◌, ◌&&◌, ◌||◌, ℕ, Bool, cond, true, false, not, zero, suc, pos, List, [], ◌∷◌, ap, sym, refl, arith, inl, inr, length, map, codes, Option, None, Some, IsSome, is_some, lit<}
+use Rattle.std.proofs.Common.{◌≡◌, ◌≢◌, ◌<◌, ◌≤◌, ◌^◌, ◌∙◌, ◌&&◌, ◌||◌, ℕ, Bool, cond, true, false, not, zero, suc, pos, List, [], ◌∷◌, ap, sym, refl, arith, inl, inr, length, map, codes, Option, None, Some, IsSome, is_some, lit<}
 use Rattle.std.specs.Cmp.{decided}
 use Rattle.std.specs.List.{All, AllPairs, Any, list_all, list_any, slice_index_or}
 use Rattle.std.specs.Option.{IsSomeAnd, option_map}
@@ -23,7 +23,7 @@ use Rattle.clap.specs.Simple.{App, app_of}
 use Rattle.clap.specs.Texts.{items_of}
 use Rattle.clap.specs.Values.{IsSignedIn, read_as}
 use Rattle.clap.specs.Walk.{Rule, rule_of}
-use Rattle.clap.specs.Words.{first_value}
+use Rattle.clap.specs.Words.{first_value, one_text}
 use Rattle.clap.specs.declared.builder.action.ArgAction.{ArgAction}
 use Rattle.clap.specs.declared.builder.action.ArgAction.TheVariants.{Count, Set}
 use Rattle.clap.specs.declared.builder.arg.Arg.{Arg}
@@ -38,27 +38,33 @@ use Rattle.msr_options.specs.Tasks.{IsTolerance, word_of}
 use Rattle.msr_options.specs.declared.task.Verb.{Verb}
 use Rattle.msr_options.specs.declared.task.Verb.TheVariants as verb
 use Rattle.msr_arguments.specs.Found.{IsNumberOf}
-use Rattle.msr_arguments.specs.Rules.{HasNeeded, HoldsTolerance, IsFoundFor, rules_of, app_with, tolerance_rule}
+use Rattle.msr_arguments.specs.Rules.{HasNeeded, HoldsDays, HoldsTolerance, IsFoundFor, rules_of, app_with, days_rule, option_rule, tolerance_rule}
 use Rattle.msr_arguments.proofs.Adding.{plain_fields}
 use denote.Ref.{Bor}
 
+-- it is a number of the range
+abbrev IsIn : (low high : ℕ) → (number : Option ℕ) → Type 0
+IsIn low high number = (n : ℕ) × (number ≡ Some n) × (low ≤ n) × (n ≤ high)
+
 -- the number that is read of the first value, each value being one of the range
-number_in_range : (values : List (Bor (List ℕ))) (how : Reading) (number : Option ℕ) → 0 < length values →
-    All (λ value. IsSignedIn (pos 1) (pos 1_000_000) value.now) values → how ≡ WithoutMinus →
-    IsNumberOf (option_map (λ value. read_as how value.now) (slice_get values 0)) number → IsSomeAnd number IsTolerance
-number_in_range [] how number some all is reads = absurd (omega (arith, some))
-number_in_range (value ∷ values) how number some all is reads =
-    tolerance number
-    (signed_reads (List ℕ) (ParsesUnsigned 32 10) 32 1 1_000_000 value.now number (as_read number (rw is at reads))
-    (λ text read given. given) (lit< tt) (all 0 value (omega arith)))
+number_in_range : (low high : ℕ) (values : List (Bor (List ℕ))) (how : Reading) (number : Option ℕ) → high < 2 ^ 32 →
+    0 < length values → All (λ value. IsSignedIn (pos low) (pos high) value.now) values → how ≡ WithoutMinus →
+    IsNumberOf (option_map (λ value. read_as how value.now) (slice_get values 0)) number → IsIn low high number
+number_in_range low high [] how number fits some all is reads = absurd (omega (arith, some))
+number_in_range low high (value ∷ values) how number fits some all is reads =
+    signed_reads (List ℕ) (ParsesUnsigned 32 10) 32 low high value.now number (as_read number (rw is at reads))
+    (λ text read given. given) fits (all 0 value (omega arith))
   where
     as_read : (read : Option ℕ) → IsNumberOf (Some (read_as WithoutMinus value.now)) read →
         ReadsOne {E = List ℕ} (ParsesUnsigned 32 10) (read_as WithoutMinus value.now) read
     as_read None reads = (read_as WithoutMinus value.now, reads)
     as_read (Some n) reads = reads
 
-    tolerance : (read : Option ℕ) → (n : ℕ) × (read ≡ Some n) × (1 ≤ n) × (n ≤ 1_000_000) → IsSomeAnd read IsTolerance
-    tolerance read (n, is, least, most) = rw is (record { least = least; most = most })
+holds_tolerance : (number : Option ℕ) → IsIn 1 1_000_000 number → IsSomeAnd number IsTolerance
+holds_tolerance number (n, is, least, most) = rw is (record { least = least; most = most })
+
+holds_days : (number : Option ℕ) → IsIn 0 4_294_967_295 number → IsSome number
+holds_days number (n, is, least, most) = rw is refl
 
 -- clap adds nothing of that name
 abbrev is_ours : (name : List ℕ) → Bool
@@ -86,9 +92,15 @@ tolerance_at : (verb : Verb) → list_any (λ rule. bytes_eq rule.id (codes "tol
     Any (λ rule. rule ≡ tolerance_rule) (rules_of verb)
 tolerance_at verb.Check has = cc
 tolerance_at verb.Verify has = cc
+tolerance_at verb.Replace has = cc
 tolerance_at verb.List has = (0, tolerance_rule, lit< tt, refl, refl)
 tolerance_at verb.Compare has = (0, tolerance_rule, lit< tt, refl, refl)
 tolerance_at _ has = (2, tolerance_rule, lit< tt, refl, refl)
+
+days_at : (verb : Verb) → list_any (λ rule. bytes_eq rule.id (codes "older-than")) (rules_of verb) ≡ true →
+    Any (λ rule. rule ≡ days_rule) (rules_of verb)
+days_at verb.Replace has = (3, days_rule, lit< tt, refl, refl)
+days_at _ has = cc
 
 set_action : (action : Option ArgAction) → is_set action ≡ true → action ≡ Some Set
 set_action (Some Set) is = refl
@@ -166,13 +178,13 @@ not_own arg ours (inl help) = ours_only arg.id.now _ ours refl help
 not_own arg ours (inr version) = ours_only arg.id.now _ ours refl version
 
 -- the entry of such an option has a value, and each is one of the range
-entry_reads : (c : Command) (arg : Arg) (e : Entry) → arg.action ≡ Some Set → arg.val_delim ≡ None → 1 ≤ least_values arg →
-    arg.value_parser ≡ Some (Signed (pos 1) (pos 1_000_000)) → EntryPasses c e → groups_of c ≡ [] → e.0.now ≢ [] →
+entry_reads : (low high : ℕ) (c : Command) (arg : Arg) (e : Entry) → arg.action ≡ Some Set → arg.val_delim ≡ None → 1 ≤ least_values arg →
+    arg.value_parser ≡ Some (Signed (pos low) (pos high)) → EntryPasses c e → groups_of c ≡ [] → e.0.now ≢ [] →
     ((j : ℕ) (y : Arg) → j < length (args_of c) → slice_index_or (args_of c) j y ≡ y → bytes_eq y.id.now e.0.now ≡ true →
     SameRules arg y) →
-    (0 < length e.1.vals.items) × All (λ value. IsSignedIn (pos 1) (pos 1_000_000) value.now) e.1.vals.items
+    (0 < length e.1.vals.items) × All (λ value. IsSignedIn (pos low) (pos high) value.now) e.1.vals.items
     × (e.1.reading ≡ WithoutMinus)
-entry_reads c arg e action delimiter least parser passes groups named same =
+entry_reads low high c arg e action delimiter least parser passes groups named same =
     let no_group : e.1.is_group ≡ true → ⊥ = λ group. elim (passes.3 group) [
       | inl empty ↦ named empty
       | inr some ↦ let none : 0 < 0 = rw groups at some in absurd (omega (arith, none))
@@ -270,26 +282,28 @@ module _ (name : List ℕ) (rules : List Rule) (command : Command) (m : ArgMatch
       (λ auto. not_own arg own (rw here at auto)) in
       rw (← ap (λ (r : Rule). r.id) of) (rw here at there)
 
-  tolerance_there : Any (λ rule. rule ≡ tolerance_rule) rules → HoldsTolerance (found_of m)
-  tolerance_there (k, rule, within, at, tolerance) number reads =
+  number_there : (low high : ℕ) (name default : List ℕ) → high < 2 ^ 32 →
+      Any (λ rule. rule ≡ option_rule name default (Signed (pos low) (pos high))) rules → (number : Option ℕ) →
+      IsNumberOf (one_text (found_of m) name) number → IsIn low high number
+  number_there low high name default fits_bits (k, rule, within, at, same_rule) number reads =
       let (arg, inside, here, of, fits) = place k rule within at in
-      let is_rule = of ∙ tolerance in
-      let id : arg.id.now ≡ codes "tolerance" = ap (λ (r : Rule). r.id) is_rule in
+      let is_rule = of ∙ same_rule in
+      let id : arg.id.now ≡ name = ap (λ (r : Rule). r.id) is_rule in
       let own : is_ours arg.id.now ≡ true = (both _ _ (both _ _ (both _ _ fits).1).1).0 in
       let one : arg.num_vals ≡ None = ap (λ (r : Rule). r.range) is_rule in
       let wants = wants_default arg (plain_arg arg fits).2 (ap (λ (r : Rule). length r.defaults) is_rule) in
       let entries = (found_of m).entries.items in
       let has = default_present command m p globals k arg inside (rw here wants) in
-      let (entry, there) = some_is _ (entry_there entries (codes "tolerance") (rw (here, id) at has)) in
+      let (entry, there) = some_is _ (entry_there entries name (rw (here, id) at has)) in
       let values = (p.parsed (p.from.globals ∙ globals)).values in
-      let (e, same, key, holds) = entry_by_id (EntryPasses p.built) entries (codes "tolerance") entry values there in
-      let key_is : e.0.now ≡ codes "tolerance" = (bytes_eq-Decides e.0.now (codes "tolerance")).0 key in
+      let (e, same, key, holds) = entry_by_id (EntryPasses p.built) entries name entry values there in
+      let key_is : e.0.now ≡ name = (bytes_eq-Decides e.0.now name).0 key in
       let (some, all, how) =
-      rw same at (entry_reads p.built arg e (ap (λ (r : Rule). r.action) is_rule) (plain_arg arg fits).1 (one_value arg one)
+      rw same at (entry_reads low high p.built arg e (ap (λ (r : Rule). r.action) is_rule) (plain_arg arg fits).1 (one_value arg one)
       (ap (λ (r : Rule). r.parser) is_rule) holds (p.from.plain plain).1
       (rw (key_is, ← id) (ours_only arg.id.now [] own refl))
       (λ j y within at equal. same_arg k arg inside here own j y within at (rw (id, ← key_is) equal))) in
-      number_in_range entry.vals.items entry.reading number some all how (rw there at reads)
+      number_in_range low high entry.vals.items entry.reading number fits_bits some all how (rw there at reads)
 
 has_needed : (rules : List Rule) (found : Found) →
     ((k : ℕ) (rule : Rule) → k < length rules → slice_index_or rules k rule ≡ rule → rule.required ≡ true →
@@ -308,6 +322,10 @@ has_all verb command m is p =
     record {
       files = has_needed (rules_of verb) (found_of m)
           (file_there (word_of verb) (rules_of verb) command m is (rules_suit verb) apart p);
-      tolerance = λ has. tolerance_there (word_of verb) (rules_of verb) command m is (rules_suit verb) apart p
-          (tolerance_at verb has);
+      tolerance = λ has number reads. holds_tolerance number
+          (number_there (word_of verb) (rules_of verb) command m is (rules_suit verb) apart p 1 1_000_000 (codes "tolerance")
+          (codes "1000") (lit< tt) (tolerance_at verb has) number reads);
+      days = λ has number reads. holds_days number
+          (number_there (word_of verb) (rules_of verb) command m is (rules_suit verb) apart p 0 4_294_967_295
+          (codes "older-than") (codes "7") (lit< tt) (days_at verb has) number reads);
     }

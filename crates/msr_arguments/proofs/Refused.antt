@@ -127,6 +127,7 @@ by_name P word other none help =
       differs verb.Compare,
       differs verb.Archive,
       differs verb.Verify,
+      differs verb.Replace,
       differs verb.Feed,
     )
     (elim (bytes_eq (codes "help") word) as (λ same. bytes_eq (codes "help") word ≡ same →

@@ -7,7 +7,7 @@ use Rattle.clap.specs.declared.error.kind.ErrorKind.TheVariants.{DisplayHelp, Di
 use Rattle.clap.specs.declared.parser.matches.Found.{Found}
 use Rattle.msr_options.specs.Choice.{Choice, record_size}
 use Rattle.msr_arguments.specs.declared.words.LineFault.{LineFault}
-use Rattle.msr_arguments.specs.declared.words.LineFault.TheVariants.{SameFile, OneStandardInput, NotBelow, Overlap}
+use Rattle.msr_arguments.specs.declared.words.LineFault.TheVariants.{SameFile, OneStandardInput, NotBelow, Overlap, TouchedOriginals}
 use Rattle.msr_options.specs.declared.days.DayOptions.{DayOptions}
 use Rattle.msr_kinds.specs.declared.kinds.Kinds.{Kinds}
 use Rattle.msr_kinds.specs.declared.kinds.Kinds.TheVariants.{All, WithoutInt24}
@@ -18,8 +18,9 @@ use Rattle.msr_options.specs.declared.task.ListForm.{ListForm}
 use Rattle.msr_options.specs.declared.task.ListForm.TheVariants.{Words, Json}
 use Rattle.msr_options.specs.declared.task.NoTask.{NoTask}
 use Rattle.msr_options.specs.declared.task.NoTask.TheVariants.{Ending, NotALength, Memory}
+use Rattle.msr_options.specs.declared.task.Replacing.{Replacing}
 use Rattle.msr_options.specs.declared.task.Task.{Task}
-use Rattle.msr_options.specs.declared.task.Task.TheVariants.{Repack, List as Listing, Check, Compare, Archive, Verify, Feed}
+use Rattle.msr_options.specs.declared.task.Task.TheVariants.{Repack, List as Listing, Check, Compare, Archive, Verify, Replace, Feed}
 use Rattle.msr_options.specs.declared.task.Verifying.{Verifying}
 
 -- the number of 32 bits that a text is in decimal digits, with or without a plus before them; `None` if there is no
@@ -109,6 +110,21 @@ pub record AsksVerify (found : Found) (asked : Verifying) : Type 0 where
   pub folders : AsksFolders found asked.folders
   pub below : AsksBelow found (map (λ folder. folder.now) asked.below.items)
 
+-- the flags for originals are those that were found
+pub record AsksPlaces (found : Found) (asked : Replacing) : Type 0 where
+  pub undo : IsFlagOf (one_text found (codes "undo")) asked.undo
+  pub only_smaller : IsFlagOf (one_text found (codes "only-smaller")) asked.only_smaller
+  pub touch : IsFlagOf (one_text found (codes "touch")) asked.touch
+  pub int24 : IsFlagOf (one_text found (codes "int24")) asked.int24
+
+-- originals are to change places with their records as was found
+pub record AsksReplace (found : Found) (asked : Replacing) : Type 0 where
+  pub folders : AsksFolders found asked.folders
+  pub aside : first_value found (codes "ASIDE") ≡ Some asked.aside.now
+  pub below : AsksBelow found (map (λ folder. folder.now) asked.below.items)
+  pub older_than : IsNumberOf (one_text found (codes "older-than")) (Some asked.older_than)
+  pub flags : AsksPlaces found asked
+
 -- the names of a check are those of its words
 pub record AsksCheck (found : Found) (checking : Checking) : Type 0 where
   pub packed : first_value found (codes "PACKED") ≡ Some checking.packed.now
@@ -126,6 +142,7 @@ AsksTask found (Compare asked) = AsksOptions found (length_in found) asked.optio
     × (first_value found (codes "ONE") ≡ Some asked.one.now) × (first_value found (codes "OTHER") ≡ Some asked.other.now)
 AsksTask found (Archive asked) = AsksArchive found asked
 AsksTask found (Verify asked) = AsksVerify found asked
+AsksTask found (Replace asked) = AsksReplace found asked
 AsksTask found (Feed asked) =
     AsksOptions found (length_in found) asked.options × (first_value found (codes "REPORT") ≡ Some asked.report.now)
 
@@ -170,4 +187,5 @@ line_fault_text SameFile = Some (codes "msrepack: the output is the input\n")
 line_fault_text OneStandardInput = Some (codes "msrepack: only one input can be standard input\n")
 line_fault_text NotBelow = Some (codes "msrepack: not a folder of an archive\n")
 line_fault_text Overlap = Some (codes "msrepack: the folders overlap\n")
+line_fault_text TouchedOriginals = Some (codes "msrepack: --undo takes no --touch\n")
 line_fault_text _ = None

@@ -13,7 +13,7 @@ use Rattle.msr_options.specs.declared.task.Verb.{Verb}
 use Rattle.msr_options.specs.declared.task.Verb.TheVariants as verb
 use Rattle.msr_arguments.specs.Found.{IsNumberOf}
 use Rattle.msr_arguments.specs.declared.commands.Argument.{Argument}
-use Rattle.msr_arguments.specs.declared.commands.Argument.TheVariants.{File, FileIfAny, Flag, Below, Tolerance, Length, DayLength}
+use Rattle.msr_arguments.specs.declared.commands.Argument.TheVariants.{File, FileIfAny, Flag, Below, Tolerance, Days, Length, DayLength}
 
 -- the rule of an argument, as clap's clauses see it: of a file or folder that has to be given
 abbrev pub file_rule : (name : List ℕ) → Rule
@@ -40,6 +40,9 @@ below_rule =
 abbrev pub tolerance_rule : Rule
 tolerance_rule = option_rule (codes "tolerance") (codes "1000") (Signed (pos 1) (pos 1_000_000))
 
+abbrev pub days_rule : Rule
+days_rule = option_rule (codes "older-than") (codes "7") (Signed (pos 0) (pos 4_294_967_295))
+
 abbrev pub length_rule : Rule
 length_rule = option_rule (codes "length") (codes "512") (Signed (pos 0) (pos 4_294_967_295))
 
@@ -53,6 +56,7 @@ rule_for (FileIfAny name help) = new_rule name.now
 rule_for (Flag name help long_help) = flag_rule name.now
 rule_for (Below help long_help) = below_rule
 rule_for (Tolerance help long_help) = tolerance_rule
+rule_for (Days help long_help) = days_rule
 rule_for (Length help) = length_rule
 rule_for (DayLength help long_help) = day_length_rule
 
@@ -70,6 +74,9 @@ rules_of verb.Archive = day_length_rule ∷ flag_rule (codes "no-int24") ∷ tol
     ∷ below_rule ∷ flag_rule (codes "resume") ∷ flag_rule (codes "check") ∷ flag_rule (codes "only-smaller")
     ∷ flag_rule (codes "bytes") ∷ folder_rules
 rules_of verb.Verify = below_rule ∷ folder_rules
+rules_of verb.Replace = flag_rule (codes "undo") ∷ below_rule ∷ flag_rule (codes "only-smaller") ∷ days_rule
+    ∷ flag_rule (codes "touch") ∷ flag_rule (codes "int24") ∷ file_rule (codes "ROOT") ∷ file_rule (codes "OUT")
+    ∷ file_rule (codes "REPORTS") ∷ file_rule (codes "ASIDE") ∷ []
 rules_of verb.Feed = length_rule ∷ flag_rule (codes "no-int24") ∷ tolerance_rule ∷ flag_rule (codes "strict")
     ∷ file_rule (codes "REPORT") ∷ []
 
@@ -78,7 +85,8 @@ abbrev pub app_with : (name : List ℕ) → List Rule → App
 app_with name rules = record { top = record (new_shape name) { rules = rules }; subs = [] }
 
 abbrev pub verbs : List Verb
-verbs = verb.Repack ∷ verb.List ∷ verb.Check ∷ verb.Compare ∷ verb.Archive ∷ verb.Verify ∷ verb.Feed ∷ []
+verbs = verb.Repack ∷ verb.List ∷ verb.Check ∷ verb.Compare ∷ verb.Archive ∷ verb.Verify ∷ verb.Replace ∷ verb.Feed
+    ∷ []
 
 -- the program with all its commands
 abbrev pub program_app : App
@@ -97,7 +105,12 @@ abbrev pub HoldsTolerance : Found → Type 0
 HoldsTolerance found =
     (number : Option ℕ) → IsNumberOf (one_text found (codes "tolerance")) number → IsSomeAnd number IsTolerance
 
+-- the text of the days is read as a number
+abbrev pub HoldsDays : Found → Type 0
+HoldsDays found = (number : Option ℕ) → IsNumberOf (one_text found (codes "older-than")) number → IsSome number
+
 -- what clap has found in a line of the command that it lets through
 pub record IsFoundFor (verb : Verb) (found : Found) : Type 0 where
   pub files : HasNeeded (rules_of verb) found
   pub tolerance : list_any (λ rule. bytes_eq rule.id (codes "tolerance")) (rules_of verb) ≡ true → HoldsTolerance found
+  pub days : list_any (λ rule. bytes_eq rule.id (codes "older-than")) (rules_of verb) ≡ true → HoldsDays found

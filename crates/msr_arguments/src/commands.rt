@@ -24,6 +24,8 @@ pub(crate) enum Argument<'a> {
     Below(&'a str, &'a str),
     Tolerance(&'a str, &'a str),
     Length(&'a str),
+    /// A number of days.
+    Days(&'a str, &'a str),
     /// The length of a day's records. Each may have a length of its own, so that it may be no number.
     DayLength(&'a str, &'a str),
 }
@@ -48,6 +50,7 @@ fn about_of<'a>(verb: Verb) -> About<'a>
         Verb::Compare => texts::COMPARE,
         Verb::Archive => texts::ARCHIVE,
         Verb::Verify => texts::VERIFY,
+        Verb::Replace => texts::REPLACE,
         Verb::Feed => texts::FEED,
     }
 }
@@ -106,6 +109,9 @@ fn arg_of<'a>(alloc: Global, argument: Argument<'a>) -> Arg<'a>
             let parser = value_parser!(u32).range(1..=1_000_000);
             valued(alloc, "tolerance", "T", parser, "1000", help).long_help(long_help)
         }
+        Argument::Days(help, long_help) => {
+            valued(alloc, "older-than", "DAYS", value_parser!(u32), "7", help).long_help(long_help)
+        }
         Argument::Length(help) => { valued(alloc, "length", "L", value_parser!(u32), "512", help) }
         Argument::DayLength(help, long_help) => {
             valued(alloc, "length", "L", value_parser!(String), "512", help).long_help(long_help)
@@ -157,6 +163,7 @@ pub(crate) fn program_line<'a>(alloc: Global) -> Result<Command<'a>, AllocError>
         Verb::Compare,
         Verb::Archive,
         Verb::Verify,
+        Verb::Replace,
         Verb::Feed,
     ] {
         command = command.subcommand(described(alloc, verb.word(), about_of(verb))?)?;

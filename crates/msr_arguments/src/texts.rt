@@ -265,6 +265,69 @@ day of waveform data; 2 if the command line is wrong.",
     ],
 };
 
+pub(crate) const REPLACE: About = About {
+    about: "Puts the records of an SDS archive in the place of its files, or undoes that",
+    long_about: "Puts the records of an archive, as `archive` made them, in the place of its files, or
+with --undo the files back.
+
+Walks the folders below ROOT as `archive` does, and verifies each day anew, as `verify`
+does. The file of a verified day goes from ROOT to the same path below ASIDE, and its
+records from OUT to its place in ROOT, with its owner, group, mode and time of last
+change. At each moment, whatever is killed, one whole file has the day's name, the
+original or its records: run it again, and it goes on. Prints one line for each entry:
+
+replaced PATH bytes N M               done: N bytes became M
+same PATH                             ROOT has the records already
+young PATH                            the file was changed in the last DAYS days, or in
+                                      the future: left alone
+larger PATH bytes N M                 the records are not fewer bytes, with
+                                      --only-smaller: left alone
+changed PATH                          file or records were changed since they were
+                                      verified: the file has its place
+refused PATH: TEXT                    as `verify` tells it; or a link is in the way, ASIDE
+                                      has another file of this name, owner, mode or time
+                                      cannot be kept, or the records have 24-bit integers
+missing PATH, notshown PATH, differs PATH, skipped PATH: TEXT, orphan PATH
+                                      as `verify` tells it
+unfinished FOLDER                     the system failed there, as standard error tells
+
+and last the counts:
+
+total replaced N same N young N larger N changed N skipped N refused N missing N
+notshown N differs N orphan N unfinished N bytes N M
+
+With --undo it walks the folders below ASIDE, and puts each original back into ROOT and
+its records back into OUT. Nothing is verified. The lines are
+
+restored PATH                         done
+changed PATH                          somebody has written to the records in ROOT: the
+                                      original stays in ASIDE
+refused PATH: TEXT                    a link is in the way, other records are in OUT, or
+                                      owner, mode or time cannot be kept
+total restored N changed N refused N unfinished N
+
+Status 0 if each day is replaced, same, young or larger, or restored, else 1, also if ROOT
+has no folder of an archive; 2 if the command line is wrong.",
+    after: "Examples:
+  msrepack replace --below 2025 sds packed reports aside > log.txt
+  msrepack replace --undo --below 2025 sds packed reports aside",
+    arguments: &[
+        UNDO,
+        BELOW,
+        SMALLER_FIRST,
+        OLDER_THAN,
+        TOUCH,
+        INT24,
+        ROOT,
+        Argument::File("OUT", "The folder of the records"),
+        Argument::File("REPORTS", "The folder of the reports"),
+        Argument::File(
+            "ASIDE",
+            "The folder of the originals. It is made if it is missing; best on the file system of ROOT",
+        ),
+    ],
+};
+
 pub(crate) const FEED: About = About {
     about: "Repacks standard input to standard output while it comes",
     long_about: "Repacks standard input to standard output while it comes.
@@ -322,6 +385,41 @@ const ONLY_SMALLER: Argument = Argument::Flag(
 has, neither they nor the report are kept, nor what an earlier walk made of it, and
 `larger PATH read N written M` is printed. It is neither done nor refused, and the last
 line counts it: `files N skipped N refused N larger N`",
+);
+
+const UNDO: Argument = Argument::Flag(
+    "undo",
+    "Put the originals back",
+    "Put the originals that ASIDE has back into ROOT, and their records back into OUT, where
+`archive --resume` finds all as it was",
+);
+
+const SMALLER_FIRST: Argument = Argument::Flag(
+    "only-smaller",
+    "Only days whose records are fewer bytes than their file",
+    "Only days whose records are fewer bytes than their file. For others `larger PATH bytes N
+M` is printed",
+);
+
+const OLDER_THAN: Argument = Argument::Days(
+    "Only days whose file was not changed for so many days; 0: all",
+    "Only days whose file was not changed for so many days, 0 to 4294967295; with 0 all. Who
+still writes to a file might go on in ASIDE",
+);
+
+const TOUCH: Argument = Argument::Flag(
+    "touch",
+    "Give the records the time of now",
+    "Give the records the time of now as that of their last change, and not that of their
+file, so that rsync or an index sees that they are new. An empty file PATH.touch-time in
+ASIDE has that time too, by which --undo sees whether somebody has written since",
+);
+
+const INT24: Argument = Argument::Flag(
+    "int24",
+    "Also days whose records have 24-bit integers",
+    "Also days whose records have 24-bit integers (encoding 2), which libmseed 2 and the tools
+built on it cannot read. Without it they are refused",
 );
 
 const BYTES: Argument = Argument::Flag(

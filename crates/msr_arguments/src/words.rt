@@ -2,10 +2,10 @@
 ghost use Rattle.std.specs.Prelude.{◌≡◌, ◌≢◌, ◌<◌, ◌≤◌, ◌↔◌, ℕ, length, codes, false, slice_get, Some, IfOk, IfErr, IfSome, IsSome, IsSomeAnd, IsOk, IsOkAnd, IsErrAnd, IsTrue, Ok, Err, Any, drop, map, option_map, true};
 ghost use Rattle.msr_kinds.specs.RecordLength.{IsRecordLength};
 ghost use Rattle.clap.specs.Words.{first_value, found_of, kind_of, one_text};
-ghost use Rattle.msr_arguments.specs.Found.{AsksArchive, AsksBelow, AsksCheck, AsksDays, AsksFolders, AsksOptions, AsksTask, AsksVerify, EndsFor, EndsWith, IsBadLine, IsFlagOf, IsFormOf, IsKindsOf, IsLengthOf, IsNumberOf, IsToldByClap, IsWrong, length_in, line_fault_text, without_slash};
-ghost use Rattle.msr_arguments.specs.Rules.{IsFoundFor, HasNeeded, HoldsTolerance, folder_rules};
+ghost use Rattle.msr_arguments.specs.Found.{AsksArchive, AsksBelow, AsksCheck, AsksDays, AsksFolders, AsksOptions, AsksPlaces, AsksReplace, AsksTask, AsksVerify, EndsFor, EndsWith, IsBadLine, IsFlagOf, IsFormOf, IsKindsOf, IsLengthOf, IsNumberOf, IsToldByClap, IsWrong, length_in, line_fault_text, without_slash};
+ghost use Rattle.msr_arguments.specs.Rules.{IsFoundFor, HasNeeded, HoldsDays, HoldsTolerance, folder_rules};
 ghost use Rattle.msr_options.specs.Asked.{AsksAlone, HasStatus, ask_help};
-ghost use Rattle.msr_options.specs.Tasks.{AreApart, AreBothStandard, HasTolerance, IsDefault, IsTolerance, KeepsInput, Overlap, StandApart, verb_of, word_of};
+ghost use Rattle.msr_options.specs.Tasks.{AreApart, AreBothStandard, HasTolerance, IsDefault, IsTolerance, KeepsInput, KeepsOriginals, Overlap, StandApart, verb_of, word_of};
 
 use crate::commands::{command_line, length_alone, program_line};
 use clap::ArgMatches;
@@ -13,7 +13,7 @@ use clap::error::ErrorKind;
 use msr_kinds::{Kinds, Length};
 use msr_options::{
     Archiving, Checking, Comparing, DayOptions, Ending, Feeding, Folders, ListForm, Listing,
-    NoTask, Options, Repacking, Task, Verb, Verifying, overlap,
+    NoTask, Options, Repacking, Replacing, Task, Verb, Verifying, overlap,
 };
 use msr_sds::levels_below;
 use std::alloc::{AllocError, Global};
@@ -48,6 +48,8 @@ enum LineFault<'a> {
     OneStandardInput,
     NotBelow,
     Overlap,
+    /// The originals would get the time of now when they are put back.
+    TouchedOriginals,
     Memory,
 }
 
@@ -65,6 +67,7 @@ fn refused(alloc: Global, fault: LineFault<'_>) -> NoTask
         LineFault::OneStandardInput => "msrepack: only one input can be standard input\n",
         LineFault::NotBelow => "msrepack: not a folder of an archive\n",
         LineFault::Overlap => "msrepack: the folders overlap\n",
+        LineFault::TouchedOriginals => "msrepack: --undo takes no --touch\n",
     };
     match String::from_str(alloc, text) {
         Ok(text) => NoTask::Ending(Ending { text, status: 2 }),
@@ -261,6 +264,42 @@ fn verifying_in<'a>(alloc: Global, found: &ArgMatches<'a>) -> Result<Verifying<'
     Ok(Verifying { folders, below })
 }
 
+/// For how many days files have to be unchanged.
+fn older_than_in(found: &ArgMatches<'_>) -> u32
+    requires { HoldsDays (found_of found.now) }
+    ensures { IsNumberOf (one_text (found_of found.now) (codes "older-than")) (Some result) }
+{
+    number_in(found, "older-than").unwrap()
+}
+
+/// The archive that clap found, whose originals are to change places with their records.
+fn replacing_in<'a>(alloc: Global, found: &ArgMatches<'a>) -> Result<Task<'a>, LineFault<'a>>
+    requires { IsFoundFor Verb.Replace (found_of found.now) }
+    ensures asked { IfOk result (λ task. (verb_of task ≡ Verb.Replace) × AsksTask (found_of found.now) task) }
+    ensures kept { IfOk result (λ task. HasTolerance task × KeepsInput task) }
+{
+    let Verifying { folders, below } = verifying_in(alloc, found)?;
+    let aside = file_in(found, "ASIDE");
+    if !folders.are_apart_from(aside) {
+        return Err(LineFault::Overlap);
+    }
+    let undo = flag_in(found, "undo");
+    let touch = flag_in(found, "touch");
+    if undo && touch {
+        return Err(LineFault::TouchedOriginals);
+    }
+    Ok(Task::Replace(Replacing {
+        folders,
+        aside,
+        below,
+        undo,
+        only_smaller: flag_in(found, "only-smaller"),
+        older_than: older_than_in(found),
+        touch,
+        int24: flag_in(found, "int24"),
+    }))
+}
+
 /// The file to be repacked that clap found.
 fn repacking_in<'a>(found: &ArgMatches<'a>) -> Result<Task<'a>, LineFault<'a>>
     requires { IsFoundFor Verb.Repack (found_of found.now) }
@@ -352,6 +391,7 @@ fn task_in<'a>(alloc: Global, verb: Verb, found: &ArgMatches<'a>) -> Result<Task
         Verb::Compare => comparing_in(found),
         Verb::Archive => archiving_in(alloc, found),
         Verb::Verify => Ok(Task::Verify(verifying_in(alloc, found)?)),
+        Verb::Replace => replacing_in(alloc, found),
         Verb::Feed => feeding_in(found),
     }
 }

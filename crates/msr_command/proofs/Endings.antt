@@ -4,12 +4,14 @@ use Rattle.std.proofs.Common.{◌≡◌, ℕ, Bool, List, [], codes, refl, subst
 use Rattle.msr_devices.specs.Device.{Device, HasLeft, Takes}
 use Rattle.msr_devices.proofs.Chaining.{left_of, takes_append, takes_none}
 use Rattle.msr_report.specs.declared.report.Report.{Report}
+use Rattle.msr_devices.specs.declared.fault.DeviceFault.{DeviceFault}
 use Rattle.msr_devices.specs.declared.fault.DeviceFault.TheVariants as device_fault
 use Rattle.msr_options.specs.Choice.{Choice}
 use Rattle.msr_tool.specs.Tasks.{Reports}
 use Rattle.msr_tool.specs.declared.fault.ToolFault.{ToolFault}
 use Rattle.msr_tool.specs.declared.fault.ToolFault.TheVariants as fault
 use Rattle.msr_options.specs.declared.task.Archiving.{Archiving}
+use Rattle.msr_options.specs.declared.task.Replacing.{Replacing}
 use Rattle.msr_options.specs.declared.task.Verifying.{Verifying}
 use Rattle.msr_folders.specs.declared.found.WalkFound.{WalkFound}
 use Rattle.msr_folders.specs.Visits.{IsWalk}
@@ -20,16 +22,19 @@ use Rattle.msr_walk.proofs.EntriesTold.{none_told, stops_entries, walk_stops}
 use Rattle.msr_verify.specs.Entries.{IsJudgedEntry, IsJudgedEntryLine}
 use Rattle.msr_verify.specs.Walk.{Verifies, judged_summary}
 use Rattle.msr_verify.proofs.EntriesFound.{none_told as none_found, stops_entries as stops_found, walk_stops as verifying_stops}
+use Rattle.msr_replace.specs.Entries.{IsEntry as IsOutcome, IsEntryLine as IsOutcomeLine}
+use Rattle.msr_replace.specs.Sums.{summary as outcomes_summary}
+use Rattle.msr_replace.specs.Walk.{Replaces, ReplacingEnds}
 use Rattle.msr_command.specs.declared.done.Done.{Done}
 use Rattle.msr_command.specs.declared.done.Done.TheVariants.{Written, Repacked}
 use Rattle.msr_command.specs.declared.task_fault.TaskFault.{TaskFault}
-use Rattle.msr_command.specs.declared.task_fault.TaskFault.TheVariants.{Tool}
+use Rattle.msr_command.specs.declared.task_fault.TaskFault.TheVariants.{CannotOpen, Input, Failed, SameFile, SameOutput, Overlap, Closed, Tool}
 use Rattle.msr_options.specs.declared.task.ListForm.{ListForm}
 use Rattle.msr_options.specs.declared.task.Task.{Task}
-use Rattle.msr_options.specs.declared.task.Task.TheVariants.{Repack, List as Listing, Check, Compare, Archive, Verify, Feed}
+use Rattle.msr_options.specs.declared.task.Task.TheVariants.{Repack, List as Listing, Check, Compare, Archive, Verify, Replace, Feed}
 use Rattle.msr_command.specs.Turns.{AreTurns}
 use Rattle.msr_command.proofs.Comparisons.{compare_unsettled, two_after, two_none}
-use Rattle.msr_command.specs.Ends.{Checks, Does, EndsClosed, Feeds, FeedAnswers, FeedEnds, FeedsTo, IsUncreated, IsUnread, ListEnds, ListsNamed, IsOverlapOrMemory, Over, RepackEnds, Repacks, RepacksNamed, VerifiesArchive, WalksArchive, done_of_archive, done_of_verifying, is_whole}
+use Rattle.msr_command.specs.Ends.{Checks, Does, EndsClosed, EndsReplacing, Feeds, FeedAnswers, FeedEnds, FeedsTo, IsUncreated, IsUnbegun, IsUnread, ListEnds, ListsNamed, IsOverlapOrMemory, Over, RepackEnds, Repacks, RepacksNamed, ReplaceEnds, ReplacesArchive, VerifiesArchive, WalksArchive, done_of_archive, done_of_verifying, is_whole}
 
 -- nothing was read or printed
 over_none : (known : Type 0) (says : (input printed : List ℕ) → Type 0) (source out0 out : Device) → Takes out0 out [] →
@@ -112,6 +117,8 @@ task_closed (Archive asked) standard out0 out stop none ends =
     rw ends (record { printed = []; prints = none; ends = inr (inr refl, refl) })
 task_closed (Verify asked) standard out0 out stop none ends =
     rw ends (record { printed = []; prints = none; ends = inr (inr refl, refl) })
+task_closed (Replace asked) standard out0 out stop none ends =
+    rw ends (record { printed = []; prints = none; ends = inr (inr (inr refl, refl)) })
 task_closed (Feed asked) standard out0 out stop none ends =
     over_none _ _ standard out0 out none (λ input. inr (ends, refl))
 
@@ -134,6 +141,11 @@ then_does (Archive asked) standard out0 out1 out result none does = record {
   prints = takes_append out0 out1 out [] does.printed none does.prints;
 }
 then_does (Verify asked) standard out0 out1 out result none does = record {
+  printed = does.printed;
+  ends = does.ends;
+  prints = takes_append out0 out1 out [] does.printed none does.prints;
+}
+then_does (Replace asked) standard out0 out1 out result none does = record {
   printed = does.printed;
   ends = does.ends;
   prints = takes_append out0 out1 out [] does.printed none does.prints;
@@ -243,6 +255,33 @@ verify_unbegun asked out stop (inr refused) = rw refused (verify_stops asked out
     (verifying_stops out out device_fault.Memory
     (stops_found out out device_fault.Memory (none_found out))))
 
+-- the days of an archive were not replaced, nor was anything printed
+
+pub replace_unbegun : (asked : Replacing) (out : Device) (stop : TaskFault) → IsUnbegun stop → ReplacesArchive asked out out (Err stop)
+replace_unbegun asked out stop is = record { printed = []; prints = takes_none out; ends = inr (inr (inl is, refl)) }
+
+-- they were, or the walk was stopped
+
+pub replace_ended : (asked : Replacing) (out0 out : Device) (found : Result WalkFound DeviceFault) (result : Result Done TaskFault) →
+    Replaces asked.undo out0 out found → EndsReplacing asked found result → ReplacesArchive asked out0 out result
+replace_ended asked out0 out (Ok found) (Ok done) does ends = record {
+  printed = does.printed;
+  prints = does.prints;
+  ends = inr (record { found = found; walk = does.ends; is = ends });
+}
+replace_ended asked out0 out (Ok found) (Err (Failed path why)) does ends = record {
+  printed = does.printed;
+  prints = does.prints;
+  ends = inl (subst (λ it. ReplacingEnds asked.undo does.printed (Ok it)) ends does.ends);
+}
+replace_ended asked out0 out (Err fault) (Err (Tool why)) does ends = record {
+  printed = does.printed;
+  prints = does.prints;
+  ends = inr (inl (record { fault = fault; is = ends; walk = does.ends }));
+}
+replace_ended asked out0 out (Ok found) (Err _) does ends = absurd ends
+replace_ended asked out0 out (Err fault) _ does ends = absurd ends
+
 -- what was printed is not stored
 
 repack_unstored : (choice : Choice) (done : Done) (input printed : List ℕ) → RepackEnds choice (Ok done) input printed →
@@ -291,6 +330,14 @@ check_unsettled out0 out done does = record {
   });
 }
 
+replace_unstored : (asked : Replacing) (printed : List ℕ) (done : Done) → ReplaceEnds asked printed (Ok done) →
+    ReplacingEnds asked.undo printed (Err device_fault.Failed)
+replace_unstored asked printed done (inl fails) = absurd fails
+replace_unstored asked printed done (inr ends) =
+    let P : List ℕ → Type 0 = λ text.
+    IsWalk IsOutcome IsOutcomeLine (outcomes_summary asked.undo) text ends.walk.0 in
+    record { entries = ends.walk.0; rest = []; walk = subst P (sym (append-nil printed)) ends.walk.1 }
+
 pub task_unsettled : (task : Task) (standard out0 out : Device) (done : Done) → Does task standard out0 out (Ok done) →
     Does task standard out0 out (Err (Tool fault.Write))
 task_unsettled (Repack asked) standard out0 out done does =
@@ -324,5 +371,14 @@ task_unsettled (Verify asked) standard out0 out done does =
         walk = subst P (sym (append-nil does.printed)) does.ends.walk.1;
       });
     }
+task_unsettled (Replace asked) standard out0 out done does = record {
+  printed = does.printed;
+  prints = does.prints;
+  ends = inr (inl (record {
+    fault = device_fault.Failed;
+    is = refl;
+    walk = replace_unstored asked does.printed done does.ends;
+  }));
+}
 task_unsettled (Feed asked) standard out0 out done does =
     over_said _ _ _ standard out0 out (fed_unstored asked.options done) does

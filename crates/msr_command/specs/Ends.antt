@@ -1,5 +1,5 @@
 -- How a task ends: what was read and printed, for what the files of the system hold.
-use Rattle.std.specs.Prelude.{if◌then◌else◌, ◌≡◌, ◌≢◌, ◌⊎◌, ◌↔◌, ◌<◌, ◌≤◌, ◌&&◌, ℕ, ⊤, Bool, false, true, IsTrue, List, [], ◌==◌, codes, length, map, slice_get, string_bytes, vec_len, IsSomeAnd, Option, None, Result, Ok, Err}
+use Rattle.std.specs.Prelude.{if◌then◌else◌, ◌≡◌, ◌≢◌, ◌⊎◌, ◌↔◌, ◌<◌, ◌≤◌, ◌&&◌, not, ℕ, ⊤, Bool, false, true, IsTrue, List, [], ◌==◌, codes, length, map, slice_get, string_bytes, vec_len, IsSomeAnd, Option, None, Result, Ok, Err}
 use Rattle.std.specs.Borrow.{Bor}
 use Rattle.std.specs.declared.io.Error.{Error}
 use Rattle.msr_devices.specs.Device.{Device, CountsError, HasFailed, HasLeft, Takes}
@@ -7,8 +7,10 @@ use Rattle.msr_base.specs.declared.counts.Counts.{Counts}
 use Rattle.msr_report.specs.declared.report.Report.{Report}
 use Rattle.msr_options.specs.Choice.{Choice}
 use Rattle.msr_options.specs.declared.task.Archiving.{Archiving}
+use Rattle.msr_options.specs.declared.task.Replacing.{Replacing}
 use Rattle.msr_options.specs.declared.task.Verifying.{Verifying}
 use Rattle.msr_tool.specs.Settings.{settings_of}
+use Rattle.msr_tool.specs.Fault.{fault_of_writing}
 use Rattle.msr_tool.specs.Listing.{IsListed, ListAnswers}
 use Rattle.msr_tool.specs.Tasks.{IsReported, ReportAnswers, VerdictAnswers}
 use Rattle.msr_verdict.specs.declared.verdict.Verdict.TheVariants.{NotShown}
@@ -18,12 +20,14 @@ use Rattle.msr_folders.specs.declared.found.WalkFound.TheVariants.{Well, Unwell,
 use Rattle.msr_walk.specs.Walk.{WalkEnds}
 use Rattle.msr_walk.specs.declared.folders.Walked.{Walked as ArchiveWalked}
 use Rattle.msr_verify.specs.Walk.{VerifyingEnds}
+use Rattle.msr_replace.specs.Walk.{ReplacingEnds}
+use Rattle.msr_devices.specs.declared.fault.DeviceFault.{DeviceFault}
 use Rattle.msr_tool.specs.declared.fault.ToolFault.TheVariants as engine
 use Rattle.msr_compare.specs.declared.comparison.Comparison.TheVariants.{Differ}
 use Rattle.msr_command.specs.declared.done.Done.{Done}
 use Rattle.msr_command.specs.declared.done.Done.TheVariants.{Written, Repacked, Checked, Compared, Walked}
 use Rattle.msr_command.specs.declared.task_fault.TaskFault.{TaskFault}
-use Rattle.msr_command.specs.declared.task_fault.TaskFault.TheVariants.{CannotOpen, SameFile, SameOutput, Overlap, Closed, Tool}
+use Rattle.msr_command.specs.declared.task_fault.TaskFault.TheVariants.{CannotOpen, Failed, SameFile, SameOutput, Overlap, Closed, Tool}
 use Rattle.msr_options.specs.declared.task.Comparing.{Comparing}
 use Rattle.msr_command.specs.Comparing.{IsAnswered, IsAtFault, StopsComparison}
 use Rattle.msr_command.specs.Turns.{AreTurns}
@@ -32,7 +36,7 @@ use Rattle.msr_options.specs.declared.task.ListForm.{ListForm}
 use Rattle.msr_options.specs.declared.task.NoTask.{NoTask}
 use Rattle.msr_options.specs.declared.task.NoTask.TheVariants.{Ending, NotALength, Memory}
 use Rattle.msr_options.specs.declared.task.Task.{Task}
-use Rattle.msr_options.specs.declared.task.Task.TheVariants.{Repack, List as Listing, Check, Compare, Archive, Verify, Feed}
+use Rattle.msr_options.specs.declared.task.Task.TheVariants.{Repack, List as Listing, Check, Compare, Archive, Verify, Replace, Feed}
 use Rattle.msr_options.specs.Asked.{HasStatus}
 use Rattle.msr_options.specs.Tasks.{IsDefault, verb_of, word_of}
 
@@ -266,6 +270,49 @@ pub record VerifiesArchive (asked : Verifying) (out0 out : Device) (result : Res
   pub prints : Takes out0 out printed
   pub ends : VerifyEnds asked printed result
 
+-- the whole archive has to have a day, unless its originals are put back
+abbrev pub wants_replaced : Replacing → Bool
+wants_replaced asked = is_whole (vec_len asked.below) && not asked.undo
+
+-- what replacing the days of an archive ends with
+abbrev pub done_of_replaced : Replacing → WalkFound → Done
+done_of_replaced asked found = done_of_walk None (wants_replaced asked) true found
+
+-- a walk that found this, or was stopped so, ends the task; a call of the file system may have failed if something is to be
+-- looked at
+abbrev pub EndsReplacing : Replacing → Result WalkFound DeviceFault → Result Done TaskFault → Type 0
+EndsReplacing asked (Ok found) (Ok done) = done ≡ done_of_replaced asked found
+EndsReplacing asked (Ok found) (Err (Failed path why)) = found ≡ Unwell
+EndsReplacing asked (Ok found) (Err _) = ⊥
+EndsReplacing asked (Err fault) (Err (Tool why)) = why ≡ fault_of_writing fault
+EndsReplacing asked (Err fault) _ = ⊥
+
+-- The walk was stopped so, after a prefix of its text.
+pub record StopsReplacing (undo : Bool) (printed : List ℕ) (why : ToolFault) : Type 0 where
+  pub fault : DeviceFault
+  pub is : why ≡ fault_of_writing fault
+  pub walk : ReplacingEnds undo printed (Err fault)
+
+-- a call of the file system failed, and the whole text of the walk tells of something that is to be looked at
+abbrev pub FailsReplacing : (undo : Bool) → (printed : List ℕ) → Result Done TaskFault → Type 0
+FailsReplacing undo printed (Err (Failed path why)) = ReplacingEnds undo printed (Ok Unwell)
+FailsReplacing undo printed _ = ⊥
+
+-- folders overlap, memory was refused before the walk began, or one is no folder
+abbrev pub IsUnbegun : TaskFault → Type 0
+IsUnbegun stop = IsOverlapOrMemory stop ⊎ IsUnread stop
+
+abbrev pub ReplaceEnds : Replacing → (printed : List ℕ) → Result Done TaskFault → Type 0
+ReplaceEnds asked printed result = FailsReplacing asked.undo printed result ⊎
+    Ends (IsEndOf (done_of_replaced asked) (λ found. ReplacingEnds asked.undo printed (Ok found)))
+    IsUnbegun (StopsReplacing asked.undo printed) printed result
+
+-- Replacing the days of an archive, or undoing it, and what was printed.
+pub record ReplacesArchive (asked : Replacing) (out0 out : Device) (result : Result Done TaskFault) : Type 0 where
+  pub printed : List ℕ
+  pub prints : Takes out0 out printed
+  pub ends : ReplaceEnds asked printed result
+
 -- A call was made, and it failed or was interrupted.
 pub record WasRefused (old new : Device) : Type 0 where
   pub error : Error
@@ -292,6 +339,7 @@ Does (Compare asked) standard out0 out result =
     ComparesNamed asked.options asked standard out0 out result
 Does (Archive asked) standard out0 out result = WalksArchive asked out0 out result
 Does (Verify asked) standard out0 out result = VerifiesArchive asked out0 out result
+Does (Replace asked) standard out0 out result = ReplacesArchive asked out0 out result
 Does (Feed asked) standard out0 out result = Feeds asked.options standard out0 out result
 
 -- A task was done, and ended with this status.

@@ -3,12 +3,14 @@ use Rattle.std.specs.Prelude.{ℕ, List, ◌++◌, codes, Option, None, Some, If
 use Rattle.std.specs.Io.KnownBytes.{Appends}
 use Rattle.msr_folders.specs.Paths.{shown_path}
 use Rattle.msr_command.specs.declared.task_fault.TaskFault.{TaskFault}
-use Rattle.msr_command.specs.declared.task_fault.TaskFault.TheVariants.{CannotOpen, Input, SameFile, SameOutput, Overlap, Closed, Tool}
+use Rattle.msr_command.specs.declared.task_fault.TaskFault.TheVariants.{CannotOpen, Input, Failed, SameFile, SameOutput, Overlap, Closed, Tool}
 
--- the text of a fault: a name in it is printed as paths are; no clause says that of the engine and that of an input
+-- the text of a fault: a name in it is printed as paths are; no clause says that of the engine, of an input and
+-- of the system
 abbrev pub task_fault_text : TaskFault → Option (List ℕ)
 task_fault_text (CannotOpen name why) = Some (codes "cannot open " ++ shown_path name.now)
 task_fault_text (Input name why) = None
+task_fault_text (Failed path why) = None
 task_fault_text SameFile = Some (codes "the output is the input")
 task_fault_text SameOutput = Some (codes "two outputs are one file")
 task_fault_text Overlap = Some (codes "the folders overlap")

@@ -6,6 +6,7 @@ use crate::task_fault::TaskFault;
 use msr_folders::{FileId, settle};
 use msr_tool::ToolFault;
 use std::fs::{File, OpenFile, OpenOptions};
+use std::io::ErrorKind;
 use std::rt::Files;
 use std::{fs, io};
 
@@ -69,6 +70,17 @@ pub(crate) fn open_input<'a, R: Files>(
     }
     let (file, id) = open_file(rt, name)?;
     Ok((Some(file), id))
+}
+
+/// What has this name is a folder.
+pub(crate) fn require_folder<'a, R: Files>(rt: &R, name: &'a str) -> Result<(), TaskFault<'a>>
+    ensures { IfErr result IsUnread }
+{
+    if opened(name, fs::metadata(rt, name))?.is_dir() {
+        Ok(())
+    } else {
+        Err(TaskFault::CannotOpen(name, ErrorKind::NotADirectory.into()))
+    }
 }
 
 /// Creates the file with this name, or opens it and cuts it to nothing, unless it is the input by some name, or what

@@ -27,7 +27,11 @@ impl<'a> FilesRead<'a> {
                 records: Some(asked.packed),
                 report: Some(asked.report),
             },
-            Task::Compare(_) | Task::Archive(_) | Task::Verify(_) | Task::Feed(_) => FilesRead {
+            Task::Compare(_)
+            | Task::Archive(_)
+            | Task::Verify(_)
+            | Task::Replace(_)
+            | Task::Feed(_) => FilesRead {
                 records: None,
                 report: None,
             },
@@ -94,7 +98,12 @@ pub(crate) fn hint_of<R: Files>(
         Err(TaskFault::CannotOpen(_, why)) => Some(Hint::System(*why)),
         Err(TaskFault::Input(name, fault)) => hint_of_engine(rt, FilesRead::of_input(name), fault),
         Err(TaskFault::Tool(fault)) => hint_of_engine(rt, read, fault),
-        Err(TaskFault::SameFile | TaskFault::SameOutput | TaskFault::Overlap | TaskFault::Closed) =>
-            { None }
+        Err(
+            TaskFault::Failed(_, _)
+            | TaskFault::SameFile
+            | TaskFault::SameOutput
+            | TaskFault::Overlap
+            | TaskFault::Closed,
+        ) => None,
     }
 }

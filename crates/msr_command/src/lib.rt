@@ -1,11 +1,13 @@
 //! The program's tasks: what is done with the files that a task names, and what is told at the end.
 #![tactic(auto)]
 
+mod clock;
 mod comparing;
 mod done;
 mod files;
 mod hints;
 mod program;
+mod replacing;
 mod task_fault;
 mod tasks;
 mod turns;

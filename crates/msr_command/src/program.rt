@@ -11,11 +11,12 @@ use crate::hints::{FilesRead, hint_of};
 use crate::task_fault::TaskFault;
 use crate::tasks::do_task;
 use msr_devices::{Sink, Source, write_all};
+use msr_folders::LockFile;
 use msr_options::{Ending, Errors, Hint, NoTask, Task, complain, write_complaint, write_hint};
-use msr_walk::LockFile;
 use std::alloc::Global;
 use std::io::{self, Write};
 use std::rt::Files;
+use std::time::Clock;
 
 /// Prints the line of a task's fault.
 fn write_fault<E: Write>(errors: &mut E, fault: &TaskFault<'_>) -> io::Result<()>
@@ -67,7 +68,7 @@ fn end<O: Sink, E: Write>(output: &mut O, errors: &mut E, ending: &Ending) -> u8
 }
 
 /// Does what was asked for, or tells what there is in place of a task, and gives the status.
-pub fn run<'a, R: Files, I: Source, O: Sink, E: Write>(
+pub fn run<'a, R: Files + Clock, I: Source, O: Sink, E: Write>(
     rt: &R,
     alloc: Global,
     asked: Result<Task<'a>, NoTask>,

@@ -4,12 +4,14 @@ use msr_tool::ToolFault;
 use std::{fmt, io};
 
 /// Why a task ended before it was done.
-#[derive(Clone, Copy)]
+#[derive(Drop)]
 pub(crate) enum TaskFault<'a> {
     /// The file with this name could not be opened, or not be made, and why.
     CannotOpen(&'a str, io::Error),
     /// Of two inputs that with this name is refused, or cannot be read.
     Input(&'a str, ToolFault),
+    /// A call of the system failed in the midst of a walk, in the day or folder with this path, and why.
+    Failed(String, Option<io::Error>),
     /// The output is the input, by another name or a link; or standard output is redirected to an input.
     SameFile,
     /// A file to be written is what standard output is redirected to.
@@ -28,9 +30,24 @@ impl fmt::Display for TaskFault<'_> {
     ghost output = { task_fault_text };
 
     fn fmt<W: fmt::Write>(&self, f: &mut fmt::Formatter<W>) -> fmt::Result {
-        let text = match *self {
-            TaskFault::CannotOpen(path, _) => return write!(f, "cannot open {}", Shown { path }),
-            TaskFault::Input(path, fault) => return write!(f, "{}: {fault}", Shown { path }),
+        let text = match self {
+            TaskFault::CannotOpen(path, _) => {
+                let path = Shown { path: *path };
+                return write!(f, "cannot open {path}");
+            }
+            TaskFault::Input(path, fault) => {
+                let path = Shown { path: *path };
+                return write!(f, "{path}: {fault}");
+            }
+            TaskFault::Failed(path, why) => {
+                let path = Shown {
+                    path: path.as_str(),
+                };
+                return match why {
+                    Some(why) => write!(f, "{path}: {why}"),
+                    None => write!(f, "{path}: the file system failed"),
+                };
+            }
             TaskFault::Tool(fault) => return write!(f, "{fault}"),
             TaskFault::SameFile => "the output is the input",
             TaskFault::SameOutput => "two outputs are one file",
@@ -50,7 +67,10 @@ impl<'a> TaskFault<'a> {
         ensures { result ≡ status_of_task_fault self.now }
     {
         match self {
-            TaskFault::CannotOpen(_, _) | TaskFault::Input(_, _) | TaskFault::Closed => 1,
+            TaskFault::CannotOpen(_, _)
+            | TaskFault::Input(_, _)
+            | TaskFault::Failed(_, _)
+            | TaskFault::Closed => 1,
             TaskFault::SameFile | TaskFault::SameOutput | TaskFault::Overlap => 2,
             TaskFault::Tool(fault) => fault.status(),
         }

@@ -6,23 +6,25 @@ ghost use Rattle.msr_command.specs.Ends.{Checks, Does, EndsClosed, Feeds, FeedsT
 use crate::comparing::compare_files;
 use crate::done::Done;
 use crate::files::{create_output, create_report, open_file, open_input, settle_standard_output};
+use crate::replacing::replace_archive;
 use crate::task_fault::TaskFault;
 use crate::turns::is_in_turns;
 use msr_devices::{FromRead, FromWrite, Sink, Source};
-use msr_folders::{FileId, folders_overlap, settle};
+use msr_folders::{FileId, LockFile, folders_overlap, settle};
 use msr_options::{
     Archiving, Checking, Feeding, Folders, ListForm, Listing, Options, Repacking, Task, Verifying,
 };
 use msr_tool::{ToolFault, check_and_tell, feed_and_report, list_segments, repack_and_report};
 use msr_verify::verify;
-use msr_walk::{LockFile, walk};
+use msr_walk::walk;
 use std::alloc::Global;
 use std::fs::OpenFile;
 use std::io::{self, Write};
 use std::rt::Files;
+use std::time::Clock;
 
 /// Does what was asked for: reads files, and `input` if a name is `-`; writes files, and prints to `output`.
-pub(crate) fn do_task<'a, R: Files, I: Source, O: Sink>(
+pub(crate) fn do_task<'a, R: Files + Clock, I: Source, O: Sink>(
     rt: &R,
     alloc: Global,
     task: &Task<'a>,
@@ -46,7 +48,7 @@ where
 }
 
 /// Does it when standard output is open.
-fn do_open<'a, R: Files, I: Source, O: Sink>(
+fn do_open<'a, R: Files + Clock, I: Source, O: Sink>(
     rt: &R,
     alloc: Global,
     task: &Task<'a>,
@@ -66,6 +68,7 @@ where
         Task::Compare(asked) => compare_files(rt, alloc, asked, input, output),
         Task::Archive(asked) => repack_archive(rt, alloc, asked, output),
         Task::Verify(asked) => verify_archive(rt, alloc, asked, output),
+        Task::Replace(asked) => replace_archive(rt, alloc, asked, output),
         Task::Feed(asked) => feed_input(rt, alloc, asked, input, output),
     }
 }
@@ -264,16 +267,17 @@ fn check_files<'a, R: Files, O: Sink>(
     Ok(Done::Checked(verdict))
 }
 
-/// None of the folders of an archive is another or stands below it, by whatever names.
-fn require_apart<'a, R: Files>(
+/// None of three folders is another or stands below it, by whatever names.
+pub(crate) fn require_apart<'a, R: Files>(
     rt: &R,
     alloc: Global,
-    folders: Folders<'_>,
+    first: &str,
+    second: &str,
+    third: &str,
 ) -> Result<(), TaskFault<'a>>
     ensures { IfErr result IsOverlapOrMemory }
 {
-    let Folders { root, out, reports } = folders;
-    match folders_overlap(rt, alloc, root, out, reports) {
+    match folders_overlap(rt, alloc, first, second, third) {
         Ok(true) => Err(TaskFault::Overlap),
         Ok(false) => Ok(()),
         Err(_) => Err(TaskFault::Tool(ToolFault::Memory)),
@@ -291,7 +295,8 @@ where
     requires output { CanCountCall (O.device output.old) }
     ensures { WalksArchive asked.now (O.device output.old) (O.device output.new) result }
 {
-    require_apart(rt, alloc, asked.folders)?;
+    let Folders { root, out, reports } = asked.folders;
+    require_apart(rt, alloc, root, out, reports)?;
     let walked = walk(rt, alloc, asked, output)?;
     Ok(Done::of_walk(walked.found, walked.unopened, asked.below.is_empty(), false))
 }
@@ -305,7 +310,8 @@ fn verify_archive<'a, R: Files, O: Sink>(
     requires { CanCountCall (O.device output.old) }
     ensures { VerifiesArchive asked.now (O.device output.old) (O.device output.new) result }
 {
-    require_apart(rt, alloc, asked.folders)?;
+    let Folders { root, out, reports } = asked.folders;
+    require_apart(rt, alloc, root, out, reports)?;
     let found = verify(rt, alloc, asked, output)?;
     Ok(Done::of_walk(found, None, asked.below.is_empty(), true))
 }

@@ -159,11 +159,12 @@ module _ {E : Type 0} (is_entry : E → Type 0) (is_line : E → List ℕ → Ty
 pub visitor_laws : {V E T : Type 0} (is_entry : V → E → Type 0) (is_line : V → E → List ℕ → Type 0)
     (is_tally : List E → T → Type 0) →
     VisitorLaws (λ visitor. Tells (is_entry visitor) (is_line visitor) is_tally)
-    (λ visitor out0 out. StopsAt (TellsInPart (is_entry visitor) (is_line visitor) out0 out) out0 out)
+    (λ visitor out0 out tally0 tally. StopsAt (TellsInPart (is_entry visitor) (is_line visitor) out0 out) out0 out)
 visitor_laws is_entry is_line is_tally = record {
   calm = λ visitor out0 out tally0 tally told. told.calm;
   none = λ visitor. tells_none (is_entry visitor) (is_line visitor) is_tally;
   more = λ visitor. tells_more (is_entry visitor) (is_line visitor) is_tally;
-  refused = λ visitor out. (part_none (is_entry visitor) (is_line visitor) out, (calm_same out).steady);
-  later = λ visitor. stops_more (is_entry visitor) (is_line visitor) is_tally;
+  refused = λ visitor out tally. (part_none (is_entry visitor) (is_line visitor) out, (calm_same out).steady);
+  later = λ visitor out0 out1 out tally0 tally1 tally.
+      stops_more (is_entry visitor) (is_line visitor) is_tally out0 out1 out tally0 tally1;
 }

@@ -5,6 +5,7 @@
 mod entries;
 mod files;
 mod found;
+mod lock;
 mod paths;
 mod places;
 mod totals;
@@ -13,6 +14,7 @@ mod visitor;
 pub use entries::{EntryVisitor, EntryWalk, visit_entries};
 pub use files::{FileId, Look, is_gone, open_regular, settle, settle_regular};
 pub use found::WalkFound;
+pub use lock::{Lock, LockFile};
 pub use paths::{Shown, ended, folder_of, join, shown_path};
 pub use places::{Place, folders_overlap, place_of};
 pub use totals::{Total, Totals};

@@ -8,7 +8,7 @@ use crate::paths::{entry_path, join};
 use msr_devices::{DeviceFault, Sink};
 use msr_sds::{FOLDERS, levels_below};
 use msr_tree::{FileKind, SystemTree, Tree, TreeFault};
-use std::alloc::{AllocError, Global};
+use std::alloc::Global;
 use std::rt::Files;
 
 /// What is done on a walk through folders: each step prints to a sink, and counts.
@@ -23,10 +23,19 @@ pub trait Visitor {
     ghost tells: { Self → Device → Device → Self.Tally → Self.Tally → Type 0 };
 
     /// A step stopped.
-    ghost stops: { Self → Device → Device → DeviceFault → Type 0 };
+    ghost stops: { Self → Device → Device → Self.Tally → Self.Tally → DeviceFault → Type 0 };
 
-    /// Begins with a folder that has a list, and folders of the walk up to `levels` below it.
-    fn enter_folder(&self, folder: &str, levels: u8) -> Result<Self::Folder, AllocError>;
+    /// Begins with a folder, before it is listed, and folders of the walk up to `levels` below it. `None`: it is left alone.
+    fn enter_folder<O: Sink>(
+        &self,
+        folder: &str,
+        levels: u8,
+        out: &mut O,
+        tally: &mut Self::Tally,
+    ) -> Result<Option<Self::Folder>, DeviceFault>
+        requires { CanCountCall (O.device out.old) }
+        ensures told { OnOk result (tells self.now (O.device out.old) (O.device out.new) tally.old tally.new) }
+        ensures stops { IfErr result (stops self.now (O.device out.old) (O.device out.new) tally.old tally.new) };
 
     /// Handles an entry that is no folder of the walk.
     fn visit_entry<O: Sink>(
@@ -39,7 +48,7 @@ pub trait Visitor {
     ) -> Result<(), DeviceFault>
         requires { CanCountCall (O.device out.old) }
         ensures told { OnOk result (tells self.now (O.device out.old) (O.device out.new) tally.old tally.new) }
-        ensures stops { IfErr result (stops self.now (O.device out.old) (O.device out.new)) };
+        ensures stops { IfErr result (stops self.now (O.device out.old) (O.device out.new) tally.old tally.new) };
 
     /// Handles a folder that has no list, and stands in that place.
     fn visit_unlisted<O: Sink>(
@@ -51,7 +60,19 @@ pub trait Visitor {
     ) -> Result<(), DeviceFault>
         requires { CanCountCall (O.device out.old) }
         ensures told { OnOk result (tells self.now (O.device out.old) (O.device out.new) tally.old tally.new) }
-        ensures stops { IfErr result (stops self.now (O.device out.old) (O.device out.new)) };
+        ensures stops { IfErr result (stops self.now (O.device out.old) (O.device out.new) tally.old tally.new) };
+
+    /// Ends with a folder whose entries were visited.
+    fn leave_folder<O: Sink>(
+        &self,
+        folder: &str,
+        levels: u8,
+        out: &mut O,
+        tally: &mut Self::Tally,
+    ) -> Result<(), DeviceFault>
+        requires { CanCountCall (O.device out.old) }
+        ensures told { OnOk result (tells self.now (O.device out.old) (O.device out.new) tally.old tally.new) }
+        ensures stops { IfErr result (stops self.now (O.device out.old) (O.device out.new) tally.old tally.new) };
 
     /// Steps that follow one another are steps, and a step that stops after others stops these too.
     ghost laws: { VisitorLaws tells stops };
@@ -79,8 +100,12 @@ fn visit_folder<R: Files, V: Visitor, O: Sink>(
     requires { CanCountCall (O.device out.old) }
     ensures told { OnOk result (V.tells walk.now.visitor.now (O.device out.old) (O.device out.new)
         tally.old tally.new) }
-    ensures stops { IfErr result (V.stops walk.now.visitor.now (O.device out.old) (O.device out.new)) }
+    ensures stops { IfErr result (V.stops walk.now.visitor.now (O.device out.old) (O.device out.new)
+        tally.old tally.new) }
 {
+    let Some(entered) = walk.visitor.enter_folder(folder, levels, out, tally)? else {
+        return Ok(());
+    };
     let alloc = walk.alloc;
     let place = join(alloc, walk.root, folder)?;
     let mut tree = SystemTree::new(walk.rt, alloc);
@@ -91,7 +116,6 @@ fn visit_folder<R: Files, V: Visitor, O: Sink>(
             .visitor
             .visit_unlisted(folder, place.as_str(), out, tally),
     };
-    let entered = walk.visitor.enter_folder(folder, levels)?;
     for name in &names {
         let path = entry_path(alloc, folder, name.as_str())?;
         let place = join(alloc, walk.root, path.as_str())?;
@@ -107,7 +131,7 @@ fn visit_folder<R: Files, V: Visitor, O: Sink>(
                 .visit_entry(&entered, path.as_str(), kind, out, tally)?;
         }
     }
-    Ok(())
+    walk.visitor.leave_folder(folder, levels, out, tally)
 }
 
 /// Visits all of the folder that is walked, or the folders of it that are asked for, one after another.
@@ -119,7 +143,8 @@ pub fn visit_folders<R: Files, V: Visitor, O: Sink>(
     requires { CanCountCall (O.device out.old) }
     ensures told { OnOk result (V.tells walk.now.visitor.now (O.device out.old) (O.device out.new)
         tally.old tally.new) }
-    ensures stops { IfErr result (V.stops walk.now.visitor.now (O.device out.old) (O.device out.new)) }
+    ensures stops { IfErr result (V.stops walk.now.visitor.now (O.device out.old) (O.device out.new)
+        tally.old tally.new) }
 {
     if walk.below.is_empty() {
         return visit_folder(walk, "", FOLDERS, out, tally);

@@ -15,5 +15,5 @@ pub use hint::{Hint, Side, Unopened, write_hint};
 pub use options::Options;
 pub use task::{
     Archiving, Checking, Comparing, Ending, Feeding, Folders, ListForm, Listing, NoTask, Repacking,
-    Task, Verb, Verifying, overlap,
+    Replacing, Task, Verb, Verifying, overlap,
 };

@@ -87,7 +87,7 @@ pub struct Folders<'a> {
 
 impl Folders<'_> {
     ghost use Rattle.std.specs.Prelude.{◌↔◌, IsTrue};
-    ghost use Rattle.msr_options.specs.Tasks.{StandApart};
+    ghost use Rattle.msr_options.specs.Tasks.{AreApartFrom, StandApart};
 
     /// Whether no two of the folders overlap, by their names.
     pub fn stand_apart(self) -> bool
@@ -95,6 +95,14 @@ impl Folders<'_> {
     {
         let Folders { root, out, reports } = self;
         !(overlap(root, out) || overlap(root, reports) || overlap(out, reports))
+    }
+
+    /// Whether another folder overlaps none of them, by their names.
+    pub fn are_apart_from(self, other: &str) -> bool
+        ensures { IsTrue result ↔ AreApartFrom other.now self.entry }
+    {
+        let Folders { root, out, reports } = self;
+        !(overlap(root, other) || overlap(out, other) || overlap(reports, other))
     }
 }
 
@@ -132,6 +140,26 @@ pub struct Verifying<'a> {
     pub below: Vec<&'a str>,
 }
 
+/// An archive whose originals are to change places with their records.
+#[derive(Debug, Drop)]
+pub struct Replacing<'a> {
+    pub folders: Folders<'a>,
+    /// The folder that has the originals while their records stand in the archive.
+    pub aside: &'a str,
+    /// The paths, from the archive's folder, of the folders that are walked; none for the whole archive.
+    pub below: Vec<&'a str>,
+    /// The originals are put back.
+    pub undo: bool,
+    /// Only records that are fewer bytes than their file take its place.
+    pub only_smaller: bool,
+    /// For so many days a file has to be unchanged; 0 for any file.
+    pub older_than: u32,
+    /// The records get the time of now, and not that of their file.
+    pub touch: bool,
+    /// Also records of 24-bit integers take their file's place.
+    pub int24: bool,
+}
+
 /// What the program is asked to do.
 #[derive(Debug, Drop)]
 pub enum Task<'a> {
@@ -141,6 +169,7 @@ pub enum Task<'a> {
     Compare(Comparing<'a>),
     Archive(Archiving<'a>),
     Verify(Verifying<'a>),
+    Replace(Replacing<'a>),
     Feed(Feeding<'a>),
 }
 
@@ -153,6 +182,7 @@ pub enum Verb {
     Compare,
     Archive,
     Verify,
+    Replace,
     Feed,
 }
 
@@ -171,6 +201,7 @@ impl Verb {
             "compare" => Some(Verb::Compare),
             "archive" => Some(Verb::Archive),
             "verify" => Some(Verb::Verify),
+            "replace" => Some(Verb::Replace),
             "feed" => Some(Verb::Feed),
             _ => None,
         }
@@ -187,6 +218,7 @@ impl Verb {
             Verb::Compare => "compare",
             Verb::Archive => "archive",
             Verb::Verify => "verify",
+            Verb::Replace => "replace",
             Verb::Feed => "feed",
         }
     }

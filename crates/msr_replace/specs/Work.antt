@@ -22,3 +22,7 @@ parts_in work folder =
     ∷ path_below work.aside.now (path_below folder (codes ".msrepack-replace.original"))
     ∷ path_below work.aside.now (path_below folder (codes ".msrepack-replace.note"))
     ∷ []
+
+-- the name of a day's report
+abbrev pub report_in : DayWork → (path : List ℕ) → Path
+report_in work path = path_below work.reports.now (path ++ codes ".txt")

@@ -1,16 +1,151 @@
 //! A day by its path.
-ghost use Rattle.std.specs.Prelude.{◌≡◌};
+ghost use Rattle.std.specs.Prelude.{◌≡◌, []};
 ghost use Rattle.msr_sds.specs.SdsPath.{ReadsAsDay, SdsPath};
+ghost use Rattle.msr_tree.specs.Acts.{Acts};
 ghost use Rattle.msr_tree.specs.Calls.{Goes};
-ghost use Rattle.msr_replace.specs.Restored.{RestoresDay, restored_of};
-ghost use Rattle.msr_replace.specs.Work.{AreThreeFolders, names_in};
+ghost use Rattle.msr_replace.specs.Answers.{Replaces, RestoresDay, replaced_of, restored_of};
+ghost use Rattle.msr_replace.specs.Judging.{Judges, JudgesKinds, JudgesMissing, JudgesSeen, JudgesWhole, verified_of};
+ghost use Rattle.msr_replace.specs.Names.{AreNames};
+ghost use Rattle.msr_replace.specs.Work.{AreThreeFolders, names_in, report_in};
 
-use crate::answers::DayRestored;
+use crate::answers::{DayAnswer, DayRestored};
+use crate::exchange::replace_day;
+use crate::looks::{Looked, Sorted, is_young, look_at_day, sort};
 use crate::names::DayNames;
+use crate::preparing::Verified;
 use crate::restore::restore_day;
 use crate::told::Told;
+use crate::verifying::{Opened, look_for_int24, shows_itself, verify_files};
 use crate::work::DayWork;
-use msr_tree::{Tree, TreeFault};
+use msr_tree::{Facts, Tree, TreeFault};
+
+/// What is known of a day before anything is done.
+#[derive(Clone, Copy)]
+pub(crate) enum Judged {
+    Told(DayAnswer),
+    Verified(Verified),
+}
+
+fn verified_of(work: &DayWork<'_>, file: Facts, records: Facts) -> Judged
+    ensures { result ≡ verified_of work.now file records }
+{
+    if work.only_smaller && file.bytes <= records.bytes {
+        return Judged::Told(DayAnswer::Larger {
+            before: file.bytes,
+            after: records.bytes,
+        });
+    }
+    Judged::Verified(Verified {
+        file,
+        records,
+        touch: work.touch,
+    })
+}
+
+/// The three files are verified. Records with 24-bit integers take no place unless they may.
+fn judge_kinds<T: Tree>(
+    tree: &mut T,
+    work: &DayWork<'_>,
+    names: &DayNames,
+    file: Facts,
+    records: Facts,
+) -> Result<Judged, TreeFault>
+    ensures { Goes (T.went tree.old) (T.went tree.new)
+        (Acts [] (JudgesKinds work.now names.now file records) result) }
+{
+    if work.int24 {
+        return Ok(verified_of(work, file, records));
+    }
+    match look_for_int24(tree, work.alloc, names)? {
+        Some(refusal) => Ok(Judged::Told(DayAnswer::Refused(refusal))),
+        None => Ok(verified_of(work, file, records)),
+    }
+}
+
+/// There are the day's file, its records and a report.
+fn judge_whole<T: Tree>(
+    tree: &mut T,
+    work: &DayWork<'_>,
+    names: &DayNames,
+    report: &str,
+    file: Facts,
+    records: Facts,
+) -> Result<Judged, TreeFault>
+    ensures { Goes (T.went tree.old) (T.went tree.new)
+        (Acts [] (JudgesWhole work.now names.now report.now file records) result) }
+{
+    match verify_files(tree, work, names, report)? {
+        Opened::Told(answer) => Ok(Judged::Told(answer)),
+        Opened::Verified => judge_kinds(tree, work, names, file, records),
+    }
+}
+
+/// There are no records, or no report. ROOT may have the records by now.
+fn judge_missing<T: Tree>(
+    tree: &mut T,
+    work: &DayWork<'_>,
+    names: &DayNames,
+    report: &str,
+    looked: &Looked,
+) -> Result<Judged, TreeFault>
+    ensures { Goes (T.went tree.old) (T.went tree.new)
+        (Acts [] (JudgesMissing work.now names.now report.now looked.now) result) }
+{
+    if looked.records.is_some() {
+        return Ok(Judged::Told(DayAnswer::Missing));
+    }
+    if shows_itself(tree, work.alloc, names, report)? {
+        return Ok(Judged::Told(DayAnswer::Same));
+    }
+    Ok(Judged::Told(DayAnswer::Missing))
+}
+
+fn judge_sorted<T: Tree>(
+    tree: &mut T,
+    work: &DayWork<'_>,
+    names: &DayNames,
+    report: &str,
+    looked: &Looked,
+) -> Result<Judged, TreeFault>
+    ensures { Goes (T.went tree.old) (T.went tree.new)
+        (Acts [] (JudgesSeen work.now names.now report.now looked.now) result) }
+{
+    match sort(looked) {
+        Sorted::Missing => judge_missing(tree, work, names, report, looked),
+        Sorted::Refused(refusal) => Ok(Judged::Told(DayAnswer::Refused(refusal))),
+        Sorted::Whole(file, records) => judge_whole(tree, work, names, report, file, records),
+    }
+}
+
+fn judge<T: Tree>(
+    tree: &mut T,
+    work: &DayWork<'_>,
+    names: &DayNames,
+    report: &str,
+) -> Result<Judged, TreeFault>
+    ensures { Goes (T.went tree.old) (T.went tree.new) (Acts [] (Judges work.now names.now report.now) result) }
+{
+    let looked = look_at_day(tree, names, report)?;
+    if is_young(tree, work, names, looked.file)? {
+        return Ok(Judged::Told(DayAnswer::Young));
+    }
+    judge_sorted(tree, work, names, report, &looked)
+}
+
+/// What is told of a day whose files were to change places.
+fn replaced_of(told: Told, verified: &Verified) -> DayAnswer
+    ensures { result ≡ replaced_of told verified.now }
+{
+    match told {
+        Told::Done => DayAnswer::Replaced {
+            before: verified.file.bytes,
+            after: verified.records.bytes,
+        },
+        Told::Same => DayAnswer::Same,
+        Told::Changed => DayAnswer::Changed,
+        Told::Refused(refusal) => DayAnswer::Refused(refusal.told()),
+    }
+}
 
 fn restored_of(told: Told) -> DayRestored
     ensures { result ≡ restored_of told }
@@ -20,6 +155,40 @@ fn restored_of(told: Told) -> DayRestored
         Told::Changed => DayRestored::Changed,
         Told::Refused(refusal) => DayRestored::Refused(refusal.told()),
     }
+}
+
+fn replace_named<T: Tree>(
+    tree: &mut T,
+    work: &DayWork<'_>,
+    names: &DayNames,
+    report: &str,
+) -> Result<DayAnswer, TreeFault>
+    requires { AreNames names.now }
+    ensures { Goes (T.went tree.old) (T.went tree.new) (Replaces work.now names.now report.now result) }
+{
+    match judge(tree, work, names, report)? {
+        Judged::Told(answer) => Ok(answer),
+        Judged::Verified(verified) => {
+            let told = replace_day(tree, names, &verified)?;
+            Ok(replaced_of(told, &verified))
+        }
+    }
+}
+
+/// Verifies the day with this path from ROOT, and gives its records the place of its file, which is set aside.
+pub fn replace_path<T: Tree>(
+    tree: &mut T,
+    work: &DayWork<'_>,
+    path: &str,
+) -> Result<DayAnswer, TreeFault>
+    requires apart { AreThreeFolders work.now }
+    requires day { (day : SdsPath) × ReadsAsDay path.now day }
+    ensures { Goes (T.went tree.old) (T.went tree.new)
+        (Replaces work.now (names_in work.now path.now) (report_in work.now path.now) result) }
+{
+    let names = DayNames::new(work, path)?;
+    let report = work.report(path)?;
+    replace_named(tree, work, &names, report.as_str())
 }
 
 /// Gives the original of the day with this path its place again; its records go back to OUT.

@@ -1,6 +1,10 @@
 //! What is to be done with the days of a folder.
 
-use std::alloc::Global;
+ghost use Rattle.std.specs.Prelude.{◌≡◌, IfOk, string_bytes};
+ghost use Rattle.msr_replace.specs.Work.{report_in};
+
+use msr_tree::Time;
+use std::alloc::{AllocError, Global};
 
 /// What is to be done with the days of an archive, and where.
 #[derive(Clone, Copy)]
@@ -10,8 +14,26 @@ pub struct DayWork<'a> {
     pub root: &'a str,
     /// The records of its days.
     pub out: &'a str,
+    /// Their reports.
+    pub reports: &'a str,
     /// The originals that were set aside.
     pub aside: &'a str,
+    /// Whether a day is left alone whose records are not fewer bytes.
+    pub only_smaller: bool,
+    /// A file that was changed later is left alone: its writer might go on. Without it none is.
+    pub changed_before: Option<Time>,
     /// Whether records get the time of now, and not that of their file.
     pub touch: bool,
+    /// Whether records may have 24-bit integers, which libmseed 2 does not read.
+    pub int24: bool,
+}
+
+impl DayWork<'_> {
+    /// The path of a day's report.
+    pub(crate) fn report(&self, path: &str) -> Result<String, AllocError>
+        ensures { IfOk result (λ report. string_bytes report ≡ report_in self.now path.now) }
+    {
+        let reports = self.reports;
+        format!(in self.alloc; "{reports}/{path}.txt")
+    }
 }

@@ -8,7 +8,7 @@ use msr_command::run;
 use msr_devices::{TestSink, TestSource};
 use msr_options::Errors;
 use std::cell::Cell;
-use std::fs::{File, OpenOptions};
+use std::fs::File;
 
 /// What came of a run: what it printed, unless a file keeps that, its complaint, and its status.
 #[derive(Drop, PartialEq)]
@@ -41,12 +41,12 @@ fn given(stage: &mut Stage<'_>, settings: &Settings<'_>) -> Vec<u8> {
     bytes
 }
 
-/// The file, locked as by another program until it is closed, if there is one with that path.
+/// The file or folder, locked as by another program until it is closed, if there is one with that path.
 fn held(stage: &mut Stage<'_>, path: &str) -> Option<File> {
     if path.is_empty() {
         return None;
     }
-    let file = OpenOptions::new().write(true).open(stage.rt, path).ok();
+    let file = File::open(stage.rt, path).ok();
     match &file {
         Some(file) => stage.note(file.try_lock().is_ok()),
         None => stage.note(false),

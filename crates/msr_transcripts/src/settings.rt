@@ -23,7 +23,7 @@ pub struct Settings<'a> {
     /// `reads=FILE`: that file gets in a line, after the word `reads`, how many bytes standard output had at each read of
     /// standard input.
     pub reads: &'a str,
-    /// `held=FILE`: another program has locked it.
+    /// `held=FILE`: another program has locked it, or a folder.
     pub held: &'a str,
     /// `reading=MOST@CALL`: standard input moves at most MOST bytes in a call, and fails at that call, from 0; `3`
     /// alone fails at call 3.

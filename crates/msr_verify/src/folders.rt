@@ -15,7 +15,7 @@ use msr_options::Verifying;
 use msr_sds::SdsName;
 use msr_tool::ToolFault;
 use msr_tree::FileKind;
-use std::alloc::{AllocError, Global};
+use std::alloc::Global;
 use std::rt::Files;
 
 /// Which of the folders is walked.
@@ -88,11 +88,27 @@ impl<R: Files> Visitor for Verifier<'_, R> {
 
     ghost tells = { λ _. TellsJudged };
 
-    ghost stops = { λ _. StopsTellingJudged };
+    ghost stops = { λ _ out0 out _ _. StopsTellingJudged out0 out };
 
     ghost laws = { visitor_laws (λ _. IsJudgedEntry) (λ _. IsJudgedEntryLine) IsVerifyTally };
 
-    fn enter_folder(&self, _folder: &str, _levels: u8) -> Result<(), AllocError> {
+    fn enter_folder<O: Sink>(
+        &self,
+        _folder: &str,
+        _levels: u8,
+        _out: &mut O,
+        _tally: &mut VerifyTally,
+    ) -> Result<Option<()>, DeviceFault> {
+        Ok(Some(()))
+    }
+
+    fn leave_folder<O: Sink>(
+        &self,
+        _folder: &str,
+        _levels: u8,
+        _out: &mut O,
+        _tally: &mut VerifyTally,
+    ) -> Result<(), DeviceFault> {
         Ok(())
     }
 

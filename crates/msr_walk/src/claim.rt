@@ -1,39 +1,12 @@
 //! Days that are claimed: at any time one walk alone makes, renames or removes the files of a day.
 use crate::day::Day;
 use crate::files::create_new;
-use msr_folders::FileId;
+use msr_folders::{FileId, Lock, LockFile};
 use std::alloc::Global;
-use std::fs::{File, OpenFile, OpenOptions, TryLockError};
+use std::fs::{OpenFile, OpenOptions};
 use std::io::ErrorKind;
 use std::rt::Files;
 use std::{fs, io};
-
-/// Who has the lock of a file.
-#[derive(Clone, Copy, PartialEq, Eq)]
-pub enum Lock {
-    /// Whoever opened it so, until it is closed, also by the end of the process.
-    Ours,
-    /// Somebody else.
-    Others,
-    /// The system has no locks for it.
-    Unknown,
-}
-
-/// An open file that can be locked.
-pub trait LockFile {
-    /// Locks the file, if nobody else has, and does not wait.
-    fn lock(&self) -> Lock;
-}
-
-impl LockFile for File {
-    fn lock(&self) -> Lock {
-        match self.try_lock() {
-            Ok(()) => Lock::Ours,
-            Err(TryLockError::WouldBlock) => Lock::Others,
-            Err(TryLockError::Error(_)) => Lock::Unknown,
-        }
-    }
-}
 
 /// Why a day is not claimed.
 #[derive(Clone, Copy)]

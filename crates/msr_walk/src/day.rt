@@ -3,13 +3,13 @@ ghost use Rattle.std.specs.Prelude.{◌≡◌, false, true, IfOk, IfSome, IsTrue
 ghost use Rattle.msr_walk.specs.Day.{GotSmaller, HasAnswer, IsDayOutcome, IsKept, IsOutcomeOfDay, IsRepackedDay, VerifiedAnswers};
 ghost use Rattle.msr_walk.specs.Files.{day_names, new_file};
 
-use crate::claim::{Claim, ClaimFault, LockFile, claim_day};
+use crate::claim::{Claim, ClaimFault, claim_day};
 use crate::files::{NewFile, opened};
 use crate::outcome::{DayFault, Outcome, Repacked};
 use crate::repacking::{Counting, counts_kept, first_length, repack_day_of, require_verified};
 use crate::stamp::Stamp;
 use msr_devices::{FromRead, FromWrite};
-use msr_folders::{Look, ended, is_gone, join, open_regular, settle_regular};
+use msr_folders::{LockFile, Look, ended, is_gone, join, open_regular, settle_regular};
 use msr_kinds::Length;
 use msr_options::{DayOptions, Folders, Options, Side, Unopened};
 use msr_tool::ToolFault;

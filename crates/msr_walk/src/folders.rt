@@ -8,13 +8,14 @@ ghost use Rattle.msr_walk.specs.Day.{IsOutcomeOfDay};
 ghost use Rattle.msr_walk.specs.Entries.{Entry, IsEntry, IsEntryLine, IsOutcomeOf, IsTally, channel_of};
 ghost use Rattle.msr_walk.specs.Walk.{StopsTellingOutcomes, TellsOutcomes, Walks};
 
-use crate::claim::LockFile;
 use crate::day::Day;
 use crate::outcome::{DayFault, Outcome};
 use crate::summary::write_summary;
 use crate::tally::Tally;
 use msr_devices::{DeviceFault, Sink, write_all};
-use msr_folders::{FileId, FolderWalk, Place, Visitor, WalkFound, join, place_of, visit_folders};
+use msr_folders::{
+    FileId, FolderWalk, LockFile, Place, Visitor, WalkFound, join, place_of, visit_folders,
+};
 use msr_options::{Archiving, Unopened};
 use msr_sds::SdsName;
 use msr_tool::ToolFault;
@@ -169,14 +170,30 @@ where
 
     ghost tells = { λ walker. TellsOutcomes walker.archive.now.days };
 
-    ghost stops = { λ walker. StopsTellingOutcomes walker.archive.now.days };
+    ghost stops = { λ walker out0 out _ _. StopsTellingOutcomes walker.archive.now.days out0 out };
 
     ghost laws = { visitor_laws (λ walker. IsEntry walker.archive.now.days)
         (λ walker. IsEntryLine walker.archive.now.days.bytes) IsTally };
 
-    fn enter_folder(&self, folder: &str, levels: u8) -> Result<bool, AllocError> {
+    fn enter_folder<O: Sink>(
+        &self,
+        folder: &str,
+        levels: u8,
+        _out: &mut O,
+        _tally: &mut Tally,
+    ) -> Result<Option<bool>, DeviceFault> {
         // No folder above has days.
-        Ok(0 < levels || self.stands_apart(folder)?)
+        Ok(Some(0 < levels || self.stands_apart(folder)?))
+    }
+
+    fn leave_folder<O: Sink>(
+        &self,
+        _folder: &str,
+        _levels: u8,
+        _out: &mut O,
+        _tally: &mut Tally,
+    ) -> Result<(), DeviceFault> {
+        Ok(())
     }
 
     fn visit_entry<O: Sink>(

@@ -12,5 +12,4 @@ mod stamp;
 mod summary;
 mod tally;
 
-pub use claim::{Lock, LockFile};
 pub use folders::{Walked, walk};

@@ -19,5 +19,8 @@ returns-in-Archive c = rw c.in-Archive.is refl
 pub returns-in-Verify : goal.returns-in-Verify
 returns-in-Verify c = rw c.in-Verify.is refl
 
+pub returns-in-Replace : goal.returns-in-Replace
+returns-in-Replace c = rw c.in-Replace.is refl
+
 pub returns-in-Feed : goal.returns-in-Feed
 returns-in-Feed c = rw c.in-Feed.is refl

@@ -8,15 +8,17 @@ pub returns-in_err-path-clause-stops : goal.returns-in_err-path-clause-stops
 returns-in_err-path-clause-stops g t c =
     let p = err_from_is_err_and c.from_residual-in_err-path.result c.from_residual-in_err-path.ensures.1 in
     rw (p.1, p.2) (g.met.V.Visitor.laws.later c.args.walk.now.visitor.now (g.O.Sink.device c.args.out.now)
-    (g.O.Sink.device c.loop-name.out) (g.O.Sink.device c.loop-name.out) c.args.tally.now c.loop-name.tally Memory
-    c.loop-name.invariant (g.met.V.Visitor.laws.refused c.args.walk.now.visitor.now (g.O.Sink.device c.loop-name.out)))
+    (g.O.Sink.device c.loop-name.out) (g.O.Sink.device c.loop-name.out) c.args.tally.now c.loop-name.tally
+    c.loop-name.tally Memory c.loop-name.invariant
+    (g.met.V.Visitor.laws.refused c.args.walk.now.visitor.now (g.O.Sink.device c.loop-name.out) c.loop-name.tally))
 
 pub returns-in_err-place-2-clause-stops : goal.returns-in_err-place-2-clause-stops
 returns-in_err-place-2-clause-stops g t c =
     let p = err_from_is_err_and c.from_residual-in_err-place-2.result c.from_residual-in_err-place-2.ensures.1 in
     rw (p.1, p.2) (g.met.V.Visitor.laws.later c.args.walk.now.visitor.now (g.O.Sink.device c.args.out.now)
-    (g.O.Sink.device c.loop-name.out) (g.O.Sink.device c.loop-name.out) c.args.tally.now c.loop-name.tally Memory
-    c.loop-name.invariant (g.met.V.Visitor.laws.refused c.args.walk.now.visitor.now (g.O.Sink.device c.loop-name.out)))
+    (g.O.Sink.device c.loop-name.out) (g.O.Sink.device c.loop-name.out) c.args.tally.now c.loop-name.tally
+    c.loop-name.tally Memory c.loop-name.invariant
+    (g.met.V.Visitor.laws.refused c.args.walk.now.visitor.now (g.O.Sink.device c.loop-name.out) c.loop-name.tally))
 
 pub returns-in_err-visit_folder-clause-stops : goal.returns-in_err-visit_folder-clause-stops
 returns-in_err-visit_folder-clause-stops g t c =
@@ -24,7 +26,8 @@ returns-in_err-visit_folder-clause-stops g t c =
     c.from_residual-in_err-visit_folder.ensures.1 in
     rw (p.1, p.2) (g.met.V.Visitor.laws.later c.args.walk.now.visitor.now (g.O.Sink.device c.args.out.now)
     (g.O.Sink.device c.loop-name.out) (g.O.Sink.device c.visit_folder.new.out) c.args.tally.now c.loop-name.tally
-    c.in_err-visit_folder.field-0.0 c.loop-name.invariant c.in_err-visit_folder.ensures.stops)
+    c.visit_folder.new.tally c.in_err-visit_folder.field-0.0 c.loop-name.invariant
+    c.in_err-visit_folder.ensures.stops)
 
 pub returns-in_err-visit_entry-clause-stops : goal.returns-in_err-visit_entry-clause-stops
 returns-in_err-visit_entry-clause-stops g t c =
@@ -32,7 +35,8 @@ returns-in_err-visit_entry-clause-stops g t c =
     c.from_residual-in_err-visit_entry.ensures.1 in
     rw (p.1, p.2) (g.met.V.Visitor.laws.later c.args.walk.now.visitor.now (g.O.Sink.device c.args.out.now)
     (g.O.Sink.device c.loop-name.out) (g.O.Sink.device c.visit_entry.new.out) c.args.tally.now c.loop-name.tally
-    c.in_err-visit_entry.field-0.0 c.loop-name.invariant c.in_err-visit_entry.ensures.stops)
+    c.visit_entry.new.tally c.in_err-visit_entry.field-0.0 c.loop-name.invariant
+    c.in_err-visit_entry.ensures.stops)
 
 pub loop-name-preserved : goal.loop-name-preserved
 loop-name-preserved g t c = elim c.if-levels-gt0.branch [

@@ -1,0 +1,103 @@
+//! The task of replacing the days of an archive, and of putting their originals back.
+ghost use Rattle.std.specs.Prelude.{◌≡◌, IfErr, IsTrue};
+ghost use Rattle.msr_devices.specs.Device.{CanCountCall};
+ghost use Rattle.msr_command.specs.Ends.{EndsReplacing, IsOverlapOrMemory, IsUnread, ReplacesArchive, wants_replaced};
+ghost use Rattle.msr_options.specs.Tasks.{AreApartFrom, StandApart};
+
+use crate::clock::time_of_now;
+use crate::done::Done;
+use crate::files::require_folder;
+use crate::task_fault::TaskFault;
+use crate::tasks::require_apart;
+use msr_devices::{DeviceFault, Sink};
+use msr_folders::{LockFile, WalkFound};
+use msr_options::{Folders, Replacing};
+use msr_replace::{Replaced, replace};
+use msr_tree::SystemTree;
+use std::alloc::Global;
+use std::io;
+use std::rt::Files;
+use std::time::Clock;
+
+/// Whether by their names, too, none of the folders is another or stands below it.
+fn stand_apart(asked: &Replacing<'_>) -> bool
+    ensures apart { IsTrue result → StandApart asked.now.folders }
+    ensures aside { IsTrue result → AreApartFrom asked.now.aside.now asked.now.folders }
+{
+    asked.folders.stand_apart() && asked.folders.are_apart_from(asked.aside)
+}
+
+/// None of the folders of an archive is another or stands below it, by whatever names, that of its originals among them.
+fn require_all_apart<'a, R: Files>(
+    rt: &R,
+    alloc: Global,
+    asked: &Replacing<'a>,
+) -> Result<(), TaskFault<'a>>
+    ensures { IfErr result IsOverlapOrMemory }
+{
+    let Folders { root, out, reports } = asked.folders;
+    require_apart(rt, alloc, root, out, reports)?;
+    require_apart(rt, alloc, asked.aside, out, reports)?;
+    require_apart(rt, alloc, asked.aside, root, reports)
+}
+
+/// Those that have to be there are folders.
+fn require_folders<'a, R: Files>(rt: &R, asked: &Replacing<'a>) -> Result<(), TaskFault<'a>>
+    ensures { IfErr result IsUnread }
+{
+    require_folder(rt, asked.folders.root)?;
+    if asked.undo {
+        require_folder(rt, asked.aside)
+    } else {
+        Ok(())
+    }
+}
+
+/// Whether there has to be a day.
+fn wants_day(asked: &Replacing<'_>) -> bool
+    ensures { result ≡ wants_replaced asked.now }
+{
+    asked.below.is_empty() && !asked.undo
+}
+
+/// What a walk ends with that replaced the days of an archive, or put their originals back; its tree failed at that path
+/// for that reason, if it did.
+fn done_of_replacing<'a>(
+    asked: &Replacing<'a>,
+    found: Result<WalkFound, DeviceFault>,
+    failed: Option<String>,
+    why: Option<io::Error>,
+) -> Result<Done, TaskFault<'a>>
+    ensures { EndsReplacing asked.now found result }
+{
+    let found = match found {
+        Ok(found) => found,
+        Err(fault) => return Err(TaskFault::Tool(fault.into())),
+    };
+    match (found, failed) {
+        (WalkFound::Unwell, Some(path)) => Err(TaskFault::Failed(path, why)),
+        _ => Ok(Done::of_walk(found, None, wants_day(asked), true)),
+    }
+}
+
+/// Replaces the days of the archive, or puts their originals back, and tells them.
+pub(crate) fn replace_archive<'a, R: Files + Clock, O: Sink>(
+    rt: &R,
+    alloc: Global,
+    asked: &Replacing<'a>,
+    output: &mut O,
+) -> Result<Done, TaskFault<'a>>
+where
+    R::File: LockFile,
+    requires output { CanCountCall (O.device output.old) }
+    ensures { ReplacesArchive asked.now (O.device output.old) (O.device output.new) result }
+{
+    if !stand_apart(asked) {
+        return Err(TaskFault::Overlap);
+    }
+    require_all_apart(rt, alloc, asked)?;
+    require_folders(rt, asked)?;
+    let tree = SystemTree::new(rt, alloc);
+    let Replaced { failed, found, .. } = replace(rt, alloc, tree, asked, time_of_now(rt), output);
+    done_of_replacing(asked, found, failed, None)
+}

@@ -1,0 +1,7 @@
+use Rattle.std.proofs.Common.{◌≡◌, ◌++◌, codes, take}
+use Rattle.std.specs.String.{string_bytes}
+use Rattle.msr_replace.specs.Sums.{counted, sums_text}
+use Rattle.msr_replace.proofs.tally.Tally.sums.Given as goal
+
+abbrev pub invariant-loop-word : goal.invariant-loop-word
+invariant-loop-word l = string_bytes l.line ≡ codes "total" ++ sums_text (counted l.self) (take l.word-index l.words)

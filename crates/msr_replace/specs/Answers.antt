@@ -1,0 +1,117 @@
+-- What is told of a day, and what it says of the files under its names.
+use Rattle.std.specs.Prelude.{◌<◌, ◌≤◌, ◌≡◌, ◌⊎◌, ℕ, Bool, true, List, length, Option, None, Some, Result, Ok, Err, IfOk, IsErrOf, IsSome}
+use Rattle.msr_tree.specs.Steps.{AtEachMoment, ChangesOnly, Leaves, Path, Step, failures, now, seen}
+use Rattle.msr_tree.specs.declared.tree.TreeFault.{TreeFault}
+use Rattle.msr_tree.specs.declared.tree.TreeFault.TheVariants.{Failed}
+use Rattle.msr_verify.specs.Day.{DayAnswers, IsShownLeast, IsVerified}
+use Rattle.msr_verify.specs.declared.judging.Finding.{Finding}
+use Rattle.msr_verify.specs.declared.judging.Finding.TheVariants as finding
+use Rattle.msr_verify.specs.declared.judging.VerifyFault.{VerifyFault}
+use Rattle.msr_replace.specs.Kinds.{HoldsInt24, LacksInt24}
+use Rattle.msr_replace.specs.Names.{Names, all, path_at}
+use Rattle.msr_replace.specs.Restored.{refusal_of}
+use Rattle.msr_replace.specs.Promise.{AreKept, HaveChanged, KeepsBoth, LeavesAlone}
+use Rattle.msr_replace.specs.declared.answers.DayAnswer.{DayAnswer}
+use Rattle.msr_replace.specs.declared.answers.DayAnswer.TheVariants.{Replaced, Same, Young, Larger, Changed, Missing, NotShown, Differs, Refused}
+use Rattle.msr_replace.specs.declared.answers.DayRefusal.{DayRefusal}
+use Rattle.msr_replace.specs.declared.answers.DayRefusal.TheVariants as said
+use Rattle.msr_replace.specs.declared.names.Place.TheVariants.{Original, Records}
+use Rattle.msr_replace.specs.declared.preparing.Verified.{Verified}
+use Rattle.msr_replace.specs.declared.told.Told.{Told}
+use Rattle.msr_replace.specs.declared.told.Told.TheVariants as told
+use Rattle.msr_replace.specs.declared.work.DayWork.{DayWork}
+
+-- The three files of a day have these bytes.
+pub record HaveBytes (names : Names) (report : Path) (file records text : List ℕ) (past : List Step) : Type 0 where
+  pub day : seen past names.day ≡ Some file
+  pub comes : seen past names.records ≡ Some records
+  pub shows : seen past report ≡ Some text
+
+-- Verifying them has this answer.
+pub record IsFound (names : Names) (report : Path) (answer : Result Finding VerifyFault) (past : List Step) : Type 0 where
+  pub file : List ℕ
+  pub records : List ℕ
+  pub text : List ℕ
+  pub bytes : HaveBytes names report file records text past
+  pub answers : DayAnswers file records text answer
+
+-- They are verified, and the file and its records have so many bytes. If it is not asked for, no record has 24-bit integers.
+pub record IsVerifiedDay (work : DayWork) (names : Names) (report : Path) (before after : ℕ) (past : List Step) : Type 0 where
+  pub file : List ℕ
+  pub records : List ℕ
+  pub text : List ℕ
+  pub bytes : HaveBytes names report file records text past
+  pub verified : IsVerified file records text
+  pub kinds : (work.int24 ≡ true) ⊎ LacksInt24 records
+  pub before_is : before ≡ length file
+  pub after_is : after ≡ length records
+
+-- The report shows that the day's file is the fewest records, and there are no others.
+pub record IsShownItself (names : Names) (report : Path) (past : List Step) : Type 0 where
+  pub file : List ℕ
+  pub text : List ℕ
+  pub day : seen past names.day ≡ Some file
+  pub shows : seen past report ≡ Some text
+  pub none : now past names.records ≡ None
+  pub least : IsShownLeast file text
+
+-- What was verified has changed places, if both files were kept when it began.
+pub record IsReplaced (work : DayWork) (names : Names) (report : Path) (before after : ℕ) (old new : List Step) : Type 0 where
+  pub day : IsVerifiedDay work names report before after old
+  pub changed : (a b : List ℕ) → AreKept names Original Records a b old → HaveChanged names Original a b new
+
+-- A record of the day has 24-bit integers.
+pub record HaveInt24 (names : Names) (past : List Step) : Type 0 where
+  pub records : List ℕ
+  pub comes : seen past names.records ≡ Some records
+  pub holds : HoldsInt24 records
+
+-- what a refusal says of the bytes
+abbrev pub IsRefusedFor : Names → (report : Path) → DayRefusal → List Step → Type 0
+IsRefusedFor names report (said.Fault fault) past = IsFound names report (Err fault) past
+IsRefusedFor names report said.Int24 past = HaveInt24 names past
+IsRefusedFor names report refusal past = Unit {0}
+
+-- what an answer says of a day with which nothing is done
+abbrev pub IsTold : DayWork → Names → (report : Path) → DayAnswer → List Step → Type 0
+IsTold work names report (Replaced before after) past = ⊥
+IsTold work names report Same past = IsShownItself names report past
+IsTold work names report Young past = IsSome work.changed_before
+IsTold work names report (Larger before after) past = (work.only_smaller ≡ true) × (before ≤ after) × IsVerifiedDay work names report before after past
+IsTold work names report Changed past = Unit {0}
+IsTold work names report Missing past = (now past names.records ≡ None) ⊎ (now past report ≡ None)
+IsTold work names report NotShown past = IsFound names report (Ok finding.NotShown) past
+IsTold work names report Differs past = IsFound names report (Ok finding.Differs) past
+IsTold work names report (Refused refusal) past = IsRefusedFor names report refusal past
+
+-- each crash leaves the records in ROOT, if both files were kept when it began
+abbrev pub IsInPlaceOf : Names → (old new : List Step) → Type 0
+IsInPlaceOf names old new = (a b : List ℕ) → AreKept names Original Records a b old → Leaves new names.day (Some b)
+
+-- what an answer says
+abbrev pub Means : DayWork → Names → (report : Path) → DayAnswer → (old new : List Step) → Type 0
+Means work names report (Replaced before after) old new = IsReplaced work names report before after old new
+Means work names report Same old new = IsShownItself names report old ⊎ IsInPlaceOf names old new
+Means work names report Young old new = IsTold work names report Young old
+Means work names report (Larger before after) old new = IsTold work names report (Larger before after) old
+Means work names report Changed old new = IsTold work names report Changed old
+Means work names report Missing old new = IsTold work names report Missing old
+Means work names report NotShown old new = IsTold work names report NotShown old
+Means work names report Differs old new = IsTold work names report Differs old
+Means work names report (Refused refusal) old new = IsTold work names report (Refused refusal) old
+
+-- What is promised of a day whose records are to take the place of its file: its names alone change; if both files are
+-- kept when it begins, they are at each moment since; another file in ASIDE is left alone; and the answer is so.
+pub record Replaces (work : DayWork) (names : Names) (report : Path) (result : Result DayAnswer TreeFault) (old new : List Step) : Type 0 where
+  pub changes : ChangesOnly (all names) old new
+  pub cause : IsErrOf result Failed → failures old < failures new
+  pub safe : (a b : List ℕ) → AreKept names Original Records a b old → AtEachMoment (KeepsBoth names Original a Records b) old new
+  pub alone : LeavesAlone names.original names.day old new
+  pub answers : IfOk result (λ answer. Means work names report answer old new)
+
+-- what is told of a day whose files were to change places
+abbrev pub replaced_of : Told → Verified → DayAnswer
+replaced_of told.Done verified = Replaced verified.file.bytes verified.records.bytes
+replaced_of told.Same verified = Same
+replaced_of told.Changed verified = Changed
+replaced_of (told.Refused why) verified = Refused (refusal_of why)

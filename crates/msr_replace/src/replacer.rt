@@ -1,0 +1,27 @@
+//! What the walk of a replace needs.
+ghost use Rattle.msr_replace.specs.Work.{AreThreeFolders};
+
+use crate::work::DayWork;
+use std::marker::PhantomData;
+use std::rt::Files;
+
+/// Which folders are walked.
+#[derive(Clone, Copy, PartialEq, Eq)]
+pub(crate) enum Course {
+    /// Those of the archive, each of whose days is replaced.
+    Root,
+    /// Those of the records, in search of days that the archive does not have.
+    Out,
+    /// Those of the originals that were set aside, each of which is put back.
+    Aside,
+}
+
+/// What an entry needs: the system's files, what is to be done, and where.
+#[derive(Drop)]
+pub(crate) struct Replacer<'a, R: Files, T> {
+    pub(crate) rt: &'a R,
+    pub(crate) work: DayWork<'a>,
+    pub(crate) course: Course,
+    pub(crate) of: PhantomData<T>,
+    ghost apart: { AreThreeFolders work },
+}

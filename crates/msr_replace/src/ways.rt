@@ -1,0 +1,142 @@
+//! The folders on the way to a folder of days, before and after its days are worked on.
+ghost use Rattle.std.specs.Prelude.{[]};
+ghost use Rattle.msr_tree.specs.Calls.{Goes};
+ghost use Rattle.msr_tree.specs.Steps.{ChangesOnly};
+ghost use Rattle.msr_replace.specs.Work.{parts_in};
+
+use crate::folders::clear_parts;
+use crate::work::DayWork;
+use msr_folders::{folder_of, join};
+use msr_tree::{Kind, Tree, TreeFault};
+use std::alloc::Global;
+
+/// What the four names lead to that a folder of days has below another one.
+#[derive(Clone, Copy, PartialEq, Eq)]
+enum Way {
+    /// To folders.
+    Straight,
+    /// The last of them, or more, to nothing.
+    Ends,
+    /// One of them to a link, or to what is no folder.
+    Odd,
+}
+
+/// What the names lead to, if those before lead so.
+fn further(way: Way, kind: Option<Kind>) -> Way {
+    match kind {
+        Some(Kind::Folder) => way,
+        None if way == Way::Straight => Way::Ends,
+        None => way,
+        Some(_) => Way::Odd,
+    }
+}
+
+fn kind_at<T: Tree>(
+    tree: &mut T,
+    alloc: Global,
+    top: &str,
+    folder: &str,
+) -> Result<Option<Kind>, TreeFault>
+    ensures { Goes (T.went tree.old) (T.went tree.new) (ChangesOnly []) }
+{
+    let place = join(alloc, top, folder)?;
+    let found = tree.look(place.as_str())?;
+    Ok(found.map(|facts| facts.kind))
+}
+
+/// What leads from `top` to a folder of days.
+fn way_to<T: Tree>(tree: &mut T, alloc: Global, top: &str, folder: &str) -> Result<Way, TreeFault>
+    ensures { Goes (T.went tree.old) (T.went tree.new) (ChangesOnly []) }
+{
+    let station = folder_of(folder);
+    let network = folder_of(station);
+    let first = kind_at(tree, alloc, top, folder_of(network))?;
+    let second = kind_at(tree, alloc, top, network)?;
+    let third = kind_at(tree, alloc, top, station)?;
+    let last = kind_at(tree, alloc, top, folder)?;
+    let way = further(further(Way::Straight, first), second);
+    Ok(further(further(way, third), last))
+}
+
+/// The ways to a folder of days in ROOT, OUT and ASIDE.
+#[derive(Clone, Copy)]
+struct Ways {
+    root: Way,
+    out: Way,
+    aside: Way,
+}
+
+impl Ways {
+    fn of<T: Tree>(tree: &mut T, work: &DayWork<'_>, folder: &str) -> Result<Ways, TreeFault>
+        ensures { Goes (T.went tree.old) (T.went tree.new) (ChangesOnly []) }
+    {
+        Ok(Ways {
+            root: way_to(tree, work.alloc, work.root, folder)?,
+            out: way_to(tree, work.alloc, work.out, folder)?,
+            aside: way_to(tree, work.alloc, work.aside, folder)?,
+        })
+    }
+
+    fn have_links(self) -> bool {
+        self.root == Way::Odd || self.out == Way::Odd || self.aside == Way::Odd
+    }
+
+    /// Whether originals that ASIDE has there can get back into ROOT.
+    fn lead_back(self) -> bool {
+        match self.aside {
+            Way::Straight => self.root == Way::Straight,
+            Way::Ends => true,
+            Way::Odd => false,
+        }
+    }
+}
+
+/// Removes what killed runs left in a folder of days, unless a link is on the way to it. Tells whether originals that ASIDE
+/// has there can get back into ROOT.
+pub(crate) fn begin_folder<T: Tree>(
+    tree: &mut T,
+    work: &DayWork<'_>,
+    folder: &str,
+) -> Result<bool, TreeFault>
+    ensures { Goes (T.went tree.old) (T.went tree.new) (ChangesOnly (parts_in work.now folder.now)) }
+{
+    let ways = Ways::of(tree, work, folder)?;
+    if ways.have_links() {
+        return Ok(ways.lead_back());
+    }
+    clear_parts(tree, work, folder)?;
+    Ok(ways.lead_back())
+}
+
+/// Removes a folder below another one, if it is empty, and tells whether it is gone.
+fn is_removed<T: Tree>(
+    tree: &mut T,
+    alloc: Global,
+    top: &str,
+    folder: &str,
+) -> Result<bool, TreeFault>
+    ensures { Goes (T.went tree.old) (T.went tree.new) (ChangesOnly []) }
+{
+    let place = join(alloc, top, folder)?;
+    tree.remove_folder(place.as_str())
+}
+
+/// Removes a folder of originals that are all back, and those above it, as far as nothing is in them.
+pub(crate) fn end_folder<T: Tree>(
+    tree: &mut T,
+    work: &DayWork<'_>,
+    folder: &str,
+) -> Result<(), TreeFault>
+    ensures { Goes (T.went tree.old) (T.went tree.new) (ChangesOnly []) }
+{
+    let station = folder_of(folder);
+    let network = folder_of(station);
+    let (alloc, top) = (work.alloc, work.aside);
+    if is_removed(tree, alloc, top, folder)?
+        && is_removed(tree, alloc, top, station)?
+        && is_removed(tree, alloc, top, network)?
+    {
+        is_removed(tree, alloc, top, folder_of(network))?;
+    }
+    Ok(())
+}
