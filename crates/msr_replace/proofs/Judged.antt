@@ -169,6 +169,11 @@ module _ (work : DayWork) (names : Names) (report : Path) where
       ending (Ok x) p q is = means_of x p q is
       ending (Err why) p q is = tt
 
+  pub told_stopped : {A : Type 0} (First : (old new : List Step) → A → Type 0) (why : TreeFault) (before after : List Step → Type 0)
+      → Goes before after (Acts [] First (stopping A why)) → Goes before after (R (stopping DayAnswer why))
+  told_stopped {A = A} First why before after goes =
+      told_here {A = A} First (stopping A why) (stopping DayAnswer why) before after (λ is. let so : why ≡ fault.Failed = cc in ap (λ w. Err w) so) (λ p q none. tt) goes
+
   -- both are kept while nothing changes
   kept_later : (a b : List ℕ) (p q : List Step) → ChangesOnly [] p q → Kept a b p → Kept a b q
   kept_later a b p q changes kept = record {
@@ -227,6 +232,11 @@ module _ (work : DayWork) (names : Names) (report : Path) where
           → ((a b : List ℕ) → Kept a b s → IfOk e (λ x. Says names Original a b t x)) → IfOk e P
       each (Ok x) s t P so says = so x says
       each (Err why) s t P so says = tt
+
+  pub verified_stopped : (v : Verified) (why : TreeFault) (before mid after : List Step → Type 0)
+      → Goes before mid (Acts [] (Judges work names report) (giving (judged.Verified v))) → Goes mid after (KeepsAll names Original Records Kept (stopping Told why)) → Goes before after (R (stopping DayAnswer why))
+  verified_stopped v why before mid after first goes =
+      verified_then v (stopping Told why) (stopping DayAnswer why) before mid after (λ is. let so : why ≡ fault.Failed = cc in ap (λ w. Err w) so) (λ p r none. tt) first goes
 
 -- What is judged of a day, call by call.
 module _ (work : DayWork) (names : Names) (report : Path) where
@@ -326,8 +336,8 @@ module _ (work : DayWork) (names : Names) (file records : Facts) where
     abbrev Whole : (old new : List Step) → Judged → Type 0
     Whole = JudgesWhole work names report file records
 
-    pub whole_told : (opened : Opened) (x : DayAnswer) (one two : List Step → Type 0) → opened ≡ opened.Told x → Goes one two (Acts [] (IsOpened work names report) (giving opened)) → Goes one two (Acts [] Whole (giving (judged.Told x)))
-    whole_told opened x one two is goes = told_after (IsOpened work names report) Whole opened (judged.Told x) one two
+    pub whole_told : (found : Opened) (x : DayAnswer) (one two : List Step → Type 0) → found ≡ opened.Told x → Goes one two (Acts [] (IsOpened work names report) (giving found)) → Goes one two (Acts [] Whole (giving (judged.Told x)))
+    whole_told found x one two is goes = told_after (IsOpened work names report) Whole found (judged.Told x) one two
         (λ p q ch tells have. subst (λ o. IsOpened work names report p q o) is tells) goes
 
     pub whole_verified : (found : Opened) (result : Result Judged TreeFault) (one mid two : List Step → Type 0) → found ≡ opened.Verified

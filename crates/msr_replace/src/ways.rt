@@ -161,11 +161,15 @@ pub(crate) fn end_folder<T: Tree>(
     let station = folder_of(folder);
     let network = folder_of(station);
     let (alloc, top) = (work.alloc, work.aside);
-    if is_removed(tree, alloc, top, folder)?
-        && is_removed(tree, alloc, top, station)?
-        && is_removed(tree, alloc, top, network)?
-    {
-        is_removed(tree, alloc, top, folder_of(network))?;
+    if !is_removed(tree, alloc, top, folder)? {
+        return Ok(());
     }
+    if !is_removed(tree, alloc, top, station)? {
+        return Ok(());
+    }
+    if !is_removed(tree, alloc, top, network)? {
+        return Ok(());
+    }
+    is_removed(tree, alloc, top, folder_of(network))?;
     Ok(())
 }
