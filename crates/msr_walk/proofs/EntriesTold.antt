@@ -8,7 +8,7 @@ use Rattle.msr_folders.specs.Found.{Finds}
 use Rattle.msr_folders.specs.Visits.{StopsAt, StopsPrefix}
 use Rattle.msr_folders.specs.declared.found.WalkFound.{WalkFound}
 use Rattle.msr_folders.specs.declared.found.WalkFound.TheVariants.{Well, Unwell, NoDay}
-use Rattle.msr_folders.proofs.VisitLemmas.{part_none}
+use Rattle.msr_folders.proofs.VisitLemmas.{part_none, tells_none}
 use Rattle.msr_folders.proofs.WalkLemmas as walks
 use Rattle.msr_tool.specs.Fault.{fault_of_writing}
 use Rattle.msr_tool.specs.declared.fault.ToolFault.TheVariants.{Write}
@@ -103,3 +103,7 @@ pub told_beside : {P E : Type 0} (tally : P → Tally) (asked : DayOptions) (out
     → OnOk result (TellsAmong tally asked out0 out of0 of1) → OnOk result (TellsAmong tally asked out0 out of0 of)
 told_beside tally asked out0 out of0 of1 of (Ok x) same told = counted_same tally asked out0 out of0 of1 of same told
 told_beside tally asked out0 out of0 of1 of (Err why) same told = tt
+
+-- nothing is told, and the counts stay
+pub none_among : {P : Type 0} (tally : P → Tally) (asked : DayOptions) (out : Device) (of0 of : P) → tally of ≡ tally of0 → TellsAmong tally asked out out of0 of
+none_among tally asked out of0 of same = counted_same tally asked out out of0 of0 of same (tells_none (IsEntry asked) (IsEntryLine asked.bytes) (λ entries counted. IsTally entries (tally counted)) out of0)
