@@ -1,9 +1,9 @@
 -- The order in which the files of a day get their names: what a kill leaves.
 use Rattle.std.proofs.Common.{◌≡◌, Bool, true, false, List, [], ◌∷◌, ℕ, refl, sym, subst, ◌∙◌, ap, Option, Some, None, IfSome, IsSomeAnd, option_map}
-use Rattle.msr_tree.specs.Steps.{Failed, FolderStored, IsReady, Removed, Renamed, Step, Throughout, folder_above, seen, touches}
+use Rattle.msr_tree.specs.Steps.{Failed, FolderStored, Removed, Renamed, Step, Throughout, folder_above, seen, touches}
 use Rattle.msr_tree.proofs.Changes.{ready_renamed}
 use Rattle.msr_naming.specs.declared.files.DayFiles.{DayFiles}
-use Rattle.msr_naming.specs.declared.files.Name.TheVariants.{Records, RecordsPart, Report, ReportPart, Stamp, StampPart}
+use Rattle.msr_naming.specs.declared.files.Name.TheVariants.{Records, RecordsPart, Report, ReportPart, Stamp}
 use Rattle.msr_naming.specs.Naming.{AreDayNames}
 use Rattle.msr_naming.specs.Promise.{AreReady, HasReport, IsFree}
 use Rattle.msr_naming.proofs.Names.{not_renamed, ready_gone, ready_still, removed_leads, seen_nothing, seen_ready, seen_still}

@@ -1,9 +1,9 @@
 -- What stays of a name while others change.
-use Rattle.std.proofs.Common.{◌≡◌, ◌⊎◌, inl, inr, ⊎_elim, Bool, true, false, ◌||◌, List, [], ◌∷◌, refl, sym, ◌∙◌, ap, subst, ℕ, Option, Some, None, option_map}
+use Rattle.std.proofs.Common.{◌≡◌, ◌⊎◌, inl, inr, ⊎_elim, true, false, List, ◌∷◌, refl, ◌∙◌, ap, ℕ, Option, Some, None, option_map}
 use Rattle.std.specs.Str.{bytes_eq}
 use Rattle.msr_tree.specs.Steps.{File, FolderStored, IsReady, Leaves, MayLeave, Path, Removed, Renamed, ShowsAfter, Step, now, seen, stands_in, touches, folder_above}
 use Rattle.msr_naming.specs.declared.files.DayFiles.{DayFiles}
-use Rattle.msr_naming.specs.declared.files.Name.TheVariants.{Records, RecordsPart, Report, ReportPart, Stamp, StampPart}
+use Rattle.msr_naming.specs.declared.files.Name.TheVariants.{Records, RecordsPart, ReportPart, Stamp}
 use Rattle.msr_naming.specs.Naming.{AreDayNames}
 use Rattle.msr_naming.specs.Promise.{AreReady}
 use Rattle.msr_tree.proofs.Changes.{ready_renamed}

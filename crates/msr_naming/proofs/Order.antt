@@ -1,13 +1,13 @@
 -- The order in which the files of a day get their names.
-use Rattle.std.proofs.Common.{◌≡◌, ◌⊎◌, inl, inr, ⊎_elim, ℕ, Bool, true, false, List, [], ◌∷◌, refl, sym, subst, ◌∙◌, Option, Some, None, IfSome, IsSomeAnd}
-use Rattle.msr_tree.specs.Steps.{AtEachMoment, Failed, FolderStored, IsReady, Leaves, MayLeave, Removed, Renamed, Step, Throughout, folder_above, now, seen, touches}
+use Rattle.std.proofs.Common.{◌≡◌, ⊎_elim, ℕ, Bool, true, false, List, [], ◌∷◌, refl, sym, subst, Option, Some, None, IfSome, IsSomeAnd}
+use Rattle.msr_tree.specs.Steps.{Failed, FolderStored, Leaves, Removed, Renamed, Step, Throughout, folder_above, touches}
 use Rattle.msr_tree.proofs.Changes.{ready_renamed, ready_settled}
-use Rattle.msr_tree.proofs.Crash.{is_self, leaves_seen, quiet, still, untouched}
+use Rattle.msr_tree.proofs.Crash.{is_self, quiet, still, untouched}
 use Rattle.msr_naming.specs.declared.files.DayFiles.{DayFiles}
-use Rattle.msr_naming.specs.declared.files.Name.TheVariants.{Records, RecordsPart, Report, ReportPart, Stamp, StampPart}
-use Rattle.msr_naming.specs.Naming.{AreDayNames, name_path}
-use Rattle.msr_naming.specs.Promise.{AreNamed, AreReady, HasOwn, HasReport, IsFree}
-use Rattle.msr_naming.proofs.Names.{MayHave, fewer_or_none, may_nothing, may_renamed, may_still, may_these, no_records_left, no_stamp_gone, no_stamp_left, not_renamed, ready_gone, ready_still, removed_leads, removed_settled, seen_nothing, seen_ready, seen_still}
+use Rattle.msr_naming.specs.declared.files.Name.TheVariants.{Records, RecordsPart, Report, ReportPart, Stamp}
+use Rattle.msr_naming.specs.Naming.{AreDayNames}
+use Rattle.msr_naming.specs.Promise.{AreReady, HasOwn, IsFree}
+use Rattle.msr_naming.proofs.Names.{MayHave, fewer_or_none, may_nothing, may_renamed, may_still, may_these, no_records_left, no_stamp_gone, no_stamp_left, not_renamed, ready_gone, ready_still}
 
 module _ (is_own : (records report : List ℕ) → Bool) (is_of : (stamp records report : List ℕ) → Bool) (files : DayFiles) where
   abbrev P : List Step → Type 0

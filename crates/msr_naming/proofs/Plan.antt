@@ -7,7 +7,7 @@ use Rattle.msr_tree.specs.Steps.{AtEachMoment, Failed, FileStored, FolderMade, F
 use Rattle.msr_tree.specs.declared.tree.TreeFault.{TreeFault}
 use Rattle.msr_tree.specs.declared.tree.TreeFault.TheVariants as fault
 use Rattle.msr_tree.proofs.Acting.{goes_as}
-use Rattle.msr_tree.proofs.Moments.{at_end, done, joined}
+use Rattle.msr_tree.proofs.Moments.{at_end, done}
 use Rattle.msr_naming.specs.Naming.{DoesSome, Performs}
 
 module _ (P : List Step → Type 0) (fails : (past : List Step) → P past → P (Failed ∷ past)) where

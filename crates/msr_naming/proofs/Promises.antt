@@ -1,15 +1,15 @@
 -- What plans keep, and what is done when they end.
-use Rattle.std.proofs.Common.{◌≡◌, Bool, true, List, [], ◌∷◌, ◌++◌, ℕ, map, reverse, refl, sym, subst, ◌∙◌, ap, append_assoc, Result, Ok, Err, OnOk, Some, None}
-use Rattle.msr_tree.specs.Steps.{AtEachMoment, FolderStored, IsReady, Leaves, Path, Removed, Renamed, Step, folder_above, seen}
+use Rattle.std.proofs.Common.{List, [], ◌∷◌, ℕ, map, refl, sym, subst, ◌∙◌, ap, Result, Ok, Err, OnOk, None}
+use Rattle.msr_tree.specs.Steps.{FolderStored, IsReady, Leaves, Path, Removed, Renamed, Step, folder_above, seen}
 use Rattle.msr_tree.specs.declared.tree.TreeFault.{TreeFault}
-use Rattle.msr_tree.proofs.Changes.{ready_renamed, ready_settled}
+use Rattle.msr_tree.proofs.Changes.{ready_renamed}
 use Rattle.msr_tree.proofs.Crash.{is_self, still}
 use Rattle.msr_naming.specs.declared.files.DayFiles.{DayFiles}
 use Rattle.msr_naming.specs.declared.naming.Act.{Act}
 use Rattle.msr_naming.specs.declared.naming.Act.TheVariants.{Remove, Store, Rename}
-use Rattle.msr_naming.specs.declared.files.Name.TheVariants.{Records, RecordsPart, Report, ReportPart, Stamp, StampPart}
+use Rattle.msr_naming.specs.declared.files.Name.TheVariants.{Records, RecordsPart, Report, ReportPart, Stamp}
 use Rattle.msr_naming.specs.Naming.{AreDayNames, Performs, act_step}
-use Rattle.msr_naming.specs.Promise.{AreNamed, AreReady, GivesNames, HasOwn, HasReport, HaveOwnParts, IsFree, IsOneOf, KeepsOwn, KeepsIfKilled, NamesStamps, OverNothing}
+use Rattle.msr_naming.specs.Promise.{AreNamed, AreReady, GivesNames, HasOwn, HasReport, HaveOwnParts, IsFree, KeepsOwn, KeepsIfKilled, NamesStamps, OverNothing}
 use Rattle.msr_naming.proofs.Names.{no_records_left, no_stamp_left, not_renamed, ready_gone, ready_still, removed_settled}
 use Rattle.msr_naming.proofs.Kills as kill
 use Rattle.msr_naming.proofs.Order as order

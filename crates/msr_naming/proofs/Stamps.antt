@@ -1,17 +1,17 @@
 -- The stamps of days get their names.
-use Rattle.std.proofs.Common.{◌≡◌, ◌⊎◌, inl, inr, ⊎_elim, Bool, true, false, List, [], ◌∷◌, ◌++◌, ℕ, zero, suc, length, map, reverse, take, refl, sym, subst, ◌∙◌, ap, append_assoc, Option, Some, None, IfSome, IsSomeAnd, option_map}
+use Rattle.std.proofs.Common.{◌≡◌, ◌⊎◌, inl, inr, ⊎_elim, Bool, true, List, [], ◌∷◌, ◌++◌, ℕ, map, reverse, refl, sym, subst, ◌∙◌, ap, append_assoc, Some, None, option_map}
 use Rattle.std.proofs.lemmas.List.{append_cancel_right, map-append, reverse-append}
 use Rattle.std.specs.List.{AllByRecursion}
-use Rattle.msr_tree.specs.Steps.{AtEachMoment, Failed, FolderStored, IsReady, Leaves, MayLeave, Path, Renamed, Step, Throughout, now, seen, stands_in, touches}
-use Rattle.msr_tree.proofs.Changes.{ready_renamed, ready_settled}
+use Rattle.msr_tree.specs.Steps.{AtEachMoment, FolderStored, IsReady, Leaves, MayLeave, Path, Renamed, Step, Throughout, now, seen}
+use Rattle.msr_tree.proofs.Changes.{ready_settled}
 use Rattle.msr_tree.proofs.Crash.{is_self, leaves, leaves_seen, still, untouched}
-use Rattle.msr_tree.proofs.Moments.{at_end, done, joined}
+use Rattle.msr_tree.proofs.Moments.{done, joined}
 use Rattle.msr_naming.specs.declared.files.DayFiles.{DayFiles}
-use Rattle.msr_naming.specs.declared.files.Name.TheVariants.{Records, RecordsPart, Report, ReportPart, Stamp, StampPart}
+use Rattle.msr_naming.specs.declared.files.Name.TheVariants.{Records, Report, Stamp, StampPart}
 use Rattle.msr_naming.specs.Naming.{AreDayNames, IsOther, name_path}
 use Rattle.msr_naming.specs.declared.files.Name.{Name}
 use Rattle.msr_naming.specs.Promise.{AreOthers, HasOwn, IsOneOf, IsToBeStamped, StandInFolders}
-use Rattle.msr_naming.proofs.Names.{MayHave, may_nothing, may_renamed, may_still, none_shown, not_renamed, ready_still, seen_ready, seen_still}
+use Rattle.msr_naming.proofs.Names.{MayHave, may_nothing, may_renamed, may_still, none_shown, not_renamed, ready_still, seen_ready}
 use Rattle.msr_naming.proofs.Order.{alone, has_both}
 
 abbrev pub stamping : DayFiles → Step

@@ -1,5 +1,4 @@
 -- The names of a file that is made.
-use Rattle.std.specs.Prelude.{List}
 use Rattle.msr_tree.specs.Steps.{Path}
 
 -- the one that it gets, and the one beside it under which it is made

@@ -1,5 +1,5 @@
 -- The names of a day's files, and the steps by which they are given.
-use Rattle.std.specs.Prelude.{◌<◌, ◌≡◌, ◌≤◌, ◌⊎◌, ◌==◌, ℕ, Bool, true, false, List, [], ◌∷◌, ◌++◌, length, map, reverse, take, bytes_eq, Result, Ok, Err, OnOk, IsErrOf}
+use Rattle.std.specs.Prelude.{◌<◌, ◌≡◌, ◌≤◌, ◌⊎◌, ◌==◌, ℕ, Bool, true, false, List, ◌∷◌, ◌++◌, length, reverse, take, bytes_eq, Result, Ok, Err, OnOk, IsErrOf}
 use Rattle.msr_tree.specs.Steps.{Failed, FolderStored, Path, Removed, Renamed, Step, failures, folder_above, stands_in}
 use Rattle.msr_tree.specs.declared.tree.TreeFault.{TreeFault}
 use Rattle.msr_tree.specs.declared.tree.TreeFault.TheVariants as fault

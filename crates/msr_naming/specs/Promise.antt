@@ -1,7 +1,7 @@
 -- What is promised of the files that are made of a day.
 use Rattle.std.specs.Prelude.{◌<◌, ◌≡◌, ℕ, Bool, true, List, ◌∷◌, ◌++◌, Option, None, Some, IfSome, IsSomeAnd, OnOk, IsErrOf, Result}
 use Rattle.std.specs.List.{AllByRecursion}
-use Rattle.msr_tree.specs.Steps.{AtEachMoment, IsReady, Leaves, MayLeave, Path, Step, failures, folder_above, seen, stands_in}
+use Rattle.msr_tree.specs.Steps.{AtEachMoment, IsReady, Leaves, MayLeave, Path, Step, failures, seen, stands_in}
 use Rattle.msr_tree.specs.declared.tree.TreeFault.{TreeFault}
 use Rattle.msr_tree.specs.declared.tree.TreeFault.TheVariants.{Failed}
 use Rattle.msr_naming.specs.declared.files.DayFiles.{DayFiles}

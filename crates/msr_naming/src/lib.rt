@@ -2,13 +2,13 @@
 //! another's.
 #![tactic(auto)]
 
+mod batch;
 mod files;
 mod naming;
-mod batch;
 
+pub use batch::{Waiting, name_stamps};
 pub use files::{DayFiles, Name, NewName};
 pub use naming::{
     Act, Stopped, clear_day, name_day, name_new_day, name_unstored_day, perform,
     records_without_a_report,
 };
-pub use batch::{Waiting, name_stamps};

@@ -46,11 +46,7 @@ pub(crate) fn new_name(alloc: Global, path: &str, number: u64) -> Result<NewName
 
 /// Makes a file beside its name. What stands there was left by a walk that was killed and had the same number, and is
 /// removed: no file that is there is written to.
-pub(crate) fn create_part<R: Files>(
-    rt: &R,
-    side: Side,
-    name: &NewName,
-) -> Result<R::File, Unopened>
+pub(crate) fn create_part<R: Files>(rt: &R, side: Side, name: &NewName) -> Result<R::File, Unopened>
     ensures { IfErr result (λ unopened. unopened.side ≡ side) }
 {
     if let Ok(file) = create_new(rt, name.part.as_str()) {
