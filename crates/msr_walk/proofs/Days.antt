@@ -88,15 +88,15 @@ day_unkept asked repacked (Tool why) does check is = day_unread asked.options re
 day_unkept asked repacked _ does check is = absurd is
 
 -- what becomes of a day for which this length is asked
-pub outcome_of_day : {E : Type 0} (days : DayOptions) (record_length : Length) (result : Result Outcome E) →
+pub outcome_of_day : {H E : Type 0} (outcome : H → Outcome) (days : DayOptions) (record_length : Length) (result : Result H E) →
     (days.same_length ≡ false → record_length ≡ days.options.record_length) →
-    IfOk result (IsDayOutcome (in_length record_length days)) → IfOk result (IsOutcomeOfDay days)
-outcome_of_day days record_length (Ok outcome) own is = record {
+    IfOk result (λ handled. IsDayOutcome (in_length record_length days) (outcome handled)) → IfOk result (λ handled. IsOutcomeOfDay days (outcome handled))
+outcome_of_day outcome days record_length (Ok handled) own is = record {
   asked = in_length record_length days;
   for_day = record { record_length = record_length; is = refl; own = own };
   is = is;
 }
-outcome_of_day days record_length (Err e) own is = tt
+outcome_of_day outcome days record_length (Err e) own is = tt
 
 -- of a day of which nothing is touched
 pub untouched : (days : DayOptions) (unopened : Unopened) → IsOutcomeOfDay days (Refused (CannotOpen unopened))

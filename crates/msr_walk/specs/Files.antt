@@ -2,18 +2,11 @@
 use Rattle.std.specs.Prelude.{ℕ, List, ◌++◌, codes}
 use Rattle.std.specs.Fmt.{decimal}
 use Rattle.msr_folders.specs.Paths.{ended, joined}
-use Rattle.msr_options.specs.declared.hint.Side.{Side}
-
--- what a new file is of a day, and its names: the one that it gets, and the one beside it under which it is written
-pub record FileNames : Type 0 where
-  pub side : Side
-  pub path : List ℕ
-  pub part : List ℕ
+use Rattle.msr_naming.specs.Files.{FileNames}
 
 -- the names of a new file that the walk makes whose claim has that number
-abbrev pub new_file : Side → (path : List ℕ) (number : ℕ) → FileNames
-new_file side path number = record {
-  side = side;
+abbrev pub new_file : (path : List ℕ) (number : ℕ) → FileNames
+new_file path number = record {
   path = path;
   part = ended path (codes "." ++ (decimal number ++ codes ".part"));
 }

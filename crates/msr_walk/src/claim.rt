@@ -1,6 +1,6 @@
 //! Days that are claimed: at any time one walk alone makes, renames or removes the files of a day.
 use crate::day::Day;
-use crate::files::create_new;
+use crate::files::{create_new, sweep_all};
 use msr_folders::{FileId, Lock, LockFile};
 use std::alloc::Global;
 use std::fs::{OpenFile, OpenOptions};
@@ -23,21 +23,29 @@ pub(crate) enum ClaimFault {
 /// it.
 #[derive(Drop)]
 pub(crate) struct Claim<F> {
-    file: F,
-    /// The number of its file, which no other file that is there has.
-    pub number: u64,
+    /// The name of its file.
+    path: String,
+    /// Its file, open, so that it is locked.
+    _file: F,
+    /// Which file it is. No other file that is there has its number.
+    pub id: FileId,
+    /// Whether another walk was killed that had the day.
+    pub was_left: bool,
 }
 
-impl<F: OpenFile> Claim<F> {
+impl<F> Claim<F> {
     /// Whether its file has that name still.
-    pub(crate) fn is_ours<R: Files>(&self, rt: &R, path: &str) -> bool {
-        leads_to(rt, path, &self.file).is_some()
+    pub(crate) fn is_ours<R: Files>(&self, rt: &R) -> bool {
+        match fs::symlink_metadata(rt, self.path.as_str()) {
+            Ok(metadata) => FileId::of(&metadata) == self.id,
+            Err(_) => false,
+        }
     }
 
     /// Lets the day go.
-    pub(crate) fn release<R: Files>(&self, rt: &R, path: &str) {
-        if self.is_ours(rt, path) {
-            fs::remove_file(rt, path).ok();
+    pub(crate) fn release<R: Files>(&self, rt: &R) {
+        if self.is_ours(rt) {
+            fs::remove_file(rt, self.path.as_str()).ok();
         }
     }
 }
@@ -61,12 +69,14 @@ pub(crate) fn claim_day<R: Files>(
 where
     R::File: LockFile,
 {
+    let mut was_left = false;
     for _ in 0..TRIES {
-        if let Some(claim) = claim_anew(rt, day.claim.as_str())? {
+        if let Some(claim) = claim_anew(rt, alloc, day.claim.as_str(), was_left)? {
             return Ok(claim);
         }
         if let Some(file) = open_claim(rt, day.claim.as_str())? {
             clear_left(rt, alloc, day, &file)?;
+            was_left = true;
         }
     }
     Err(ClaimFault::ClaimedByAnother)
@@ -74,10 +84,18 @@ where
 
 /// Makes the file of a claim; `None` if there is one, or another walk took it for one that was left before it was
 /// locked.
-fn claim_anew<R: Files>(rt: &R, path: &str) -> Result<Option<Claim<R::File>>, ClaimFault>
+fn claim_anew<R: Files>(
+    rt: &R,
+    alloc: Global,
+    path: &str,
+    was_left: bool,
+) -> Result<Option<Claim<R::File>>, ClaimFault>
 where
     R::File: LockFile,
 {
+    let Ok(name) = String::from_str(alloc, path) else {
+        return Err(ClaimFault::Memory);
+    };
     let file = match create_new(rt, path) {
         Ok(file) => file,
         Err(error) if error.kind() == ErrorKind::AlreadyExists => return Ok(None),
@@ -86,10 +104,15 @@ where
     if file.lock() == Lock::Others {
         return Ok(None);
     }
-    let Some(FileId { number, .. }) = leads_to(rt, path, &file) else {
+    let Some(id) = leads_to(rt, path, &file) else {
         return Ok(None);
     };
-    Ok(Some(Claim { file, number }))
+    Ok(Some(Claim {
+        path: name,
+        _file: file,
+        id,
+        was_left,
+    }))
 }
 
 /// The file of a claim that was left, or that another walk has; `None` if it is gone. What is no regular file is no
@@ -121,7 +144,7 @@ where
         return Ok(());
     };
     let is_swept = match day.files(alloc, id.number) {
-        Ok(files) => files.sweep(rt),
+        Ok(files) => sweep_all(rt, &files),
         Err(_) => return Err(ClaimFault::Memory),
     };
     // Without the claim nobody would know what to remove.

@@ -1,16 +1,18 @@
 //! One day file: from its file to the files of its records and its report.
 ghost use Rattle.std.specs.Prelude.{◌≡◌, false, true, IfOk, IfSome, IsTrue, Ok};
-ghost use Rattle.msr_walk.specs.Day.{GotSmaller, HasAnswer, IsDayOutcome, IsKept, IsOutcomeOfDay, IsRepackedDay, VerifiedAnswers};
+ghost use Rattle.msr_walk.specs.Day.{GotSmaller, HasAnswer, IsDayOutcome, IsKept, IsOutcomeOfDay, IsRepackedDay, IsSame, VerifiedAnswers};
 ghost use Rattle.msr_walk.specs.Files.{day_names, new_file};
 
 use crate::claim::{Claim, ClaimFault, claim_day};
-use crate::files::{NewFile, opened};
+use crate::files::{create_part, new_name, open_part, opened, sweep, sweep_all};
+use crate::names::{clear_names, give_names};
 use crate::outcome::{DayFault, Outcome, Repacked};
 use crate::repacking::{Counting, counts_kept, first_length, repack_day_of, require_verified};
 use crate::stamp::Stamp;
 use msr_devices::{FromRead, FromWrite};
-use msr_folders::{LockFile, Look, ended, is_gone, join, open_regular, settle_regular};
+use msr_folders::{LockFile, Look, ended, join, open_regular, settle_regular};
 use msr_kinds::Length;
+use msr_naming::{DayFiles, Waiting};
 use msr_options::{DayOptions, Folders, Options, Side, Unopened};
 use msr_tool::ToolFault;
 use std::alloc::{AllocError, Global};
@@ -45,42 +47,6 @@ impl Model for Day {
     } };
 }
 
-/// The files that a walk makes of a day.
-#[derive(Drop)]
-pub(crate) struct DayFiles {
-    records: NewFile,
-    report: NewFile,
-    stamp: NewFile,
-}
-
-impl DayFiles {
-    /// Removes what stands beside their names, and tells whether nothing is there any more.
-    pub(crate) fn sweep<R: Files>(&self, rt: &R) -> bool {
-        self.records.sweep(rt) & self.report.sweep(rt) & self.stamp.sweep(rt)
-    }
-
-    /// The stamp and the records of an earlier walk go before anything gets its name, so that what has a stamp was made
-    /// whole, and no report stands beside records that are not its own; the report gets its name first, so that records
-    /// that have theirs have a report.
-    fn keep<R: Files>(&self, rt: &R) -> Result<(), Unopened> {
-        self.stamp.clear(rt)?;
-        self.records.clear(rt)?;
-        self.report.keep(rt)?;
-        self.records.keep(rt)
-    }
-
-    /// Stamps the day, if its input is as it was; without a stamp the next walk repacks it again. Tells whether nothing
-    /// stands beside the stamp's name any more.
-    fn put_stamp<R: Files>(&self, rt: &R, alloc: Global, before: &Look, input: &str) -> bool {
-        let Some(stamp) = Stamp::of(&Look::at(rt, input)) else {
-            return true;
-        };
-        Stamp::of(before) != Some(stamp)
-            || stamp.put(rt, alloc, &self.stamp)
-            || self.stamp.sweep(rt)
-    }
-}
-
 /// What stands under the names of the day's own file, and of those that are made of it.
 #[derive(Drop)]
 struct DayLook {
@@ -90,12 +56,31 @@ struct DayLook {
     stamp: Look,
 }
 
+impl DayLook {
+    /// Whether the day's own file may be one of those that are made.
+    fn may_overlap(&self) -> bool {
+        let input = &self.input;
+        input.may_be(&self.records) || input.may_be(&self.report) || input.may_be(&self.stamp)
+    }
+
+    /// Whether nothing of the day is made.
+    fn is_free(&self) -> bool {
+        is_nothing(&self.records) && is_nothing(&self.report) && is_nothing(&self.stamp)
+    }
+}
+
+fn is_nothing(look: &Look) -> bool {
+    matches!(look, Look::Nothing(_))
+}
+
 /// A day that this walk has: what stood under the name of its own file, the files that are made, and the claim.
 #[derive(Drop)]
 struct ClaimedDay<'a, F> {
     input: &'a Look,
-    files: DayFiles,
+    files: &'a DayFiles,
     claim: &'a Claim<F>,
+    /// Whether nothing stands under the names of its files, nor may after a crash.
+    is_free: bool,
 }
 
 /// What is asked of a day, and the system's files and the memory with which it is done.
@@ -106,11 +91,58 @@ struct Work<'a, R: Files> {
     asked: DayOptions,
 }
 
-/// What became of a day that this walk has, and whether nothing stands beside the names of its files any more.
+/// What stands beside the names of a day's files when it is done.
+#[derive(Clone, Copy)]
+enum Left {
+    Nothing,
+    /// A stamp that is to get its name.
+    Stamp,
+    /// What could not be removed.
+    Parts,
+}
+
+impl Left {
+    fn of_swept(is_swept: bool) -> Left {
+        if is_swept { Left::Nothing } else { Left::Parts }
+    }
+}
+
+/// What became of a day that this walk has.
 #[derive(Clone, Copy)]
 struct DayEnd {
     outcome: Outcome,
-    is_swept: bool,
+    left: Left,
+}
+
+impl DayEnd {
+    /// Of a day beside whose files nothing stands.
+    fn of(outcome: Outcome) -> DayEnd
+        ensures { result.outcome ≡ outcome }
+    {
+        DayEnd {
+            outcome,
+            left: Left::Nothing,
+        }
+    }
+}
+
+/// What became of a day, and what waits for its stamp to get its name.
+#[derive(Drop)]
+pub(crate) struct Handled<F> {
+    pub outcome: Outcome,
+    pub waiting: Option<Waiting<Claim<F>>>,
+}
+
+impl<F> Handled<F> {
+    /// Of a day of which nothing waits.
+    pub(crate) fn of(outcome: Outcome) -> Handled<F>
+        ensures { result.outcome ≡ outcome }
+    {
+        Handled {
+            outcome,
+            waiting: None,
+        }
+    }
 }
 
 /// Repacks a day from its input, which is closed then, to its files.
@@ -151,14 +183,14 @@ impl Day {
 
     /// The files that the walk makes whose claim has that number.
     pub(crate) fn files(&self, alloc: Global, number: u64) -> Result<DayFiles, AllocError>
-        ensures { IfOk result (λ files. files.records ≡ new_file Side.Records self.now.records number
-            × files.report ≡ new_file Side.Report self.now.report number
-            × files.stamp ≡ new_file Side.Report self.now.stamp number) }
+        ensures { IfOk result (λ files. files.records ≡ new_file self.now.records number
+            × files.report ≡ new_file self.now.report number
+            × files.stamp ≡ new_file self.now.stamp number) }
     {
         Ok(DayFiles {
-            records: NewFile::new(alloc, Side::Records, self.records.as_str(), number)?,
-            report: NewFile::new(alloc, Side::Report, self.report.as_str(), number)?,
-            stamp: NewFile::new(alloc, Side::Report, self.stamp.as_str(), number)?,
+            records: new_name(alloc, self.records.as_str(), number)?,
+            report: new_name(alloc, self.report.as_str(), number)?,
+            stamp: new_name(alloc, self.stamp.as_str(), number)?,
         })
     }
 
@@ -167,8 +199,8 @@ impl Day {
     fn verify<R: Files>(&self, work: &Work<'_, R>, files: &DayFiles) -> Result<(), DayFault>
         ensures { VerifiedAnswers work.now.asked.options result }
     {
-        let mut records = FromRead::new(files.records.open(work.rt)?);
-        let mut report = FromRead::new(files.report.open(work.rt)?);
+        let mut records = FromRead::new(open_part(work.rt, Side::Records, &files.records)?);
+        let mut report = FromRead::new(open_part(work.rt, Side::Report, &files.report)?);
         let input = opened(Side::File, open_regular(work.rt, self.input.as_str()))?;
         let mut input = FromRead::new(input);
         let options = work.asked.options;
@@ -186,14 +218,14 @@ impl Day {
         requires smaller { IsTrue work.now.asked.only_smaller → GotSmaller repacked }
         ensures { IsRepackedDay work.now.asked result }
     {
-        let files = &claimed.files;
+        let files = claimed.files;
         if work.asked.check {
             self.verify(work, files)?;
         }
-        if !claimed.claim.is_ours(work.rt, self.claim.as_str()) {
+        if !claimed.claim.is_ours(work.rt) {
             return Err(DayFault::ClaimedByAnother);
         }
-        files.keep(work.rt)?;
+        give_names(work.rt, work.alloc, files, claimed.is_free)?;
         Ok(repacked)
     }
 
@@ -205,10 +237,10 @@ impl Day {
     ) -> Result<Repacked, DayFault>
         ensures { IsRepackedDay work.now.asked result }
     {
-        let (rt, files) = (work.rt, &claimed.files);
+        let (rt, files) = (work.rt, claimed.files);
         let input = opened(Side::File, claimed.input.open(rt, self.input.as_str()))?;
-        let mut records = files.records.create(rt)?;
-        let mut report = files.report.create(rt)?;
+        let mut records = create_part(rt, Side::Records, &files.records)?;
+        let mut report = create_part(rt, Side::Report, &files.report)?;
         let options = work.asked.options;
         let repacked = repack_files(work.alloc, input, &mut records, &mut report, options)?;
         if work.asked.only_smaller && repacked.bytes_read <= repacked.bytes_written {
@@ -220,31 +252,51 @@ impl Day {
         self.keep(work, claimed, repacked)
     }
 
-    /// Repacks the day, and stamps it if that is asked for and the input did not change meanwhile. If it is refused,
+    /// Repacks the day, and writes its stamp if that is asked for and the input did not change meanwhile. If it is refused,
     /// nothing of it is left, unless another walk took it over.
     fn repack<R: Files>(&self, work: &Work<'_, R>, claimed: &ClaimedDay<'_, R::File>) -> DayEnd
         ensures { IsDayOutcome work.now.asked result.outcome }
     {
-        let (rt, files) = (work.rt, &claimed.files);
+        let (rt, files) = (work.rt, claimed.files);
         match self.write(work, claimed) {
             Ok(repacked) => DayEnd {
                 outcome: Outcome::Done(repacked),
-                is_swept: !work.asked.resume
-                    || files.put_stamp(rt, work.alloc, claimed.input, self.input.as_str()),
+                left: if work.asked.resume {
+                    self.write_stamp(work, claimed)
+                } else {
+                    Left::Nothing
+                },
             },
-            Err(refusal) => {
-                let is_swept = files.sweep(rt);
-                if claimed.claim.is_ours(rt, self.claim.as_str()) {
-                    fs::remove_file(rt, self.stamp.as_str()).ok();
-                    fs::remove_file(rt, self.records.as_str()).ok();
-                    fs::remove_file(rt, self.report.as_str()).ok();
-                }
-                DayEnd {
-                    outcome: Outcome::Refused(refusal),
-                    is_swept,
-                }
-            }
+            Err(refusal) => DayEnd {
+                outcome: Outcome::Refused(refusal),
+                left: Left::of_swept(sweep_all(rt, files) & self.clear(work, claimed)),
+            },
         }
+    }
+
+    /// Writes the day's stamp beside its name, if its input is as it was; without a stamp the next walk repacks it again.
+    fn write_stamp<R: Files>(&self, work: &Work<'_, R>, claimed: &ClaimedDay<'_, R::File>) -> Left {
+        let (rt, name) = (work.rt, &claimed.files.stamp);
+        let stamp = Stamp::of(&Look::at(rt, self.input.as_str()));
+        match stamp {
+            Some(stamp) if Stamp::of(claimed.input) == Some(stamp) => {
+                if stamp.write_beside(rt, work.alloc, name) {
+                    return Left::Stamp;
+                }
+                Left::of_swept(sweep(rt, name))
+            }
+            _ => Left::Nothing,
+        }
+    }
+
+    /// Removes what has the names of its files, or may have them after a crash, if the day is this walk's still, and tells
+    /// whether it need not be done again.
+    fn clear<R: Files>(&self, work: &Work<'_, R>, claimed: &ClaimedDay<'_, R::File>) -> bool {
+        let (rt, claim) = (work.rt, claimed.claim);
+        if !claim.is_ours(rt) || !claim.was_left && self.look(rt).is_free() {
+            return true;
+        }
+        clear_names(rt, work.alloc, claimed.files)
     }
 
     /// What an earlier walk left of the day, if it is whole, was made with these options, and from the input as it is,
@@ -271,93 +323,112 @@ impl Day {
 
     /// Looks at the day's own file, and at those that are made of it.
     fn look<R: Files>(&self, rt: &R) -> DayLook {
+        self.look_beside(rt, Look::at(rt, self.stamp.as_str()))
+    }
+
+    /// The same, once the stamp was looked at.
+    fn look_beside<R: Files>(&self, rt: &R, stamp: Look) -> DayLook {
         DayLook {
             input: Look::at(rt, self.input.as_str()),
             records: Look::at(rt, self.records.as_str()),
             report: Look::at(rt, self.report.as_str()),
-            stamp: Look::at(rt, self.stamp.as_str()),
+            stamp,
         }
     }
 
-    /// Does a day that this walk has.
+    /// The same as is kept of a day, if that is asked for and no walk has the day or left something.
+    fn kept_unclaimed<R: Files>(&self, work: &Work<'_, R>) -> Option<Repacked>
+        ensures { IfSome result (IsSame work.now.asked) }
+    {
+        if !work.asked.resume {
+            return None;
+        }
+        let rt = work.rt;
+        let stamp = Look::at(rt, self.stamp.as_str());
+        stamp.regular()?;
+        let look = self.look_beside(rt, stamp);
+        if look.may_overlap() || fs::symlink_metadata(rt, self.claim.as_str()).is_ok() {
+            return None;
+        }
+        let repacked = self.kept(work, &look)?;
+        Some(repacked)
+    }
+
+    /// Does a day that this walk has. If its own file may be one of those that are made, nothing is touched.
     fn do_claimed<R: Files>(
         &self,
         work: &Work<'_, R>,
-        input: &Look,
+        files: &DayFiles,
         claim: &Claim<R::File>,
-    ) -> Result<DayEnd, AllocError>
-        ensures { IfOk result (λ end. IsDayOutcome work.now.asked end.outcome) }
+    ) -> DayEnd
+        ensures { IsDayOutcome work.now.asked result.outcome }
     {
-        if work.asked.resume && !is_gone(work.rt, self.stamp.as_str()) {
-            if let Some(repacked) = self.kept(work, &self.look(work.rt)) {
-                return Ok(DayEnd {
-                    outcome: Outcome::Same(repacked),
-                    is_swept: true,
-                });
+        let look = self.look(work.rt);
+        if look.may_overlap() {
+            let refusal = DayFault::CannotOpen(Unopened::OUTPUTS);
+            return DayEnd::of(Outcome::Refused(refusal));
+        }
+        if work.asked.resume {
+            if let Some(repacked) = self.kept(work, &look) {
+                return DayEnd::of(Outcome::Same(repacked));
             }
         }
         let claimed = ClaimedDay {
-            input,
-            files: self.files(work.alloc, claim.number)?,
+            input: &look.input,
+            files,
             claim,
+            is_free: !claim.was_left && look.is_free(),
         };
-        Ok(self.repack(work, &claimed))
+        self.repack(work, &claimed)
     }
 
-    /// Claims the day, does it, and lets it go; the claim stays beside what could not be removed, since by its number
-    /// the next walk finds that.
-    fn claim_and_do<R: Files>(
+    /// Does a day that this walk has, and lets it go, unless its stamp waits; the claim stays beside what could not be
+    /// removed, since by its number the next walk finds that.
+    fn do_and_release<R: Files>(
         &self,
         work: &Work<'_, R>,
-        input: &Look,
-    ) -> Result<Outcome, AllocError>
-    where
-        R::File: LockFile,
-        ensures { IfOk result (IsDayOutcome work.now.asked) }
+        claim: Claim<R::File>,
+    ) -> Result<Handled<R::File>, AllocError>
+        ensures { IfOk result (λ handled. IsDayOutcome work.now.asked handled.outcome) }
     {
-        let claim = match claim_day(work.rt, work.alloc, self) {
-            Ok(claim) => claim,
-            Err(ClaimFault::CannotOpen(why)) => {
-                let side = Side::Records;
-                return Ok(Outcome::Refused(DayFault::CannotOpen(Unopened { side, why })));
+        let Ok(files) = self.files(work.alloc, claim.id.number) else {
+            // Nothing was written.
+            claim.release(work.rt);
+            return Err(AllocError);
+        };
+        let DayEnd { outcome, left } = self.do_claimed(work, &files, &claim);
+        let waiting = match left {
+            Left::Stamp => Some(Waiting { files, claim }),
+            Left::Nothing => {
+                claim.release(work.rt);
+                None
             }
-            Err(ClaimFault::ClaimedByAnother) => return Ok(Outcome::Refused(
-                DayFault::ClaimedByAnother,
-            )),
-            Err(ClaimFault::Memory) => return Err(AllocError),
+            Left::Parts => None,
         };
-        let end = self.do_claimed(work, input, &claim);
-        let is_swept = match &end {
-            Ok(end) => end.is_swept,
-            // There was no memory for the names, so nothing was written.
-            Err(_) => true,
-        };
-        if is_swept {
-            claim.release(work.rt, self.claim.as_str());
-        }
-        Ok(end?.outcome)
+        Ok(Handled { outcome, waiting })
     }
 
-    /// Does what is asked of the day: repacks it, or leaves it alone if an earlier walk did it and that is asked for.
-    /// If it is refused or not to be kept, no records and no report of it are left, unless the day cannot be claimed,
+    /// Does what is asked of the day: leaves it alone if an earlier walk did it and that is asked for, or claims and repacks
+    /// it. If it is refused or not to be kept, no records and no report of it are left, unless the day cannot be claimed,
     /// or its own file may be one of those: then nothing is touched.
-    fn do_asked<R: Files>(&self, work: &Work<'_, R>) -> Result<Outcome, AllocError>
+    fn do_asked<R: Files>(&self, work: &Work<'_, R>) -> Result<Handled<R::File>, AllocError>
     where
         R::File: LockFile,
-        ensures { IfOk result (IsDayOutcome work.now.asked) }
+        ensures { IfOk result (λ handled. IsDayOutcome work.now.asked handled.outcome) }
     {
-        let look = self.look(work.rt);
-        let input = &look.input;
-        if input.may_be(&look.records) || input.may_be(&look.report) || input.may_be(&look.stamp) {
-            return Ok(Outcome::Refused(DayFault::CannotOpen(Unopened::OUTPUTS)));
+        if let Some(repacked) = self.kept_unclaimed(work) {
+            return Ok(Handled::of(Outcome::Same(repacked)));
         }
-        // If there is a claim, a walk is at work, or left something.
-        if work.asked.resume && fs::symlink_metadata(work.rt, self.claim.as_str()).is_err() {
-            if let Some(repacked) = self.kept(work, &look) {
-                return Ok(Outcome::Same(repacked));
+        let refusal = match claim_day(work.rt, work.alloc, self) {
+            Ok(claim) => return self.do_and_release(work, claim),
+            Err(ClaimFault::CannotOpen(why)) => {
+                let side = Side::Records;
+                DayFault::CannotOpen(Unopened { side, why })
             }
-        }
-        self.claim_and_do(work, &look.input)
+            Err(ClaimFault::ClaimedByAnother) => DayFault::ClaimedByAnother,
+            Err(ClaimFault::Memory) => return Err(AllocError),
+        };
+        Ok(Handled::of(Outcome::Refused(refusal)))
     }
 
     /// The length of this day's records: if each day's own is asked for, that of its first record, if that
@@ -386,10 +457,10 @@ impl Day {
         rt: &R,
         alloc: Global,
         days: &DayOptions,
-    ) -> Result<Outcome, AllocError>
+    ) -> Result<Handled<R::File>, AllocError>
     where
         R::File: LockFile,
-        ensures { IfOk result (IsOutcomeOfDay days.now) }
+        ensures { IfOk result (λ handled. IsOutcomeOfDay days.now handled.outcome) }
     {
         let length = self.length(rt, alloc, days)?;
         let asked = days.in_length(length);

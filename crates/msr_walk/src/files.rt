@@ -3,11 +3,11 @@ ghost use Rattle.std.specs.Prelude.{◌≡◌, IfErr, IfOk};
 ghost use Rattle.msr_walk.specs.Files.{new_file};
 
 use msr_folders::{ended, folder_of, is_gone, open_regular};
+use msr_naming::{DayFiles, NewName};
 use msr_options::{Side, Unopened};
 use std::alloc::{AllocError, Global};
 use std::fs::File;
 use std::io::ErrorKind;
-use std::marker::Model;
 use std::rt::Files;
 use std::{fs, io};
 
@@ -32,92 +32,44 @@ pub(crate) fn opened<T>(side: Side, answer: Result<T, Option<io::Error>>) -> Res
     answer.map_err(|why| Unopened { side, why })
 }
 
-/// A file to be made in a folder that may be missing. It is written beside its name, and gets the name once it is
-/// whole.
-#[derive(Drop)]
-pub(crate) struct NewFile {
-    side: Side,
-    path: String,
-    part: String,
+/// The names of a new file. It is written under a name that no other walk uses, which has the number of the claim of this
+/// one.
+pub(crate) fn new_name(alloc: Global, path: &str, number: u64) -> Result<NewName, AllocError>
+    ensures { IfOk result (λ name. name ≡ new_file path.now number) }
+{
+    let ending = format!(in alloc; ".{number}.part")?;
+    Ok(NewName {
+        path: String::from_str(alloc, path)?,
+        part: ended(alloc, path, ending.as_str())?,
+    })
 }
 
-impl Model for NewFile {
-    ghost use Rattle.std.specs.String.{string_bytes};
-    ghost use Rattle.msr_walk.specs.Files.{FileNames};
-
-    ghost Value = { FileNames };
-
-    ghost view = { λ file. record {
-      side = file.side;
-      path = string_bytes file.path;
-      part = string_bytes file.part;
-    } };
+/// Makes a file beside its name. What stands there was left by a walk that was killed and had the same number, and is
+/// removed: no file that is there is written to.
+pub(crate) fn create_part<R: Files>(rt: &R, side: Side, name: &NewName) -> Result<R::File, Unopened>
+    ensures { IfErr result (λ unopened. unopened.side ≡ side) }
+{
+    if let Ok(file) = create_new(rt, name.part.as_str()) {
+        return Ok(file);
+    }
+    sweep(rt, name);
+    let answer = create_new(rt, name.part.as_str());
+    opened(side, answer.map_err(|error| Some(error)))
 }
 
-impl NewFile {
-    /// The file with that name. It is written under a name that no other walk uses, which has the number of the claim
-    /// of this one.
-    pub(crate) fn new(
-        alloc: Global,
-        side: Side,
-        path: &str,
-        number: u64,
-    ) -> Result<NewFile, AllocError>
-        ensures { IfOk result (λ file. file ≡ new_file side path.now number) }
-    {
-        let ending = format!(in alloc; ".{number}.part")?;
-        Ok(NewFile {
-            side,
-            path: String::from_str(alloc, path)?,
-            part: ended(alloc, path, ending.as_str())?,
-        })
-    }
+/// Opens what was written beside its name.
+pub(crate) fn open_part<R: Files>(rt: &R, side: Side, name: &NewName) -> Result<R::File, Unopened>
+    ensures { IfErr result (λ unopened. unopened.side ≡ side) }
+{
+    opened(side, open_regular(rt, name.part.as_str()))
+}
 
-    /// What the system answers.
-    fn answered<T>(&self, answer: io::Result<T>) -> Result<T, Unopened>
-        ensures { IfErr result (λ unopened. unopened.side ≡ self.now.side) }
-    {
-        opened(self.side, answer.map_err(|error| Some(error)))
-    }
+/// Removes what stands beside a name, and tells whether nothing is there any more.
+pub(crate) fn sweep<R: Files>(rt: &R, name: &NewName) -> bool {
+    fs::remove_file(rt, name.part.as_str()).is_ok() || is_gone(rt, name.part.as_str())
+}
 
-    /// Makes the file beside its name. What stands there was left by a walk that was killed and had the same number,
-    /// and is removed: no file that is there is written to.
-    pub(crate) fn create<R: Files>(&self, rt: &R) -> Result<R::File, Unopened>
-        ensures { IfErr result (λ unopened. unopened.side ≡ self.now.side) }
-    {
-        if let Ok(file) = create_new(rt, self.part.as_str()) {
-            return Ok(file);
-        }
-        self.sweep(rt);
-        self.answered(create_new(rt, self.part.as_str()))
-    }
-
-    /// Opens what was written beside its name.
-    pub(crate) fn open<R: Files>(&self, rt: &R) -> Result<R::File, Unopened>
-        ensures { IfErr result (λ unopened. unopened.side ≡ self.now.side) }
-    {
-        opened(self.side, open_regular(rt, self.part.as_str()))
-    }
-
-    /// Removes what stands beside its name, and tells whether nothing is there any more.
-    pub(crate) fn sweep<R: Files>(&self, rt: &R) -> bool {
-        fs::remove_file(rt, self.part.as_str()).is_ok() || is_gone(rt, self.part.as_str())
-    }
-
-    /// Removes an older file of its name, if there is one.
-    pub(crate) fn clear<R: Files>(&self, rt: &R) -> Result<(), Unopened>
-        ensures { IfErr result (λ unopened. unopened.side ≡ self.now.side) }
-    {
-        match fs::remove_file(rt, self.path.as_str()) {
-            Err(error) if error.kind() == ErrorKind::NotFound => Ok(()),
-            answer => self.answered(answer),
-        }
-    }
-
-    /// Gives the file its name, in the place of what had it.
-    pub(crate) fn keep<R: Files>(&self, rt: &R) -> Result<(), Unopened>
-        ensures { IfErr result (λ unopened. unopened.side ≡ self.now.side) }
-    {
-        self.answered(fs::rename(rt, self.part.as_str(), self.path.as_str()))
-    }
+/// The same of all files of a day.
+pub(crate) fn sweep_all<R: Files>(rt: &R, files: &DayFiles) -> bool {
+    sweep(rt, &files.records) & sweep(rt, &files.report) & sweep(rt, &files.stamp)
 }

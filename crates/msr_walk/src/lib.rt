@@ -2,10 +2,12 @@
 //! same path in another folder, and tells a line for each entry and the totals of the channels.
 #![tactic(auto)]
 
+mod batch;
 mod claim;
 mod day;
 mod files;
 mod folders;
+mod names;
 mod outcome;
 mod repacking;
 mod stamp;

@@ -5,11 +5,14 @@ ghost use Rattle.msr_devices.specs.Device.{CanCountCall, Takes};
 ghost use Rattle.msr_folders.specs.Visits.{StopsPrefix};
 ghost use Rattle.msr_walk.specs.Stamp.{stamp_text};
 
-use crate::files::NewFile;
+use crate::files::create_part;
 use msr_devices::{DeviceFault, FromWrite, Sink, write_all};
-use msr_folders::{Look, settle_regular};
+use msr_folders::Look;
+use msr_naming::NewName;
+use msr_options::Side;
 use std::alloc::{AllocError, Global};
 use std::fs;
+use std::fs::OpenFile;
 use std::os::unix::fs::MetadataExt;
 use std::rt::Files;
 
@@ -75,13 +78,11 @@ impl Stamp {
         }
     }
 
-    /// Makes that file with this stamp, and tells whether it is there.
-    pub(crate) fn put<R: Files>(self, rt: &R, alloc: Global, file: &NewFile) -> bool {
-        let Ok(mut open) = file.create(rt) else {
+    /// Writes it beside its name, and tells whether it is on the disk. A file system that cannot tell that gets no stamp.
+    pub(crate) fn write_beside<R: Files>(self, rt: &R, alloc: Global, name: &NewName) -> bool {
+        let Ok(mut open) = create_part(rt, Side::Report, name) else {
             return false;
         };
-        self.write(alloc, &mut FromWrite::new(&mut open)).is_ok()
-            && settle_regular(&open).is_ok()
-            && file.keep(rt).is_ok()
+        self.write(alloc, &mut FromWrite::new(&mut open)).is_ok() && open.sync_data().is_ok()
     }
 }

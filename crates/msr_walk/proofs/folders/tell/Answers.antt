@@ -37,6 +37,6 @@ pub returns-clause-told : goal.returns-clause-told
 returns-clause-told g c =
     let asked = c.args.walker.now.archive.now.days in
     let entry : Entry = record { path = c.args.path.now; channel = c.args.channel.now; outcome = c.args.outcome } in
-    λ is. tells_one (IsEntry asked) (IsEntryLine asked.bytes) IsTally _ _ _ _ entry c.as_bytes.result.now is
+    λ is. tells_one (IsEntry asked) (IsEntryLine asked.bytes) (λ entries of. IsTally entries of.tally) _ _ _ _ entry c.as_bytes.result.now is
     (rw c.as_bytes.ensures.value c.in_ok-line.ensures) c.in_ok-write_all.ensures.all c.in_ok-write_all.ensures.calm
     (λ before h. c.in_ok-add.ensures before entry h refl refl)

@@ -8,9 +8,9 @@ returns-in_err-verify g c =
     let p = err_from_is_err_and c.from_residual.result c.from_residual.ensures.1 in
     rw (p.1, p.2) (day_unkept _ _ c.in_err-verify.field-0.0 c.requires.answer c.if-work.true c.in_err-verify.ensures)
 
-pub returns-in_err-keep : goal.returns-in_err-keep
-returns-in_err-keep g c =
-    let p = err_from_is_err_and c.from_residual-in_err-keep.result c.from_residual-in_err-keep.ensures.1 in
+pub returns-in_err-give_names : goal.returns-in_err-give_names
+returns-in_err-give_names g c =
+    let p = err_from_is_err_and c.from_residual-in_err-give_names.result c.from_residual-in_err-give_names.ensures.1 in
     rw (p.1, p.2) tt
 
 pub returns : goal.returns

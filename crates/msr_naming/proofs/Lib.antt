@@ -1,0 +1,6 @@
+pub mod Kills
+pub mod Names
+pub mod Order
+pub mod Plan
+pub mod Promises
+pub mod Stamps

@@ -1,0 +1,183 @@
+-- The stamps of days get their names.
+use Rattle.std.proofs.Common.{◌≡◌, ◌⊎◌, inl, inr, ⊎_elim, Bool, true, List, [], ◌∷◌, ◌++◌, ℕ, map, reverse, refl, sym, subst, ◌∙◌, ap, append_assoc, Some, None, option_map}
+use Rattle.std.proofs.lemmas.List.{append_cancel_right, map-append, reverse-append}
+use Rattle.std.specs.List.{AllByRecursion}
+use Rattle.msr_tree.specs.Steps.{AtEachMoment, FolderStored, IsReady, Leaves, MayLeave, Path, Renamed, Step, Throughout, now, seen}
+use Rattle.msr_tree.proofs.Changes.{ready_settled}
+use Rattle.msr_tree.proofs.Crash.{is_self, leaves, leaves_seen, still, untouched}
+use Rattle.msr_tree.proofs.Moments.{done, joined}
+use Rattle.msr_naming.specs.declared.files.DayFiles.{DayFiles}
+use Rattle.msr_naming.specs.declared.files.Name.TheVariants.{Records, Report, Stamp, StampPart}
+use Rattle.msr_naming.specs.Naming.{AreDayNames, IsOther, name_path}
+use Rattle.msr_naming.specs.declared.files.Name.{Name}
+use Rattle.msr_naming.specs.Promise.{AreOthers, HasOwn, IsOneOf, IsToBeStamped, StandInFolders}
+use Rattle.msr_naming.proofs.Names.{MayHave, may_nothing, may_renamed, may_still, none_shown, not_renamed, ready_still, seen_ready}
+use Rattle.msr_naming.proofs.Order.{alone, has_both}
+
+abbrev pub stamping : DayFiles → Step
+stamping day = Renamed day.stamp.part day.stamp.path
+
+-- of days, and of what else is known of them
+pub stamping_each : {A : Type 0} (files : A → DayFiles) (items : List A) → map (λ (item : A). stamping (files item)) items ≡ map stamping (map files items)
+stamping_each files [] = refl
+stamping_each files (item ∷ items) = ap (λ (l : List Step). stamping (files item) ∷ l) (stamping_each files items)
+
+last_first : (day : DayFiles) (days : List DayFiles) (past : List Step) → reverse (map stamping (day ∷ days)) ++ past ≡ reverse (map stamping days) ++ (stamping day ∷ past)
+last_first day days past = ap (λ (l : List Step). l ++ past) (reverse-append (stamping day ∷ []) (map stamping days)) ∙ append_assoc (reverse (map stamping days)) (stamping day ∷ []) past
+
+-- Records and report of a day are on the disk, and its stamp, which gets its name or has it.
+pub record Awaits (files : DayFiles) (s r p : List ℕ) (past : List Step) : Type 0 where
+  pub records_are : Leaves past files.records.path (Some r)
+  pub report_is : Leaves past files.report.path (Some p)
+  pub stamp_may : MayHave past files.stamp.path s
+  pub part_is : (now past files.stamp.part ≡ None) ⊎ IsReady files.stamp.part s past
+
+abbrev pub IsThisOrOther : DayFiles → DayFiles → Type 0
+IsThisOrOther files day = (day ≡ files) ⊎ IsOther files day
+
+module _ (files : DayFiles) (are : AreDayNames files) (s r p : List ℕ) where
+  abbrev Q : List Step → Type 0
+  Q = Awaits files s r p
+
+  -- its own
+  own : (past : List Step) → Q past → Q (stamping files ∷ past)
+  own past has =
+      let step = stamping files in
+      let from = files.stamp.part in
+      let to = files.stamp.path in
+      record {
+        records_are = still step past files.records.path (Some r) (not_renamed from to files.records.path (are.apart Records Stamp refl) (are.apart Records StampPart refl)) has.records_are;
+        report_is = still step past files.report.path (Some p) (not_renamed from to files.report.path (are.apart Report Stamp refl) (are.apart Report StampPart refl)) has.report_is;
+        stamp_may = ⊎_elim
+            (λ gone. may_lost past gone has.stamp_may)
+            (λ ready. may_renamed from to past s ready has.stamp_may)
+            has.part_is;
+        part_is = inl (rw (are.apart StampPart Stamp refl, is_self from) refl);
+      }
+    where
+      may_lost : (past : List Step) → now past files.stamp.part ≡ None → MayHave past files.stamp.path s → MayHave (stamping files ∷ past) files.stamp.path s
+      may_lost past gone has after may = ⊎_elim
+          (λ before. has after before)
+          (λ shows. inl (none_shown (stamping files ∷ past) _ after (rw (is_self files.stamp.path) gone) shows))
+          (leaves (stamping files) past files.stamp.path after may)
+
+  -- that of another
+  other : (day : DayFiles) (past : List Step) → IsOther files day → Q past → Q (stamping day ∷ past)
+  other day past apart has =
+      let step = stamping day in
+      let not = λ (name : Name). not_renamed day.stamp.part day.stamp.path (name_path files name) (apart name Stamp) (apart name StampPart) in
+      record {
+        records_are = still step past files.records.path (Some r) (not Records) has.records_are;
+        report_is = still step past files.report.path (Some p) (not Report) has.report_is;
+        stamp_may = may_still step past files.stamp.path s (not Stamp) has.stamp_may;
+        part_is = ⊎_elim (λ gone. inl (untouched step past files.stamp.part (not StampPart) ∙ gone)) (λ ready. inr (ready_still step past files.stamp.part s (not StampPart) ready)) has.part_is;
+      }
+
+  any : (day : DayFiles) (past : List Step) → IsThisOrOther files day → Q past → Q (stamping day ∷ past)
+  any day past which has = ⊎_elim (λ is. subst (λ d. Q (stamping d ∷ past)) (sym is) (own past has)) (λ apart. other day past apart has) which
+
+  pub all_stamped : (days : List DayFiles) (past : List Step) → AllByRecursion (IsThisOrOther files) days → Q past → AtEachMoment Q past (reverse (map stamping days) ++ past)
+  all_stamped [] past every has = done Q past past [] refl has
+  all_stamped (day ∷ days) past every has =
+      let first = any day past every.0 has in
+      let rest = all_stamped days (stamping day ∷ past) every.1 first in
+      subst (λ (l : List Step). AtEachMoment Q past l) (sym (last_first day days past)) (joined Q past (stamping day ∷ past) _ (done Q past (stamping day ∷ past) (stamping day ∷ []) refl (has, first)) rest)
+
+-- what holds as long as something else does
+follows : (P Q : List Step → Type 0) → ((past : List Step) → P past → Q past) → (old new : List Step) → AtEachMoment P old new → AtEachMoment Q old new
+follows P Q so old new each = record { made = each.made; since = each.since; holds = go each.made each.holds }
+  where
+    go : (made : List Step) → Throughout P old made → Throughout Q old made
+    go [] holds = so old holds
+    go (step ∷ made) holds = (go made holds.0, so (step ∷ made ++ old) holds.1)
+
+-- what holds at each moment of some steps holds after each of them
+throughout : (P : List Step → Type 0) (old made : List Step) → AtEachMoment P old (made ++ old) → Throughout P old made
+throughout P old made each = subst (λ (l : List Step). Throughout P old l) (append_cancel_right each.made made old (sym each.since)) each.holds
+
+stored_first : (out reports : Path) (days : List DayFiles) (old : List Step)
+    → reverse (FolderStored out ∷ FolderStored reports ∷ map stamping days) ++ old ≡ reverse (map stamping days) ++ (FolderStored reports ∷ FolderStored out ∷ old)
+stored_first out reports days old = ap (λ (l : List Step). l ++ old) (reverse-append (FolderStored out ∷ FolderStored reports ∷ []) (map stamping days))
+    ∙ append_assoc (reverse (map stamping days)) (FolderStored reports ∷ FolderStored out ∷ []) old
+
+-- a name stays while others get theirs
+unmoved : (files : DayFiles) (name : Name) (days : List DayFiles) (past : List Step) → AreOthers files days
+    → now (reverse (map stamping days) ++ past) (name_path files name) ≡ now past (name_path files name)
+unmoved files name [] past others = refl
+unmoved files name (day ∷ days) past others =
+    ap (λ (l : List Step). now l (name_path files name)) (last_first day days past)
+    ∙ (unmoved files name days (stamping day ∷ past) others.1
+    ∙ untouched (stamping day) past (name_path files name) (not_renamed day.stamp.part day.stamp.path (name_path files name) (others.0 name Stamp) (others.0 name StampPart)))
+
+moved : (from to : Path) (past : List Step) → now (Renamed from to ∷ past) to ≡ now past from
+moved from to past = rw (is_self to) refl
+
+-- what comes before and after one of them
+parted : (before : List DayFiles) (files : DayFiles) (after : List DayFiles) (past : List Step)
+    → reverse (map stamping (before ++ files ∷ after)) ++ past ≡ reverse (map stamping after) ++ (stamping files ∷ (reverse (map stamping before) ++ past))
+parted before files after past =
+    ap (λ (l : List Step). reverse l ++ past) (map-append stamping before (files ∷ after))
+    ∙ (ap (λ (l : List Step). l ++ past) (reverse-append (map stamping before) (map stamping (files ∷ after)))
+    ∙ (append_assoc (reverse (map stamping (files ∷ after))) (reverse (map stamping before)) past
+    ∙ last_first files after (reverse (map stamping before) ++ past)))
+
+-- a stamp that is ready is seen then
+pub stamped : (files : DayFiles) (out reports : Path) (s : List ℕ) (days : List DayFiles) (old : List Step) → IsOneOf files days → IsReady files.stamp.part s old
+    → seen (reverse (FolderStored out ∷ FolderStored reports ∷ map stamping days) ++ old) files.stamp.path ≡ Some s
+stamped files out reports s days old one ready =
+    let past : List Step = FolderStored reports ∷ FolderStored out ∷ old in
+    let mid : List Step = reverse (map stamping one.before) ++ past in
+    let so : reverse (FolderStored out ∷ FolderStored reports ∷ map stamping days) ++ old ≡ reverse (map stamping one.after) ++ (stamping files ∷ mid) =
+    stored_first out reports days old ∙ (ap (λ (l : List DayFiles). reverse (map stamping l) ++ past) one.are ∙ parted one.before files one.after past) in
+    let leads : now (reverse (map stamping one.after) ++ (stamping files ∷ mid)) files.stamp.path ≡ now old files.stamp.part =
+    unmoved files Stamp one.after (stamping files ∷ mid) one.others_after
+    ∙ (moved files.stamp.part files.stamp.path mid ∙ unmoved files StampPart one.before past one.others_before) in
+    ap (λ (l : List Step). seen l files.stamp.path) so
+    ∙ (ap (λ found. option_map (λ file. file.bytes) found) (leads ∙ ready.leads) ∙ ap (λ b. Some b) ready.has)
+
+-- it is one of these days, or another
+these : (files : DayFiles) (before after : List DayFiles) → AreOthers files before → AreOthers files after → AllByRecursion (IsThisOrOther files) (before ++ files ∷ after)
+these files [] after one two = (inl refl, all_others after two)
+  where
+    all_others : (days : List DayFiles) → AreOthers files days → AllByRecursion (IsThisOrOther files) days
+    all_others [] every = tt
+    all_others (day ∷ days) every = (inr every.0, all_others days every.1)
+these files (day ∷ before) after one two = (inr one.0, these files before after one.1 two)
+
+module _ (is_own : (records report : List ℕ) → Bool) (is_of : (stamp records report : List ℕ) → Bool) (files : DayFiles) (are : AreDayNames files) (out reports : Path) (stand : StandInFolders out reports files)
+    (s r p : List ℕ) (whole : is_of s r p ≡ true) where
+  abbrev P : List Step → Type 0
+  P = HasOwn is_own is_of files
+
+  owned : (old : List Step) → IsToBeStamped files s r p old → P old → is_own r p ≡ true
+  owned old awaits has = has.report (Some r) (Some p)
+      (subst (λ x. MayLeave old files.records.path x) (seen_ready old files.records.path r awaits.named.records_are) (leaves_seen old files.records.path))
+      (subst (λ x. MayLeave old files.report.path x) (seen_ready old files.report.path p awaits.named.report_is) (leaves_seen old files.report.path))
+
+  abbrev stored : List Step → List Step
+  stored old = FolderStored reports ∷ FolderStored out ∷ old
+
+  awaiting : (old : List Step) → IsToBeStamped files s r p old → Awaits files s r p (stored old)
+  awaiting old awaits =
+      let l1 = FolderStored out ∷ old in
+      let store = FolderStored reports in
+      record {
+        records_are = still store l1 files.records.path (Some r) refl (ready_settled files.records.path out r old stand.records_in awaits.named.records_are);
+        report_is = ready_settled files.report.path reports p l1 stand.report_in (ready_still (FolderStored out) old files.report.path p refl awaits.named.report_is);
+        stamp_may = may_nothing (store ∷ l1) files.stamp.path s (still store l1 files.stamp.path None refl (still (FolderStored out) old files.stamp.path None refl awaits.named.unstamped));
+        part_is = inr (ready_still store l1 files.stamp.part s refl (ready_still (FolderStored out) old files.stamp.part s refl awaits.stamp_is));
+      }
+
+  pub stamping_all : (days : List DayFiles) (old : List Step) → IsOneOf files days → IsToBeStamped files s r p old → P old
+      → Throughout P old (reverse (FolderStored out ∷ FolderStored reports ∷ map stamping days))
+  stamping_all days old one awaits has =
+      let l1 = FolderStored out ∷ old in
+      let owns = owned old awaits has in
+      let h1 = alone is_own is_of files (FolderStored out) old refl refl refl has in
+      let h2 = alone is_own is_of files (FolderStored reports) l1 refl refl refl h1 in
+      let stores = done P old (stored old) (FolderStored reports ∷ FolderStored out ∷ []) refl ((has, h1), h2) in
+      let each = subst (λ l. AllByRecursion (IsThisOrOther files) l) (sym one.are) (these files one.before one.after one.others_before one.others_after) in
+      let rest = follows (Awaits files s r p) P (λ past waits. has_both is_own is_of files s r p past owns whole waits.stamp_may waits.records_are waits.report_is) (stored old) _
+      (all_stamped files are s r p days (stored old) each (awaiting old awaits)) in
+      throughout P old (reverse (FolderStored out ∷ FolderStored reports ∷ map stamping days))
+      (subst (λ (l : List Step). AtEachMoment P old l) (sym (stored_first out reports days old)) (joined P old (stored old) _ stores rest))

@@ -1,0 +1,10 @@
+use Rattle.msr_tree.proofs.Acting.{goes_as}
+use Rattle.msr_naming.specs.Naming.{told}
+use Rattle.msr_naming.proofs.Promises.{day_keeps, day_killed}
+use Rattle.msr_naming.proofs.naming.name_day.Goals as goal
+
+pub returns-clause-safe : goal.returns-clause-safe
+returns-clause-safe g c = goes_as _ _ _ _ (λ p q performs. day_keeps c.args.files.now (told c.perform.result) p q performs) c.perform.ensures
+
+pub returns-clause-killed : goal.returns-clause-killed
+returns-clause-killed g c = goes_as _ _ _ _ (λ p q performs. day_killed c.args.files.now (told c.perform.result) p q performs) c.perform.ensures

@@ -1,0 +1,4 @@
+pub mod Comes
+pub mod Files
+pub mod Naming
+pub mod Promise

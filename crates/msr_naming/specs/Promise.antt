@@ -1,0 +1,100 @@
+-- What is promised of the files that are made of a day.
+use Rattle.std.specs.Prelude.{◌<◌, ◌≡◌, ℕ, Bool, true, List, ◌∷◌, ◌++◌, Option, None, Some, IfSome, IsSomeAnd, OnOk, IsErrOf, Result}
+use Rattle.std.specs.List.{AllByRecursion}
+use Rattle.msr_tree.specs.Steps.{AtEachMoment, IsReady, Leaves, MayLeave, Path, Step, failures, seen, stands_in}
+use Rattle.msr_tree.specs.declared.tree.TreeFault.{TreeFault}
+use Rattle.msr_tree.specs.declared.tree.TreeFault.TheVariants.{Failed}
+use Rattle.msr_naming.specs.declared.files.DayFiles.{DayFiles}
+use Rattle.msr_naming.specs.Naming.{AreDayNames, IsOther}
+
+-- Whatever the power leaves of a day when it is cut: records beside their own report, or beside none; a stamp beside the
+-- records and the report that it is of.
+pub record HasOwn (is_own : (records report : List ℕ) → Bool) (is_of : (stamp records report : List ℕ) → Bool) (files : DayFiles) (past : List Step) : Type 0 where
+  pub report : (records report : Option (List ℕ)) → MayLeave past files.records.path records → MayLeave past files.report.path report
+      → IfSome records (λ r. IfSome report (λ p. is_own r p ≡ true))
+  pub stamp : (stamp records report : Option (List ℕ)) → MayLeave past files.stamp.path stamp → MayLeave past files.records.path records
+      → MayLeave past files.report.path report → IfSome stamp (λ s. IsSomeAnd records (λ r. IsSomeAnd report (λ p. is_of s r p ≡ true)))
+
+-- What a kill leaves of a day: records beside their own report.
+pub record HasReport (is_own : (records report : List ℕ) → Bool) (files : DayFiles) (past : List Step) : Type 0 where
+  pub report : IfSome (seen past files.records.path) (λ r. IsSomeAnd (seen past files.report.path) (λ p. is_own r p ≡ true))
+
+-- Each crash leaves nothing of the day.
+pub record IsFree (files : DayFiles) (past : List Step) : Type 0 where
+  pub records : Leaves past files.records.path None
+  pub report : Leaves past files.report.path None
+  pub stamp : Leaves past files.stamp.path None
+
+-- The new records and report of a day are on the disk, beside their names.
+pub record AreReady (files : DayFiles) (records report : List ℕ) (past : List Step) : Type 0 where
+  pub records_are : IsReady files.records.part records past
+  pub report_is : IsReady files.report.part report past
+
+-- Some are, and the report is that of the records.
+pub record HaveOwnParts (files : DayFiles) (is_own : (records report : List ℕ) → Bool) (past : List Step) : Type 0 where
+  pub records : List ℕ
+  pub report : List ℕ
+  pub ready : AreReady files records report past
+  pub own : is_own records report ≡ true
+
+-- They have their names, and each crash leaves no stamp.
+pub record AreNamed (files : DayFiles) (records report : List ℕ) (past : List Step) : Type 0 where
+  pub records_are : IsReady files.records.path records past
+  pub report_is : IsReady files.report.path report past
+  pub unstamped : Leaves past files.stamp.path None
+
+-- What was beside the names of a day has them.
+pub record GivesNames (files : DayFiles) (old new : List Step) : Type 0 where
+  pub named : (records report : List ℕ) → AreReady files records report old → AreNamed files records report new
+
+-- some are, and nothing is left of the day
+abbrev pub OverNothing : (files : DayFiles) → (is_own : (records report : List ℕ) → Bool) → List Step → Type 0
+OverNothing files is_own past = HaveOwnParts files is_own past × IsFree files past
+
+-- A day that has its own before a call has it at each moment since, also if the power is cut then; and if the call succeeds,
+-- this is done.
+pub record KeepsOwn (files : DayFiles) (before : (is_own : (records report : List ℕ) → Bool) → List Step → Type 0) (Done : (old new : List Step) → Type 0)
+    (result : Result (Unit {0}) TreeFault) (old new : List Step) : Type 0 where
+  pub safe : (is_own : (records report : List ℕ) → Bool) (is_of : (stamp records report : List ℕ) → Bool)
+      → AreDayNames files → before is_own old → HasOwn is_own is_of files old → AtEachMoment (HasOwn is_own is_of files) old new
+  pub done : OnOk result (AreDayNames files → Done old new)
+
+-- Records that have their report before a call have it at each moment since, if the walk is killed then; and a failure is
+-- told only if a call has failed.
+pub record KeepsIfKilled (files : DayFiles) (before : (is_own : (records report : List ℕ) → Bool) → List Step → Type 0)
+    (result : Result (Unit {0}) TreeFault) (old new : List Step) : Type 0 where
+  pub killed : (is_own : (records report : List ℕ) → Bool) → AreDayNames files → before is_own old → HasReport is_own files old
+      → AtEachMoment (HasReport is_own files) old new
+  pub cause : IsErrOf result Failed → failures old < failures new
+
+-- The stamp of a day is on the disk, beside its name, and the records and the report that it is of have theirs.
+pub record IsToBeStamped (files : DayFiles) (stamp records report : List ℕ) (past : List Step) : Type 0 where
+  pub named : AreNamed files records report past
+  pub stamp_is : IsReady files.stamp.part stamp past
+
+-- the folders of a day's records and report
+pub record StandInFolders (out reports : Path) (files : DayFiles) : Type 0 where
+  pub records_in : stands_in out files.records.path ≡ true
+  pub report_in : stands_in reports files.report.path ≡ true
+
+-- no name of a day is one of these
+abbrev pub AreOthers : (files : DayFiles) (days : List DayFiles) → Type 0
+AreOthers files days = AllByRecursion (λ day. IsOther files day) days
+
+-- A day is one of some, and no name of it is another's.
+pub record IsOneOf (files : DayFiles) (days : List DayFiles) : Type 0 where
+  pub before : List DayFiles
+  pub after : List DayFiles
+  pub are : days ≡ before ++ files ∷ after
+  pub others_before : AreOthers files before
+  pub others_after : AreOthers files after
+
+-- The stamps of days get their names: each of these days that has its own before has it at each moment since.
+pub record NamesStamps (out reports : Path) (days : List DayFiles) (result : Result (Unit {0}) TreeFault) (old new : List Step) : Type 0 where
+  pub safe : (is_own : (records report : List ℕ) → Bool) (is_of : (stamp records report : List ℕ) → Bool)
+      (files : DayFiles) (stamp records report : List ℕ) → AreDayNames files → StandInFolders out reports files → IsOneOf files days
+      → IsToBeStamped files stamp records report old → is_of stamp records report ≡ true
+      → HasOwn is_own is_of files old → AtEachMoment (HasOwn is_own is_of files) old new
+  pub done : OnOk result ((files : DayFiles) (stamp : List ℕ) → AreDayNames files → IsOneOf files days
+      → IsReady files.stamp.part stamp old → seen new files.stamp.path ≡ Some stamp)
+  pub cause : IsErrOf result Failed → failures old < failures new
