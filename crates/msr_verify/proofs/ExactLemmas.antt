@@ -1,9 +1,8 @@
 -- That no day is told otherwise whose files show what they have to.
-use Rattle.std.proofs.Common.{◌≡◌, ◌<◌, ◌⊎◌, ◌||◌, ◌∙◌, inl, inr, ⊎_elim, ℕ, Bool, true, false, List, Option, None, Some, refl, sym, ap, subst, is_some, option_map, Ok, Err}
+use Rattle.std.proofs.Common.{◌≡◌, ◌||◌, ◌∙◌, inl, inr, ⊎_elim, ℕ, Bool, true, false, List, Option, None, Some, refl, sym, ap, subst, is_some, option_map, Ok}
 use Rattle.msr_compare.proofs.SameInputs.{exact, no_fault}
-use Rattle.msr_compare.specs.Answers.{DifferFirst, HaveSameSegments}
+use Rattle.msr_compare.specs.Answers.{HaveSameSegments}
 use Rattle.msr_compare.specs.declared.comparison.Comparison.TheVariants as comparison
-use Rattle.msr_compare.specs.declared.comparison.Difference.{Difference}
 use Rattle.msr_input.specs.declared.fault.Fault.{Fault}
 use Rattle.msr_input.specs.declared.fault.ReadFault.TheVariants as stop
 use Rattle.msr_input.specs.declared.settings.Settings.{Settings}
@@ -12,17 +11,14 @@ use Rattle.msr_report_reader.proofs.OneContent as reader
 use Rattle.msr_report_reader.specs.Content.{Content, content_of}
 use Rattle.msr_report_reader.specs.Reading.{IsReadFrom}
 use Rattle.msr_tool.proofs.RepackedLeast.{shows_same}
-use Rattle.msr_tree.specs.Calls.{AreOneFile}
 use Rattle.msr_tree.specs.Listing.{has_folder, is_there}
-use Rattle.msr_tree.specs.Steps.{File as TreeFile, Path, Step, failures, now, seen}
+use Rattle.msr_tree.specs.Steps.{File as TreeFile, Path, Step, now, seen}
 use Rattle.msr_verdict.specs.Packed.{settings_by}
 use Rattle.msr_verify.specs.Day.{HasDifferentData, IsFileRefused, IsRecordRefused, IsUnshown, IsVerified}
-use Rattle.msr_verify.specs.Exact.{IsCutShort, VerifiedIsExact}
-use Rattle.msr_verify.specs.Files.{AnswerThere, DayPlaces, IsJudgementThere}
+use Rattle.msr_verify.specs.Exact.{VerifiedIsExact}
+use Rattle.msr_verify.specs.Files.{AnswerThere, DayPlaces}
 use Rattle.msr_verify.specs.declared.judging.Finding.TheVariants as finding
-use Rattle.msr_verify.specs.declared.judging.VerifyFault.{VerifyFault}
 use Rattle.msr_verify.specs.declared.judging.VerifyFault.TheVariants.{File, Records, ReportLine, ReportRead, ReportMemory}
-use Rattle.msr_verify.specs.declared.judgement.Judgement.{Judgement}
 use Rattle.msr_verify.specs.declared.judgement.Judgement.TheVariants.{Verified, Missing, NotShown, Differs, Refused, Skipped, Orphan}
 use Rattle.msr_verify.specs.declared.judgement.Refusal.TheVariants.{FileUnopened, RecordsUnopened, ReportUnopened, SameFile, Listing, RecordsListing, Day}
 

@@ -1,8 +1,7 @@
 -- The files of a day are opened, and judged.
-use Rattle.std.proofs.Common.{◌≡◌, ◌<◌, ◌∷◌, arith, ◌⊎◌, inl, inr, ℕ, Bool, true, false, List, Option, Some, refl, sym, ◌∙◌, ap, subst, Result, Ok, Err, IfOk}
-use Rattle.msr_devices.specs.Device.{Device, HasLeft, unused}
+use Rattle.std.proofs.Common.{◌≡◌, ◌<◌, ◌∷◌, arith, inl, inr, ℕ, true, false, List, Some, refl, sym, ◌∙◌, ap, subst, Result, Ok, Err}
+use Rattle.msr_devices.specs.Device.{Device, HasLeft}
 use Rattle.msr_devices.specs.declared.fault.DeviceFault.{DeviceFault}
-use Rattle.msr_devices.specs.declared.fault.DeviceFault.TheVariants as device
 use Rattle.msr_folders.proofs.WalkedLemmas.{goes_so, goes_then}
 use Rattle.msr_tree.proofs.Reading.{look_reads, looks_none, looks_then, reads_none, tells_looks, there_read}
 use Rattle.msr_tree.specs.Calls.{AreOneFile, Goes, Opens, Stops, Tells, TellsOneFile}
@@ -11,7 +10,7 @@ use Rattle.msr_tree.specs.Reads.{OnlyLooks}
 use Rattle.msr_tree.specs.Steps.{Failed, Path, Step, failures, seen}
 use Rattle.msr_tree.specs.declared.tree.TreeFault.TheVariants as fault
 use Rattle.msr_verify.proofs.TellingThere.{judged_there}
-use Rattle.msr_verify.specs.Day.{DayAnswers, VerifiesDay}
+use Rattle.msr_verify.specs.Day.{VerifiesDay}
 use Rattle.msr_verify.specs.Entries.{judgement_of}
 use Rattle.msr_verify.specs.Files.{AnswerThere, DayPlaces, IsJudgementThere, JudgesDay}
 use Rattle.msr_verify.specs.Opening.{AreApart, IsUnjudged, MayHave, OpensDay, OpensFile}

@@ -1,24 +1,23 @@
 -- What is told of an archive that nobody changes.
-use Rattle.std.proofs.Common.{◌≡◌, ◌<◌, ◌≤◌, ◌⊎◌, inl, inr, ⊎_elim, ℕ, List, [], ◌∷◌, ◌++◌, refl, sym, ◌∙◌, ap, subst, append_assoc, arith, option_map, Result}
+use Rattle.std.proofs.Common.{◌≡◌, ◌<◌, inl, inr, ⊎_elim, ℕ, List, ◌++◌, refl, sym, ◌∙◌, ap, subst, append_assoc, arith, option_map, Result}
 use Rattle.msr_devices.specs.Device.{Device, Takes}
 use Rattle.msr_devices.proofs.Chaining.{takes_append}
 use Rattle.msr_folders.proofs.EntryLemmas.{folders_same, for_each_as}
 use Rattle.msr_folders.proofs.ReadingLemmas.{reads_same}
 use Rattle.msr_folders.proofs.VisitLemmas.{these_more}
 use Rattle.msr_folders.proofs.WalkedLemmas.{goes_then}
-use Rattle.msr_folders.specs.Entries.{AreEntriesOf, Entry, ForEach, Visit, WithoutList, unlisted_in}
+use Rattle.msr_folders.specs.Entries.{AreEntriesOf, Entry, Visit, WithoutList, unlisted_in}
 use Rattle.msr_folders.specs.Paths.{joined}
 use Rattle.msr_folders.specs.Visits.{IsWalk}
 use Rattle.msr_folders.specs.Walks.{IsSaidBetween, IsWalked, TellsWalk}
 use Rattle.msr_folders.specs.declared.found.WalkFound.{WalkFound}
 use Rattle.msr_options.specs.declared.task.Verifying.{Verifying}
 use Rattle.msr_tree.proofs.Reading.{failures_read, now_read, reads_then, there_read}
-use Rattle.msr_tree.specs.Calls.{AreOneFile, Goes}
-use Rattle.msr_tree.specs.Listing.{is_there, unlisted_after}
+use Rattle.msr_tree.specs.Listing.{unlisted_after}
 use Rattle.msr_tree.specs.Reads.{OnlyReads}
-use Rattle.msr_tree.specs.Steps.{Path, Step, failures, now, seen}
+use Rattle.msr_tree.specs.Steps.{Path, Step, failures, seen}
 use Rattle.msr_verify.specs.Entries.{IsJudgedEntry, IsJudgedEntryLine, IsVerifyTally, JudgedEntry}
-use Rattle.msr_verify.specs.Files.{AnswerThere, DayPlaces, IsArchiveVerified, IsJudgementThere, IsToldOfOut, IsToldOfRecord, IsToldOfRoot, day_places}
+use Rattle.msr_verify.specs.Files.{AnswerThere, DayPlaces, IsArchiveVerified, IsJudgementThere, IsToldOfOut, IsToldOfRoot, day_places}
 use Rattle.msr_verify.specs.Walk.{TellsArchive, TellsEntries, TellsVerified, VerifiesTree, judged_summary}
 use Rattle.msr_verify.specs.declared.judging.Finding.{Finding}
 use Rattle.msr_verify.specs.declared.judging.VerifyFault.{VerifyFault}

@@ -1,5 +1,5 @@
 -- What a visit tells, put together from what was done.
-use Rattle.std.proofs.Common.{◌≡◌, ◌<◌, ◌↔◌, inl, inr, ⊎_elim, ℕ, true, false, List, [], ◌∷◌, refl, sym, ◌∙◌, ap, subst, Result, Ok, Err, IsErrOf}
+use Rattle.std.proofs.Common.{◌≡◌, ◌↔◌, inl, inr, ℕ, true, false, List, [], ◌∷◌, refl, Result, Ok, Err}
 use Rattle.msr_devices.specs.Device.{Device}
 use Rattle.msr_folders.proofs.VisitLemmas.{these_none}
 use Rattle.msr_folders.proofs.WalkedLemmas.{goes_none, goes_so}
@@ -10,9 +10,8 @@ use Rattle.msr_folders.specs.Walks.{TellsVisit, VisitDoes}
 use Rattle.msr_sds.specs.SdsPath.{HasDate, IsWaveform, ReadsAs, SdsPath}
 use Rattle.msr_sds.specs.declared.SdsFault.{SdsFault}
 use Rattle.msr_sds.specs.declared.SdsFault.TheVariants.{BadDay, NotSds, NotWaveform}
-use Rattle.msr_tree.proofs.Reading.{look_lists_none, look_reads, looks_none, reads_none}
+use Rattle.msr_tree.proofs.Reading.{look_lists_none, look_reads, looks_none}
 use Rattle.msr_tree.specs.Calls.{Goes}
-use Rattle.msr_tree.specs.Listing.{is_there}
 use Rattle.msr_tree.specs.Reads.{OnlyLooks, OnlyReads}
 use Rattle.msr_tree.specs.Steps.{Path, Step}
 use Rattle.msr_tree.specs.declared.kind.FileKind.{FileKind}

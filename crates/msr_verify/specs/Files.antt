@@ -2,7 +2,7 @@
 use Rattle.std.specs.Prelude.{◌≡◌, ◌<◌, ◌⊎◌, ℕ, true, false, List, [], ◌∷◌, ◌++◌, Some, Result, Ok, Err, codes, IfOk}
 use Rattle.std.specs.Borrow.{Bor}
 use Rattle.msr_devices.specs.declared.fault.DeviceFault.{DeviceFault}
-use Rattle.msr_tree.specs.Calls.{AreOneFile, Opens}
+use Rattle.msr_tree.specs.Calls.{AreOneFile}
 use Rattle.msr_tree.specs.Listing.{is_there, unlisted_after}
 use Rattle.msr_tree.specs.Reads.{OnlyLooks, OnlyReads}
 use Rattle.msr_tree.specs.Steps.{Path, Step, failures, seen}

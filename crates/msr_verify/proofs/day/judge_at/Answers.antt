@@ -1,6 +1,4 @@
 use Rattle.std.proofs.lemmas.Result.{err_from_is_err_and}
-use Rattle.msr_devices.specs.declared.fault.DeviceFault.{DeviceFault}
-use Rattle.msr_verify.specs.Files.{DayPlaces}
 use Rattle.msr_verify.specs.Opening.{places_at}
 use Rattle.msr_verify.proofs.OpeningLemmas.{judged_later, may_have_none, records_missing, report_missing}
 use Rattle.msr_verify.proofs.day.judge_at.Goals as goal

@@ -4,7 +4,7 @@ use Rattle.msr_verify.specs.Opening.{places_at}
 use Rattle.msr_verify.specs.declared.judging.Finding.{Finding}
 use Rattle.msr_verify.specs.declared.judging.Finding.TheVariants.{Verified, NotShown, Differs}
 use Rattle.msr_verify.specs.declared.judging.VerifyFault.{VerifyFault}
-use Rattle.msr_verify.proofs.OpeningLemmas.{memory_unjudged, opened_judged, refused_judged}
+use Rattle.msr_verify.proofs.OpeningLemmas.{opened_judged}
 use Rattle.msr_verify.proofs.day.judge_files.Goals as goal
 
 -- what is told of a day with an answer says that some files have it

@@ -1,4 +1,4 @@
-use Rattle.std.proofs.Common.{rules, ◌≡◌, Ok, Err}
+use Rattle.std.proofs.Common.{Ok, Err}
 use Rattle.std.proofs.lemmas.Result.{err_from_is_err_and}
 use Rattle.msr_folders.proofs.WalkedLemmas.{on_ok_as}
 use Rattle.msr_folders.specs.Days.{IsNoDay}
@@ -41,10 +41,11 @@ returns-in-Err-clause-told g c =
     let folders = c.args.self.now.folders in
     let said = c.parse.ensures in
     let is : IsNoDay c.args.path.now c.in-Err.fault = no_day c.args.path.now c.parse.result said.not_sds said.not_waveform said.bad_day c.in-Err.fault c.in-Err.is in
+    let line = c.tell-in-Err.ensures.told (rw c.other_judgement.ensures (other_is c.args.path.now c.args.kind c.in-Err.fault is)) in
     on_ok_as c.tell-in-Err.result (λ told. visited_other folders.root.now folders.out.now folders.reports.now c.args.path.now c.args.kind c.in-Err.fault
     (g.T.Tree.went c.args.tree.now) (g.O.Sink.device c.args.out.now) (g.O.Sink.device c.tell-in-Err.new.out) c.args.tally.now c.tell-in-Err.new.tally
     (λ day. let one = said.only day.0 day.1 in let other = c.in-Err.is in absurd cc) is told)
-    (rw c.other_judgement.ensures at c.tell-in-Err.ensures.told (rw c.other_judgement.ensures (other_is c.args.path.now c.args.kind c.in-Err.fault is)))
+    (rw c.other_judgement.ensures at line)
 
 pub returns-in-Err-clause-stops : goal.returns-in-Err-clause-stops
 returns-in-Err-clause-stops g c =
