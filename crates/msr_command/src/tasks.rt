@@ -15,6 +15,7 @@ use msr_options::{
     Archiving, Checking, Feeding, Folders, ListForm, Listing, Options, Repacking, Task, Verifying,
 };
 use msr_tool::{ToolFault, check_and_tell, feed_and_report, list_segments, repack_and_report};
+use msr_tree::SystemTree;
 use msr_verify::verify;
 use msr_walk::walk;
 use std::alloc::Global;
@@ -312,6 +313,6 @@ fn verify_archive<'a, R: Files, O: Sink>(
 {
     let Folders { root, out, reports } = asked.folders;
     require_apart(rt, alloc, root, out, reports)?;
-    let found = verify(rt, alloc, asked, output)?;
+    let found = verify(&mut SystemTree::new(rt, alloc), alloc, asked, output)?;
     Ok(Done::of_walk(found, None, asked.below.is_empty(), true))
 }

@@ -1,4 +1,7 @@
 pub mod Day
 pub mod Entries
+pub mod Exact
+pub mod Files
 pub mod Laws
+pub mod Opening
 pub mod Walk

@@ -3,12 +3,16 @@ use Rattle.std.specs.Prelude.{ℕ, List, ◌++◌, codes, Result, Ok, Err}
 use Rattle.std.specs.Fmt.{decimal}
 use Rattle.msr_devices.specs.Device.{Device, Takes}
 use Rattle.msr_devices.specs.declared.fault.DeviceFault.{DeviceFault}
-use Rattle.msr_folders.specs.Visits.{IsWalk, IsWalkInPart, StopsTelling, Tells}
+use Rattle.msr_folders.specs.Visits.{IsWalk, IsWalkInPart, StopsTelling, Tells, TellsThese}
 use Rattle.msr_folders.specs.Found.{Finds}
 use Rattle.msr_folders.specs.declared.found.WalkFound.{WalkFound}
+use Rattle.msr_options.specs.declared.task.Verifying.{Verifying}
 use Rattle.msr_tool.specs.declared.fault.ToolFault.{ToolFault}
 use Rattle.msr_tool.specs.declared.fault.ToolFault.TheVariants.{Input, Report, Read, Write, Memory}
 use Rattle.msr_verify.specs.Entries.{IsJudgedEntry, IsJudgedEntryLine, IsVerifyTally, JudgedEntry, is_unverified, is_verified, judged_count, verify_tally_of}
+use Rattle.msr_tree.specs.Calls.{Goes}
+use Rattle.msr_tree.specs.Steps.{Step}
+use Rattle.msr_verify.specs.Files.{IsArchiveVerified}
 use Rattle.msr_verify.specs.declared.tally.VerifyTally.{VerifyTally}
 
 -- the counts at the end of the last line
@@ -32,6 +36,17 @@ judged_summary entries = judged_line (verify_tally_of entries)
 -- some more entries were told: their lines were printed, and they are counted
 abbrev pub TellsJudged : Device → Device → VerifyTally → VerifyTally → Type 0
 TellsJudged out0 out tally0 tally = Tells IsJudgedEntry IsJudgedEntryLine IsVerifyTally out0 out tally0 tally
+
+-- these entries were told
+abbrev pub TellsEntries : List JudgedEntry → Device → Device → VerifyTally → VerifyTally → Type 0
+TellsEntries = TellsThese IsJudgedEntry IsJudgedEntryLine IsVerifyTally
+
+-- The archive was told, and then its records.
+pub record TellsArchive (archive : Verifying) (before after : List Step → Type 0) (out0 out : Device) (tally0 tally : VerifyTally) : Type 0 where
+  pub entries : List JudgedEntry
+  pub orphans : List JudgedEntry
+  pub these : TellsEntries (entries ++ orphans) out0 out tally0 tally
+  pub goes : Goes before after (IsArchiveVerified archive.folders.root.now archive.folders.out.now archive.folders.reports.now archive.below.items entries orphans)
 
 -- that was printed when the walk stopped
 abbrev pub StopsTellingJudged : Device → Device → DeviceFault → Type 0
@@ -57,3 +72,14 @@ pub record Verifies (out0 out : Device) (result : Result WalkFound ToolFault) : 
   pub printed : List ℕ
   pub prints : Takes out0 out printed
   pub ends : VerifyingEnds printed result
+
+-- The whole text was printed: a line for each entry of the archive, in order, then for each day of the records that it does
+-- not have, and then the counts.
+pub record VerifiesTree (archive : Verifying) (before after : List Step → Type 0) (out0 out : Device) (found : WalkFound) : Type 0 where
+  pub entries : List JudgedEntry
+  pub orphans : List JudgedEntry
+  pub printed : List ℕ
+  pub prints : Takes out0 out printed
+  pub text : IsWalk IsJudgedEntry IsJudgedEntryLine judged_summary printed (entries ++ orphans)
+  pub tells : TellsVerified (entries ++ orphans) found
+  pub goes : Goes before after (IsArchiveVerified archive.folders.root.now archive.folders.out.now archive.folders.reports.now archive.below.items entries orphans)

@@ -1,54 +1,162 @@
 //! The three files of a day: which they are, and what they show.
-ghost use Rattle.std.specs.Prelude.{IfOk};
+ghost use Rattle.std.specs.Prelude.{◌≡◌, IfErr, IfOk};
+ghost use Rattle.msr_devices.specs.Device.{CanCountCall};
+ghost use Rattle.msr_devices.specs.declared.fault.DeviceFault.TheVariants.{Memory};
+ghost use Rattle.msr_tree.specs.Calls.{Goes};
 ghost use Rattle.msr_verify.specs.Entries.{IsJudgementOfDay};
+ghost use Rattle.msr_verify.specs.Files.{JudgesDay, day_places};
+ghost use Rattle.msr_verify.specs.Opening.{AreApart, MayHave, OpensDay, OpensFile, RefusesAs, RefusesDay, places_at};
+ghost use Rattle.msr_verify.specs.declared.judgement.Refusal.TheVariants.{SameFile};
 
 use crate::judgement::{Judgement, Refusal, judgement_of};
 use crate::judging::verify_day;
-use msr_devices::FromRead;
-use msr_folders::{Look, ended, is_gone, join, open_regular};
+use msr_devices::{DeviceFault, Source};
+use msr_folders::{ended, join};
 use msr_options::Folders;
-use std::alloc::{AllocError, Global};
-use std::rt::Files;
+use msr_tree::{Tree, TreeFault};
+use std::alloc::Global;
+
+/// Why the files of a day were not judged.
+#[derive(Clone, Copy)]
+pub(crate) enum Unjudged {
+    Refused(Refusal),
+    Memory,
+}
+
+/// Where the files of a day stand.
+#[derive(Clone, Copy)]
+pub(crate) struct Places<'a> {
+    pub(crate) file: &'a str,
+    pub(crate) records: &'a str,
+    pub(crate) report: &'a str,
+}
+
+/// The files of a day.
+#[derive(Drop)]
+pub(crate) struct OpenDay<R: Source> {
+    file: R,
+    records: R,
+    report: R,
+}
 
 /// What the files of the day with this path show.
-pub(crate) fn judge_day<R: Files>(
-    rt: &R,
+pub(crate) fn judge_day<T: Tree>(
+    tree: &mut T,
     alloc: Global,
     folders: Folders<'_>,
     path: &str,
-) -> Result<Judgement, AllocError>
-    ensures { IfOk result IsJudgementOfDay }
+) -> Result<Judgement, DeviceFault>
+    ensures told { IfOk result IsJudgementOfDay }
+    ensures err { IfErr result (λ fault. fault ≡ Memory) }
+    ensures goes { Goes (T.went tree.old) (T.went tree.new)
+        (JudgesDay (day_places folders.entry.root.now folders.entry.out.now folders.entry.reports.now path.now) result) }
 {
     let file = join(alloc, folders.root, path)?;
     let records = join(alloc, folders.out, path)?;
     let report = join(alloc, folders.reports, path)?;
     let report = ended(alloc, report.as_str(), ".txt")?;
-    Ok(judge_at(rt, alloc, file.as_str(), records.as_str(), report.as_str()))
+    let places = Places {
+        file: file.as_str(),
+        records: records.as_str(),
+        report: report.as_str(),
+    };
+    judge_at(tree, alloc, places)
 }
 
-/// What the files with these names show. All are opened before one is read.
-fn judge_at<R: Files>(rt: &R, alloc: Global, file: &str, records: &str, report: &str) -> Judgement
-    ensures { IsJudgementOfDay result }
+/// What the files in these places show.
+fn judge_at<T: Tree>(
+    tree: &mut T,
+    alloc: Global,
+    places: Places<'_>,
+) -> Result<Judgement, DeviceFault>
+    ensures told { IfOk result IsJudgementOfDay }
+    ensures err { IfErr result (λ fault. fault ≡ Memory) }
+    ensures goes { Goes (T.went tree.old) (T.went tree.new) (JudgesDay (places_at places.entry) result) }
 {
-    if is_gone(rt, records) || is_gone(rt, report) {
-        return Judgement::Missing;
+    if !may_have(tree, places.records)? {
+        return Ok(Judgement::Missing);
     }
-    let Ok(text) = open_regular(rt, report) else {
-        return Judgement::Refused(Refusal::ReportUnopened);
-    };
-    let Ok(packed) = open_regular(rt, records) else {
-        return Judgement::Refused(Refusal::RecordsUnopened);
-    };
-    if Look::at(rt, file).may_be(&Look::at(rt, records)) {
-        return Judgement::Refused(Refusal::SameFile);
+    if !may_have(tree, places.report)? {
+        return Ok(Judgement::Missing);
     }
-    let Ok(own) = open_regular(rt, file) else {
-        return Judgement::Refused(Refusal::FileUnopened);
-    };
-    judgement_of(verify_day(
-        alloc,
-        &mut FromRead::new(own),
-        &mut FromRead::new(packed),
-        &mut FromRead::new(text),
-    ))
+    judge_files(tree, alloc, places)
+}
+
+/// What they show, if there are records and a report.
+fn judge_files<T: Tree>(
+    tree: &mut T,
+    alloc: Global,
+    places: Places<'_>,
+) -> Result<Judgement, DeviceFault>
+    ensures told { IfOk result IsJudgementOfDay }
+    ensures err { IfErr result (λ fault. fault ≡ Memory) }
+    ensures goes { Goes (T.went tree.old) (T.went tree.new) (JudgesDay (places_at places.entry) result) }
+{
+    match open_day(tree, places) {
+        Ok(mut day) => Ok(judgement_of(verify_day(
+            alloc,
+            &mut day.file,
+            &mut day.records,
+            &mut day.report,
+        ))),
+        Err(Unjudged::Refused(refusal)) => Ok(Judgement::Refused(refusal)),
+        Err(Unjudged::Memory) => Err(DeviceFault::Memory),
+    }
+}
+
+/// Whether something stands there, as far as the tree tells.
+pub(crate) fn may_have<T: Tree>(tree: &mut T, path: &str) -> Result<bool, DeviceFault>
+    ensures err { IfErr result (λ fault. fault ≡ Memory) }
+    ensures goes { Goes (T.went tree.old) (T.went tree.new) (MayHave path.now result) }
+{
+    match tree.has(path) {
+        Ok(answer) => Ok(answer),
+        Err(TreeFault::Failed) => Ok(true),
+        Err(TreeFault::Memory) => Err(DeviceFault::Memory),
+    }
+}
+
+/// Opens a file of a day.
+fn open<T: Tree>(tree: &mut T, path: &str, refusal: Refusal) -> Result<T::Reader, Unjudged>
+    ensures count { IfOk result (λ reader. CanCountCall (T.Reader.device reader)) }
+    ensures refuses { IfErr result (RefusesAs refusal) }
+    ensures goes { Goes (T.went tree.old) (T.went tree.new)
+        (OpensFile path.now refusal (λ reader. T.Reader.device reader) result) }
+{
+    match tree.follow(path) {
+        Ok(reader) => Ok(reader),
+        Err(TreeFault::Failed) => Err(Unjudged::Refused(refusal)),
+        Err(TreeFault::Memory) => Err(Unjudged::Memory),
+    }
+}
+
+/// Refuses records that may be the day's own file under another name.
+fn require_apart<T: Tree>(tree: &mut T, file: &str, records: &str) -> Result<(), Unjudged>
+    ensures refuses { IfErr result (RefusesAs SameFile) }
+    ensures goes { Goes (T.went tree.old) (T.went tree.new) (AreApart file.now records.now result) }
+{
+    match tree.is_one(file, records) {
+        Ok(false) => Ok(()),
+        Ok(true) => Err(Unjudged::Refused(Refusal::SameFile)),
+        Err(TreeFault::Failed) => Err(Unjudged::Refused(Refusal::SameFile)),
+        Err(TreeFault::Memory) => Err(Unjudged::Memory),
+    }
+}
+
+/// Opens the files of a day, before one is read.
+fn open_day<T: Tree>(tree: &mut T, places: Places<'_>) -> Result<OpenDay<T::Reader>, Unjudged>
+    ensures count { IfOk result (λ day. CanCountCall (T.Reader.device day.file) × CanCountCall (T.Reader.device day.records)
+        × CanCountCall (T.Reader.device day.report)) }
+    ensures refuses { IfErr result RefusesDay }
+    ensures goes { Goes (T.went tree.old) (T.went tree.new) (OpensDay (places_at places.entry) (λ reader. T.Reader.device reader) result) }
+{
+    let report = open(tree, places.report, Refusal::ReportUnopened)?;
+    let records = open(tree, places.records, Refusal::RecordsUnopened)?;
+    require_apart(tree, places.file, places.records)?;
+    let file = open(tree, places.file, Refusal::FileUnopened)?;
+    Ok(OpenDay {
+        file,
+        records,
+        report,
+    })
 }

@@ -1,189 +1,100 @@
 //! The walk through the folders of an archive, and then through those of its records.
-ghost use Rattle.std.specs.Prelude.{◌↔◌, IfErr, IsErrOf, OnOk};
+ghost use Rattle.std.specs.Prelude.{◌↔◌, IfErr, IfOk, IsErrOf, OnOk};
 ghost use Rattle.msr_devices.specs.Device.{CanCountCall, HasFailed};
-ghost use Rattle.msr_sds.specs.SdsPath.{ReadsAsDay, SdsPath};
-ghost use Rattle.msr_folders.proofs.VisitLemmas.{visitor_laws};
-ghost use Rattle.msr_verify.specs.Entries.{IsJudgedEntry, IsJudgedEntryLine, IsJudgementOf, IsVerifyTally};
-ghost use Rattle.msr_verify.specs.Walk.{StopsTellingJudged, TellsJudged, Verifies};
+ghost use Rattle.msr_folders.specs.Entries.{AreEntriesOf};
+ghost use Rattle.msr_folders.specs.Walks.{TellsWalk};
+ghost use Rattle.msr_tree.specs.Calls.{Goes};
+ghost use Rattle.msr_tree.specs.Reads.{OnlyReads};
+ghost use Rattle.msr_verify.specs.Files.{IsToldOfOut, IsToldOfRoot};
+ghost use Rattle.msr_verify.specs.Walk.{StopsTellingJudged, TellsArchive, TellsEntries, Verifies, VerifiesTree};
 
-use crate::day::judge_day;
-use crate::judgement::{Judgement, Refusal};
 use crate::tally::VerifyTally;
-use msr_devices::{DeviceFault, Sink, write_all};
-use msr_folders::{FolderWalk, Visitor, WalkFound, is_gone, join, visit_folders};
+use crate::visitors::{Judging, Searching};
+use msr_devices::{DeviceFault, Sink};
+use msr_folders::{EntryWalk, WalkFound, visit_entries};
 use msr_options::Verifying;
-use msr_sds::SdsName;
 use msr_tool::ToolFault;
-use msr_tree::FileKind;
+use msr_tree::Tree;
 use std::alloc::Global;
-use std::rt::Files;
 
-/// Which of the folders is walked.
-#[derive(Clone, Copy, PartialEq, Eq)]
-enum Tree {
-    /// That of the archive, each of whose days is judged.
-    Root,
-    /// That of the records, in search of days that the archive does not have.
-    Out,
-}
-
-/// What an entry needs: the system's files, memory, the folders, and which of the two trees is walked.
-#[derive(Drop)]
-struct Verifier<'a, R: Files> {
-    rt: &'a R,
-    alloc: Global,
-    archive: &'a Verifying<'a>,
-    tree: Tree,
-}
-
-/// Prints the line of an entry, and counts it.
-fn tell<R: Files, O: Sink>(
-    verifier: &Verifier<'_, R>,
-    path: &str,
-    judgement: Judgement,
-    out: &mut O,
-    tally: &mut VerifyTally,
-) -> Result<(), DeviceFault>
-    requires { CanCountCall (O.device out.old) }
-    ensures told { IsJudgementOf path.now judgement →
-        OnOk result (TellsJudged (O.device out.old) (O.device out.new) tally.old tally.new) }
-    ensures stops { IsJudgementOf path.now judgement →
-        IfErr result (StopsTellingJudged (O.device out.old) (O.device out.new)) }
-{
-    let line = judgement.line(verifier.alloc, path)?;
-    write_all(out, line.as_bytes())?;
-    tally.add(judgement);
-    Ok(())
-}
-
-/// Tells of a day of the archive what its files show, and of a day of the records whether the archive does not have it.
-fn tell_day<R: Files, O: Sink>(
-    verifier: &Verifier<'_, R>,
-    path: &str,
-    out: &mut O,
-    tally: &mut VerifyTally,
-) -> Result<(), DeviceFault>
-    requires count { CanCountCall (O.device out.old) }
-    ensures told { (name : SdsPath) → ReadsAsDay path.now name →
-        OnOk result (TellsJudged (O.device out.old) (O.device out.new) tally.old tally.new) }
-    ensures stops { (name : SdsPath) → ReadsAsDay path.now name →
-        IfErr result (StopsTellingJudged (O.device out.old) (O.device out.new)) }
-{
-    let folders = verifier.archive.folders;
-    if verifier.tree == Tree::Root {
-        let judgement = judge_day(verifier.rt, verifier.alloc, folders, path)?;
-        return tell(verifier, path, judgement, out, tally);
-    }
-    let file = join(verifier.alloc, folders.root, path)?;
-    if is_gone(verifier.rt, file.as_str()) {
-        return tell(verifier, path, Judgement::Orphan, out, tally);
-    }
-    Ok(())
-}
-
-impl<R: Files> Visitor for Verifier<'_, R> {
-    type Tally = VerifyTally;
-
-    type Folder = ();
-
-    ghost tells = { λ _. TellsJudged };
-
-    ghost stops = { λ _ out0 out _ _. StopsTellingJudged out0 out };
-
-    ghost laws = { visitor_laws (λ _. IsJudgedEntry) (λ _. IsJudgedEntryLine) IsVerifyTally };
-
-    fn enter_folder<O: Sink>(
-        &self,
-        _folder: &str,
-        _levels: u8,
-        _out: &mut O,
-        _tally: &mut VerifyTally,
-    ) -> Result<Option<()>, DeviceFault> {
-        Ok(Some(()))
-    }
-
-    fn leave_folder<O: Sink>(
-        &self,
-        _folder: &str,
-        _levels: u8,
-        _out: &mut O,
-        _tally: &mut VerifyTally,
-    ) -> Result<(), DeviceFault> {
-        Ok(())
-    }
-
-    /// What is no day among the records is not told.
-    fn visit_entry<O: Sink>(
-        &self,
-        _entered: &(),
-        path: &str,
-        kind: FileKind,
-        out: &mut O,
-        tally: &mut VerifyTally,
-    ) -> Result<(), DeviceFault> {
-        let judgement = match SdsName::parse(path) {
-            Ok(_) => return tell_day(self, path, out, tally),
-            Err(_) if self.tree == Tree::Out => return Ok(()),
-            Err(_) if kind == FileKind::Gone => Judgement::Refused(Refusal::FileUnopened),
-            Err(fault) => Judgement::Skipped(fault),
-        };
-        tell(self, path, judgement, out, tally)
-    }
-
-    /// A folder of records that is not there has no list to tell of.
-    fn visit_unlisted<O: Sink>(
-        &self,
-        folder: &str,
-        place: &str,
-        out: &mut O,
-        tally: &mut VerifyTally,
-    ) -> Result<(), DeviceFault> {
-        let path = if folder.is_empty() { "." } else { folder };
-        let refusal = match self.tree {
-            Tree::Root => Refusal::Listing,
-            Tree::Out if is_gone(self.rt, place) => return Ok(()),
-            Tree::Out => Refusal::RecordsListing,
-        };
-        tell(self, path, Judgement::Refused(refusal), out, tally)
-    }
-}
-
-/// Walks one of the two trees.
-fn walk_tree<R: Files, O: Sink>(
-    rt: &R,
+/// Tells of each entry of the archive.
+fn walk_archive<T: Tree, O: Sink>(
+    tree: &mut T,
     alloc: Global,
     archive: &Verifying<'_>,
-    tree: Tree,
     out: &mut O,
     tally: &mut VerifyTally,
 ) -> Result<(), DeviceFault>
     requires { CanCountCall (O.device out.old) }
-    ensures told { OnOk result (TellsJudged (O.device out.old) (O.device out.new) tally.old tally.new) }
+    ensures told { OnOk result (TellsWalk TellsEntries
+        (IsToldOfRoot archive.now.folders.root.now archive.now.folders.out.now archive.now.folders.reports.now) OnlyReads
+        archive.now.folders.root.now (λ past. AreEntriesOf past archive.now.folders.root.now archive.now.below.items)
+        (T.went tree.old) (T.went tree.new) (O.device out.old) (O.device out.new) tally.old tally.new) }
     ensures stops { IfErr result (StopsTellingJudged (O.device out.old) (O.device out.new)) }
+    ensures reads { Goes (T.went tree.old) (T.went tree.new) OnlyReads }
 {
-    let root = match tree {
-        Tree::Root => archive.folders.root,
-        Tree::Out => archive.folders.out,
-    };
-    let walk = FolderWalk {
-        rt,
+    let walk = EntryWalk {
         alloc,
-        root,
+        root: archive.folders.root,
         below: archive.below.as_slice(),
-        visitor: &Verifier {
-            rt,
+        visitor: &Judging {
             alloc,
-            archive,
-            tree,
+            folders: archive.folders,
         },
     };
-    visit_folders(&walk, out, tally)
+    visit_entries(&walk, tree, out, tally)
+}
+
+/// Tells of the days of the records that the archive does not have.
+fn walk_records<T: Tree, O: Sink>(
+    tree: &mut T,
+    alloc: Global,
+    archive: &Verifying<'_>,
+    out: &mut O,
+    tally: &mut VerifyTally,
+) -> Result<(), DeviceFault>
+    requires { CanCountCall (O.device out.old) }
+    ensures told { OnOk result (TellsWalk TellsEntries
+        (IsToldOfOut archive.now.folders.root.now archive.now.folders.out.now) OnlyReads
+        archive.now.folders.out.now (λ past. AreEntriesOf past archive.now.folders.out.now archive.now.below.items)
+        (T.went tree.old) (T.went tree.new) (O.device out.old) (O.device out.new) tally.old tally.new) }
+    ensures stops { IfErr result (StopsTellingJudged (O.device out.old) (O.device out.new)) }
+    ensures reads { Goes (T.went tree.old) (T.went tree.new) OnlyReads }
+{
+    let walk = EntryWalk {
+        alloc,
+        root: archive.folders.out,
+        below: archive.below.as_slice(),
+        visitor: &Searching {
+            alloc,
+            folders: archive.folders,
+        },
+    };
+    visit_entries(&walk, tree, out, tally)
+}
+
+/// Tells of the archive, and then of its records.
+fn walk_both<T: Tree, O: Sink>(
+    tree: &mut T,
+    alloc: Global,
+    archive: &Verifying<'_>,
+    out: &mut O,
+    tally: &mut VerifyTally,
+) -> Result<(), DeviceFault>
+    requires { CanCountCall (O.device out.old) }
+    ensures told { OnOk result (TellsArchive archive.now (T.went tree.old) (T.went tree.new)
+        (O.device out.old) (O.device out.new) tally.old tally.new) }
+    ensures stops { IfErr result (StopsTellingJudged (O.device out.old) (O.device out.new)) }
+    ensures reads { Goes (T.went tree.old) (T.went tree.new) OnlyReads }
+{
+    walk_archive(tree, alloc, archive, out, tally)?;
+    walk_records(tree, alloc, archive, out, tally)
 }
 
 /// Walks the archive, or the folders of it that are asked for, and then the same folders of its records, and tells
 /// whether there is anything but days that are verified and what is skipped, and whether there is a day.
-pub fn verify<R: Files, O: Sink>(
-    rt: &R,
+pub fn verify<T: Tree, O: Sink>(
+    tree: &mut T,
     alloc: Global,
     archive: &Verifying<'_>,
     out: &mut O,
@@ -193,10 +104,16 @@ pub fn verify<R: Files, O: Sink>(
 
     // A failure of the sink is answered as such, and nothing else is.
     ensures write { IsErrOf result ToolFault.Write ↔ HasFailed (O.device out.old) (O.device out.new) }
+
+    // What is told is so of what the names lead to, and of each entry.
+    ensures tree { IfOk result (VerifiesTree archive.now (T.went tree.old) (T.went tree.new)
+        (O.device out.old) (O.device out.new)) }
+
+    // Nothing is changed.
+    ensures reads { Goes (T.went tree.old) (T.went tree.new) OnlyReads }
 {
     let mut tally = VerifyTally::new();
-    walk_tree(rt, alloc, archive, Tree::Root, out, &mut tally)?;
-    walk_tree(rt, alloc, archive, Tree::Out, out, &mut tally)?;
+    walk_both(tree, alloc, archive, out, &mut tally)?;
     tally.write(alloc, out)?;
     Ok(WalkFound::of(tally.unverified, tally.verified))
 }

@@ -1,4 +1,5 @@
 //! Laws of comparing what was repacked.
+ghost use Rattle.msr_verify.specs.Exact.{VerifiedIsExact};
 ghost use Rattle.msr_verify.specs.Laws.{OneOutputHasSameInputs, ReadableIsSame, RepackedComparesAsSame, RepackedIsSame, SameInputsHaveOneOutput};
 
 use msr_compare::same_is_exact;
@@ -25,4 +26,11 @@ pub fn same_inputs_have_one_output()
 {
     repacked_is_same();
     one_output();
+}
+
+/// A day whose files show what they have to is told as verified, and as nothing else, unless a call failed, or a file could
+/// not be read to its end.
+pub fn verified_is_exact()
+    ensures { VerifiedIsExact }
+{
 }

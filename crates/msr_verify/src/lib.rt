@@ -8,7 +8,8 @@ mod judgement;
 mod judging;
 mod laws;
 mod tally;
+mod visitors;
 
 pub use folders::verify;
 pub use judging::{Finding, VerifyFault, verify_day};
-pub use laws::{repacked_is_same, same_inputs_have_one_output};
+pub use laws::{repacked_is_same, same_inputs_have_one_output, verified_is_exact};

@@ -1,9 +1,9 @@
 use Rattle.std.proofs.lemmas.Result.{err_from_is_err_and}
 use Rattle.std.proofs.Common.{refl}
-use Rattle.msr_folders.proofs.VisitLemmas.{part_line, tells_one}
+use Rattle.msr_folders.proofs.VisitLemmas.{part_line, these_one}
 use Rattle.msr_verify.specs.Entries.{IsJudgedEntry, IsJudgedEntryLine, IsVerifyTally, JudgedEntry}
 use Rattle.msr_verify.proofs.EntriesFound.{none_told}
-use Rattle.msr_verify.proofs.folders.tell.Goals as goal
+use Rattle.msr_verify.proofs.visitors.tell.Goals as goal
 
 pub returns-in_err-line-clause-stops : goal.returns-in_err-line-clause-stops
 returns-in_err-line-clause-stops g c =
@@ -24,6 +24,6 @@ returns-in_err-write_all-clause-stops g c =
 pub returns-clause-told : goal.returns-clause-told
 returns-clause-told g c =
     let entry : JudgedEntry = record { path = c.args.path.now; judgement = c.args.judgement } in
-    λ is. tells_one IsJudgedEntry IsJudgedEntryLine IsVerifyTally _ _ _ _ entry c.as_bytes.result.now is
+    λ is. these_one IsJudgedEntry IsJudgedEntryLine IsVerifyTally _ _ _ _ entry c.as_bytes.result.now is
     (rw c.as_bytes.ensures.value c.in_ok-line.ensures) c.in_ok-write_all.ensures.all c.in_ok-write_all.ensures.calm
     (λ before h. c.add.ensures before entry h refl)

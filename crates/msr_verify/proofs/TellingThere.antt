@@ -1,0 +1,150 @@
+-- What is told of an archive that nobody changes.
+use Rattle.std.proofs.Common.{◌≡◌, ◌<◌, inl, inr, ⊎_elim, ℕ, List, ◌++◌, refl, sym, ◌∙◌, ap, subst, append_assoc, arith, option_map, Result}
+use Rattle.msr_devices.specs.Device.{Device, Takes}
+use Rattle.msr_devices.proofs.Chaining.{takes_append}
+use Rattle.msr_folders.proofs.EntryLemmas.{folders_same, for_each_as}
+use Rattle.msr_folders.proofs.ReadingLemmas.{reads_same}
+use Rattle.msr_folders.proofs.VisitLemmas.{these_more}
+use Rattle.msr_folders.proofs.WalkedLemmas.{goes_then}
+use Rattle.msr_folders.specs.Entries.{AreEntriesOf, Entry, Visit, WithoutList, unlisted_in}
+use Rattle.msr_folders.specs.Paths.{joined}
+use Rattle.msr_folders.specs.Visits.{IsWalk}
+use Rattle.msr_folders.specs.Walks.{IsSaidBetween, IsWalked, TellsWalk}
+use Rattle.msr_folders.specs.declared.found.WalkFound.{WalkFound}
+use Rattle.msr_options.specs.declared.task.Verifying.{Verifying}
+use Rattle.msr_tree.proofs.Reading.{failures_read, now_read, reads_then, there_read}
+use Rattle.msr_tree.specs.Listing.{unlisted_after}
+use Rattle.msr_tree.specs.Reads.{OnlyReads}
+use Rattle.msr_tree.specs.Steps.{Path, Step, failures, seen}
+use Rattle.msr_verify.specs.Entries.{IsJudgedEntry, IsJudgedEntryLine, IsVerifyTally, JudgedEntry}
+use Rattle.msr_verify.specs.Files.{AnswerThere, DayPlaces, IsArchiveVerified, IsJudgementThere, IsToldOfOut, IsToldOfRoot, day_places}
+use Rattle.msr_verify.specs.Walk.{TellsArchive, TellsEntries, TellsVerified, VerifiesTree, judged_summary}
+use Rattle.msr_verify.specs.declared.judging.Finding.{Finding}
+use Rattle.msr_verify.specs.declared.judging.VerifyFault.{VerifyFault}
+use Rattle.msr_verify.specs.declared.judgement.Judgement.{Judgement}
+use Rattle.msr_verify.specs.declared.judgement.Judgement.TheVariants.{Verified, Missing, NotShown, Differs, Refused, Skipped, Orphan}
+use Rattle.msr_verify.specs.declared.judgement.Refusal.TheVariants.{FileUnopened, RecordsUnopened, ReportUnopened, SameFile, Listing, RecordsListing, Day}
+use Rattle.msr_verify.specs.declared.tally.VerifyTally.{VerifyTally}
+
+-- What was said between two moments, seen from an earlier one to a later one.
+module _ (old from to new : List Step) (before : OnlyReads old from) (after : OnlyReads to new) where
+  seen_there : (name : Path) → seen from name ≡ seen old name
+  seen_there name = ap (λ found. option_map (λ file. file.bytes) found) (now_read old from before name)
+
+  answer_there : (places : DayPlaces) (answer : Result Finding VerifyFault) → AnswerThere places from answer → AnswerThere places old answer
+  answer_there places answer there = record {
+    file = there.file;
+    records = there.records;
+    text = there.text;
+    has_file = sym (seen_there places.file) ∙ there.has_file;
+    has_records = sym (seen_there places.records) ∙ there.has_records;
+    has_report = sym (seen_there places.report) ∙ there.has_report;
+    answers = there.answers;
+    apart = λ one. there.apart (one.0, now_read old from before places.file ∙ one.1, now_read old from before places.records ∙ one.2);
+  }
+
+  failed_there : failures from < failures to → failures old < failures new
+  failed_there more =
+      let sooner = failures_read old from before in
+      let later = failures_read to new after in
+      omega arith
+
+  pub judged_there : (places : DayPlaces) (judgement : Judgement) → IsJudgementThere places judgement from to → IsJudgementThere places judgement old new
+  judged_there places Verified is = answer_there places _ is
+  judged_there places NotShown is = answer_there places _ is
+  judged_there places Differs is = answer_there places _ is
+  judged_there places (Refused (Day fault)) is = answer_there places _ is
+  judged_there places Missing is = ⊎_elim
+      (λ none. inl (sym (there_read old from before places.records) ∙ none))
+      (λ none. inr (sym (there_read old from before places.report) ∙ none))
+      is
+  judged_there places (Refused SameFile) is = ⊎_elim
+      (λ one. inl (one.0, sym (now_read old from before places.file) ∙ one.1, sym (now_read old from before places.records) ∙ one.2))
+      (λ failed. inr (failed_there failed))
+      is
+  judged_there places (Refused FileUnopened) is = failed_there is
+  judged_there places (Refused RecordsUnopened) is = failed_there is
+  judged_there places (Refused ReportUnopened) is = failed_there is
+  judged_there places (Refused Listing) is = absurd is
+  judged_there places (Refused RecordsListing) is = absurd is
+  judged_there places (Skipped fault) is = absurd is
+  judged_there places Orphan is = absurd is
+
+  root_there : (root out reports : Path) (visit : Visit) (entries : List JudgedEntry) → IsToldOfRoot root out reports from to visit entries → IsToldOfRoot root out reports old new visit entries
+  root_there root out reports (Entry path kind) entries told = (
+    told.0,
+    told.1,
+    record {
+      day = λ is. judged_there (day_places root out reports path) told.0 (told.2.day is);
+      other = told.2.other;
+    },
+  )
+  root_there root out reports (WithoutList folder) entries told = told
+
+  out_there : (root out : Path) (visit : Visit) (entries : List JudgedEntry) → IsToldOfOut root out from to visit entries → IsToldOfOut root out old new visit entries
+  out_there root out (Entry path kind) entries told = record {
+    orphan = λ is. ⊎_elim
+        (λ one. inl (one.0, sym (there_read old from before (joined root path)) ∙ one.1))
+        (λ none. inr (none.0, ⊎_elim (λ there. inl (sym (there_read old from before (joined root path)) ∙ there)) (λ failed. inr (failed_there failed)) none.1))
+        (told.orphan is);
+    other = told.other;
+  }
+  out_there root out (WithoutList folder) entries told = ⊎_elim
+      (λ one. inl one)
+      (λ none. inr (none.0, sym (there_read old from before (joined out folder)) ∙ none.1))
+      told
+
+-- both walks
+both_told : (archive : Verifying) (visits records : List Visit) (entries orphans : List JudgedEntry) (old mid new : List Step)
+    → IsWalked (IsToldOfRoot archive.folders.root.now archive.folders.out.now archive.folders.reports.now) OnlyReads archive.folders.root.now
+    (λ past. AreEntriesOf past archive.folders.root.now archive.below.items) visits entries old mid
+    → IsWalked (IsToldOfOut archive.folders.root.now archive.folders.out.now) OnlyReads archive.folders.out.now
+    (λ past. AreEntriesOf past archive.folders.out.now archive.below.items) records orphans mid new
+    → IsArchiveVerified archive.folders.root.now archive.folders.out.now archive.folders.reports.now archive.below.items entries orphans old new
+both_told archive visits records entries orphans old mid new one two =
+    let root = archive.folders.root.now in
+    let out = archive.folders.out.now in
+    let reports = archive.folders.reports.now in
+    record {
+      visits = visits;
+      are = one.are;
+      told = for_each_as (IsSaidBetween (IsToldOfRoot root out reports) OnlyReads old mid) (IsToldOfRoot root out reports old new) visits entries
+          (λ visit part said. root_there old said.from said.to new said.before (reads_then said.to mid new said.after two.does) root out reports visit part said.says) one.says;
+      records = records;
+      are_records = folders_same out old mid (reads_same out old mid one.does) archive.below.items records two.are;
+      told_records = for_each_as (IsSaidBetween (IsToldOfOut root out) OnlyReads mid new) (IsToldOfOut root out old new) records orphans
+          (λ visit part said. out_there old said.from said.to new (reads_then old mid said.from one.does said.before) said.after root out visit part said.says) two.says;
+      unlisted = two.unlisted ∙ (ap (λ l. l ++ unlisted_in out records) one.unlisted ∙ append_assoc (unlisted_after old) (unlisted_in root visits) (unlisted_in out records));
+      reads = reads_then old mid new one.does two.does;
+    }
+
+pub archive_told : (archive : Verifying) (before mid after : List Step → Type 0) (out0 out1 out : Device) (tally0 tally1 tally : VerifyTally)
+    → TellsWalk TellsEntries (IsToldOfRoot archive.folders.root.now archive.folders.out.now archive.folders.reports.now) OnlyReads archive.folders.root.now
+    (λ past. AreEntriesOf past archive.folders.root.now archive.below.items) before mid out0 out1 tally0 tally1
+    → TellsWalk TellsEntries (IsToldOfOut archive.folders.root.now archive.folders.out.now) OnlyReads archive.folders.out.now
+    (λ past. AreEntriesOf past archive.folders.out.now archive.below.items) mid after out1 out tally1 tally
+    → TellsArchive archive before after out0 out tally0 tally
+archive_told archive before mid after out0 out1 out tally0 tally1 tally one two = record {
+  entries = one.lines;
+  orphans = two.lines;
+  these = these_more IsJudgedEntry IsJudgedEntryLine IsVerifyTally one.lines two.lines out0 out1 out tally0 tally1 tally one.told two.told;
+  goes = goes_then _ _ _ before mid after (λ old middle new first second. both_told archive one.visits two.visits one.lines two.lines old middle new first second) one.goes two.goes;
+}
+
+-- and what a walk to its end printed
+pub tree_ends : (archive : Verifying) (before after : List Step → Type 0) (out0 out1 out : Device) (tally0 tally : VerifyTally) (found : WalkFound)
+    → (told : TellsArchive archive before after out0 out1 tally0 tally) → Takes out1 out (judged_summary told.these.told.entries)
+    → TellsVerified told.these.told.entries found → VerifiesTree archive before after out0 out found
+tree_ends archive before after out0 out1 out tally0 tally found told prints end =
+    let these = told.these.told in
+    let printed : List ℕ = these.lines ++ judged_summary these.entries in
+    record {
+      entries = told.entries;
+      orphans = told.orphans;
+      printed = printed;
+      prints = takes_append out0 out1 out these.lines (judged_summary these.entries) these.prints prints;
+      text = subst (λ entries. IsWalk IsJudgedEntry IsJudgedEntryLine judged_summary printed entries) told.these.are
+          (record { lines = these.lines; are_entries = these.are_entries; are_lines = these.are_lines; whole = refl });
+      tells = subst (λ entries. TellsVerified entries found) told.these.are end;
+      goes = told.goes;
+    }

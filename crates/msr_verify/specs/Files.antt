@@ -1,0 +1,112 @@
+-- What is told of an archive, by what the names in its folders lead to.
+use Rattle.std.specs.Prelude.{◌≡◌, ◌<◌, ◌⊎◌, ℕ, true, false, List, [], ◌∷◌, ◌++◌, Some, Result, Ok, Err, codes, IfOk}
+use Rattle.std.specs.Borrow.{Bor}
+use Rattle.msr_devices.specs.declared.fault.DeviceFault.{DeviceFault}
+use Rattle.msr_tree.specs.Calls.{AreOneFile}
+use Rattle.msr_tree.specs.Listing.{is_there, unlisted_after}
+use Rattle.msr_tree.specs.Reads.{OnlyLooks, OnlyReads}
+use Rattle.msr_tree.specs.Steps.{Path, Step, failures, seen}
+use Rattle.msr_tree.specs.declared.kind.FileKind.{FileKind}
+use Rattle.msr_tree.specs.declared.kind.FileKind.TheVariants.{Gone}
+use Rattle.msr_sds.specs.declared.SdsFault.{SdsFault}
+use Rattle.msr_folders.specs.Days.{IsNoDay}
+use Rattle.msr_folders.specs.Entries.{AreEntriesOf, Entry, ForEach, Visit, WithoutList, unlisted_in}
+use Rattle.msr_folders.specs.Paths.{ended, joined}
+use Rattle.msr_verify.specs.Day.{DayAnswers}
+use Rattle.msr_verify.specs.Entries.{IsDay, JudgedEntry}
+use Rattle.msr_verify.specs.declared.judging.Finding.{Finding}
+use Rattle.msr_verify.specs.declared.judging.Finding.TheVariants as finding
+use Rattle.msr_verify.specs.declared.judging.VerifyFault.{VerifyFault}
+use Rattle.msr_verify.specs.declared.judgement.Judgement.{Judgement}
+use Rattle.msr_verify.specs.declared.judgement.Judgement.TheVariants.{Verified, Missing, NotShown, Differs, Refused, Skipped, Orphan}
+use Rattle.msr_verify.specs.declared.judgement.Refusal.TheVariants.{FileUnopened, RecordsUnopened, ReportUnopened, SameFile, Listing, RecordsListing, Day}
+
+-- Where the files of a day stand.
+pub record DayPlaces : Type 0 where
+  pub file : Path
+  pub records : Path
+  pub report : Path
+
+abbrev pub day_places : (root out reports path : Path) → DayPlaces
+day_places root out reports path = record {
+  file = joined root path;
+  records = joined out path;
+  report = ended (joined reports path) (codes ".txt");
+}
+
+-- The files of a day have bytes of which this is the answer, and the records are not the day's own file.
+pub record AnswerThere (places : DayPlaces) (past : List Step) (answer : Result Finding VerifyFault) : Type 0 where
+  pub file : List ℕ
+  pub records : List ℕ
+  pub text : List ℕ
+  pub has_file : seen past places.file ≡ Some file
+  pub has_records : seen past places.records ≡ Some records
+  pub has_report : seen past places.report ≡ Some text
+  pub answers : DayAnswers file records text answer
+  pub apart : ¬ (AreOneFile places.file places.records past)
+
+-- What a judgement says of the files of a day. A file that is told as not opened could not be opened: a call failed.
+abbrev pub IsJudgementThere : DayPlaces → Judgement → (old new : List Step) → Type 0
+IsJudgementThere places Verified old new = AnswerThere places old (Ok finding.Verified)
+IsJudgementThere places NotShown old new = AnswerThere places old (Ok finding.NotShown)
+IsJudgementThere places Differs old new = AnswerThere places old (Ok finding.Differs)
+IsJudgementThere places (Refused (Day fault)) old new = AnswerThere places old (Err fault)
+IsJudgementThere places Missing old new = (is_there old places.records ≡ false) ⊎ (is_there old places.report ≡ false)
+IsJudgementThere places (Refused SameFile) old new = AreOneFile places.file places.records old ⊎ (failures old < failures new)
+IsJudgementThere places (Refused FileUnopened) old new = failures old < failures new
+IsJudgementThere places (Refused RecordsUnopened) old new = failures old < failures new
+IsJudgementThere places (Refused ReportUnopened) old new = failures old < failures new
+IsJudgementThere places (Refused Listing) old new = ⊥
+IsJudgementThere places (Refused RecordsListing) old new = ⊥
+IsJudgementThere places (Skipped fault) old new = ⊥
+IsJudgementThere places Orphan old new = ⊥
+
+-- what is answered of a day
+pub record JudgesDay (places : DayPlaces) (result : Result Judgement DeviceFault) (old new : List Step) : Type 0 where
+  pub looks : OnlyLooks old new
+  pub says : IfOk result (λ judgement. IsJudgementThere places judgement old new)
+
+-- what is told of what is no day: that it could not be opened, if it is gone
+abbrev pub other_judgement : FileKind → SdsFault → Judgement
+other_judgement Gone fault = Refused FileUnopened
+other_judgement kind fault = Skipped fault
+
+-- What is told of an entry of the archive: of a day what its files show, of anything else why it is no day.
+pub record IsToldOf (places : DayPlaces) (path : Path) (kind : FileKind) (judgement : Judgement) (old new : List Step) : Type 0 where
+  pub day : IsDay path → IsJudgementThere places judgement old new
+  pub other : (¬ (IsDay path)) → (fault : SdsFault) × IsNoDay path fault × (judgement ≡ other_judgement kind fault)
+
+-- the path of a folder as it is told
+abbrev pub told_folder : Path → Path
+told_folder [] = codes "."
+told_folder (f ∷ folder) = f ∷ folder
+
+-- the one entry that is told of a visit of the archive
+abbrev pub IsToldOfRoot : (root out reports : Path) → (old new : List Step) → Visit → List JudgedEntry → Type 0
+IsToldOfRoot root out reports old new (Entry path kind) entries = (judgement : Judgement)
+    × (entries ≡ record { path = path; judgement = judgement } ∷ []) × IsToldOf (day_places root out reports path) path kind judgement old new
+IsToldOfRoot root out reports old new (WithoutList folder) entries =
+    entries ≡ record { path = told_folder folder; judgement = Refused Listing } ∷ []
+
+-- Of a visit of the records it is told if it is a day that the archive does not have, or a folder that is there.
+pub record IsToldOfRecord (root path : Path) (entries : List JudgedEntry) (old new : List Step) : Type 0 where
+  pub orphan : IsDay path → ((entries ≡ record { path = path; judgement = Orphan } ∷ []) × (is_there old (joined root path) ≡ false))
+      ⊎ ((entries ≡ []) × ((is_there old (joined root path) ≡ true) ⊎ (failures old < failures new)))
+  pub other : (¬ (IsDay path)) → entries ≡ []
+
+abbrev pub IsToldOfOut : (root out : Path) → (old new : List Step) → Visit → List JudgedEntry → Type 0
+IsToldOfOut root out old new (Entry path kind) entries = IsToldOfRecord root path entries old new
+IsToldOfOut root out old new (WithoutList folder) entries =
+    (entries ≡ record { path = told_folder folder; judgement = Refused RecordsListing } ∷ [])
+    ⊎ ((entries ≡ []) × (is_there old (joined out folder) ≡ false))
+
+-- What was told of an archive, and of its records: of each entry, in order. Nothing was changed.
+pub record IsArchiveVerified (root out reports : Path) (below : List (Bor Path)) (entries orphans : List JudgedEntry) (old new : List Step) : Type 0 where
+  pub visits : List Visit
+  pub are : AreEntriesOf old root below visits
+  pub told : ForEach (IsToldOfRoot root out reports old new) visits entries
+  pub records : List Visit
+  pub are_records : AreEntriesOf old out below records
+  pub told_records : ForEach (IsToldOfOut root out old new) records orphans
+  pub unlisted : unlisted_after new ≡ unlisted_after old ++ (unlisted_in root visits ++ unlisted_in out records)
+  pub reads : OnlyReads old new

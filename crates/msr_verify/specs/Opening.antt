@@ -1,0 +1,59 @@
+-- How the files of a day are opened.
+use Rattle.std.specs.Prelude.{◌≡◌, ◌<◌, ◌⊎◌, Bool, true, false, List, Result, Ok, Err, IfOk}
+use Rattle.msr_devices.specs.Device.{Device}
+use Rattle.msr_devices.specs.declared.fault.DeviceFault.{DeviceFault}
+use Rattle.msr_tree.specs.Calls.{AreOneFile, Opens}
+use Rattle.msr_tree.specs.Listing.{is_there}
+use Rattle.msr_tree.specs.Reads.{OnlyLooks}
+use Rattle.msr_tree.specs.Steps.{Path, Step, failures}
+use Rattle.msr_verify.specs.Entries.{IsJudgementOfDay}
+use Rattle.msr_verify.specs.Files.{DayPlaces, IsJudgementThere}
+use Rattle.msr_verify.specs.declared.day.OpenDay.{OpenDay}
+use Rattle.msr_verify.specs.declared.day.Places.{Places}
+use Rattle.msr_verify.specs.declared.day.Unjudged.{Unjudged}
+use Rattle.msr_verify.specs.declared.day.Unjudged.TheVariants as unjudged
+use Rattle.msr_verify.specs.declared.judgement.Judgement.TheVariants.{Refused}
+use Rattle.msr_verify.specs.declared.judgement.Refusal.{Refusal}
+use Rattle.msr_verify.specs.declared.judgement.Refusal.TheVariants.{SameFile}
+
+abbrev pub places_at : Places → DayPlaces
+places_at places = record { file = places.file.now; records = places.records.now; report = places.report.now }
+
+-- whether something stands there, as far as the tree tells
+pub record MayHave (path : Path) (result : Result Bool DeviceFault) (old new : List Step) : Type 0 where
+  pub looks : OnlyLooks old new
+  pub no : IfOk result (λ answer. answer ≡ false → is_there old path ≡ false)
+  pub yes : IfOk result (λ answer. answer ≡ true → (is_there old path ≡ true) ⊎ (failures old < failures new))
+
+-- why a day is not judged
+abbrev pub IsUnjudged : DayPlaces → Unjudged → (old new : List Step) → Type 0
+IsUnjudged places (unjudged.Refused why) old new = OnlyLooks old new × IsJudgementThere places (Refused why) old new
+IsUnjudged places unjudged.Memory old new = OnlyLooks old new
+
+-- the one refusal that there may be
+abbrev pub RefusesAs : Refusal → Unjudged → Type 0
+RefusesAs refusal (unjudged.Refused why) = why ≡ refusal
+RefusesAs refusal unjudged.Memory = Unit {0}
+
+-- a refusal of a day
+abbrev pub RefusesDay : Unjudged → Type 0
+RefusesDay (unjudged.Refused why) = IsJudgementOfDay (Refused why)
+RefusesDay unjudged.Memory = Unit {0}
+
+-- a file is opened, or a call failed
+abbrev pub OpensFile : {R : Type 0} → Path → Refusal → (R → Device) → Result R Unjudged → (old new : List Step) → Type 0
+OpensFile path refusal device (Ok reader) old new = (new ≡ old) × Opens path old (device reader)
+OpensFile path refusal device (Err (unjudged.Refused why)) old new = OnlyLooks old new × (why ≡ refusal) × (failures old < failures new)
+OpensFile path refusal device (Err unjudged.Memory) old new = new ≡ old
+
+-- the records are not the day's own file
+abbrev pub AreApart : (file records : Path) → Result (Unit {0}) Unjudged → (old new : List Step) → Type 0
+AreApart file records (Ok x) old new = (new ≡ old) × (¬ (AreOneFile file records old))
+AreApart file records (Err (unjudged.Refused why)) old new = OnlyLooks old new × (why ≡ SameFile) × (AreOneFile file records old ⊎ (failures old < failures new))
+AreApart file records (Err unjudged.Memory) old new = new ≡ old
+
+-- all files of a day are opened
+abbrev pub OpensDay : {R : Type 0} → DayPlaces → (R → Device) → Result (OpenDay R) Unjudged → (old new : List Step) → Type 0
+OpensDay places device (Ok day) old new = (new ≡ old) × (¬ (AreOneFile places.file places.records old)) × Opens places.file old (device day.file)
+    × Opens places.records old (device day.records) × Opens places.report old (device day.report)
+OpensDay places device (Err why) old new = IsUnjudged places why old new

@@ -1,0 +1,186 @@
+//! What is told of an entry of the archive, and of one of its records.
+ghost use Rattle.std.specs.Prelude.{◌≡◌, ◌∷◌, [], IfErr, OnOk};
+ghost use Rattle.msr_devices.specs.Device.{CanCountCall};
+ghost use Rattle.msr_folders.proofs.ReadingLemmas.{reading_laws};
+ghost use Rattle.msr_sds.specs.declared.SdsFault.{SdsFault};
+ghost use Rattle.msr_tree.specs.Reads.{OnlyReads};
+ghost use Rattle.msr_verify.specs.Entries.{IsJudgedEntry, IsJudgedEntryLine, IsJudgementOf, IsVerifyTally, JudgedEntry};
+ghost use Rattle.msr_verify.specs.Files.{IsToldOfOut, IsToldOfRoot, other_judgement, told_folder};
+ghost use Rattle.msr_verify.specs.Walk.{StopsTellingJudged, TellsEntries};
+
+use crate::day::{judge_day, may_have};
+use crate::judgement::{Judgement, Refusal};
+use crate::tally::VerifyTally;
+use msr_devices::{DeviceFault, Sink, write_all};
+use msr_folders::{EntryVisitor, join};
+use msr_options::Folders;
+use msr_sds::{SdsFault, SdsName};
+use msr_tree::{FileKind, Tree};
+use std::alloc::{AllocError, Global};
+
+/// Prints the line of an entry, and counts it.
+fn tell<O: Sink>(
+    alloc: Global,
+    path: &str,
+    judgement: Judgement,
+    out: &mut O,
+    tally: &mut VerifyTally,
+) -> Result<(), DeviceFault>
+    requires { CanCountCall (O.device out.old) }
+    ensures told { IsJudgementOf path.now judgement → OnOk result (TellsEntries
+        (record { path = path.now; judgement = judgement } ∷ []) (O.device out.old) (O.device out.new) tally.old tally.new) }
+    ensures stops { IsJudgementOf path.now judgement →
+        IfErr result (StopsTellingJudged (O.device out.old) (O.device out.new)) }
+{
+    let line = judgement.line(alloc, path)?;
+    write_all(out, line.as_bytes())?;
+    tally.add(judgement);
+    Ok(())
+}
+
+/// The path of a folder as it is told.
+fn told_folder(folder: &str) -> &str
+    ensures { result.now ≡ told_folder folder.now }
+{
+    if folder.is_empty() { "." } else { folder }
+}
+
+/// What is told of what is no day.
+fn other_judgement(kind: FileKind, fault: SdsFault) -> Judgement
+    ensures { result ≡ other_judgement kind fault }
+{
+    match kind {
+        FileKind::Gone => Judgement::Refused(Refusal::FileUnopened),
+        FileKind::Folder | FileKind::Other => Judgement::Skipped(fault),
+    }
+}
+
+/// Judges each day of the archive.
+#[derive(Clone, Copy)]
+pub(crate) struct Judging<'a> {
+    pub(crate) alloc: Global,
+    pub(crate) folders: Folders<'a>,
+}
+
+impl EntryVisitor for Judging<'_> {
+    type Tally = VerifyTally;
+
+    type Folder = ();
+
+    ghost Line = { JudgedEntry };
+
+    ghost tells = { λ _. TellsEntries };
+
+    ghost stops = { λ _. StopsTellingJudged };
+
+    ghost says = { λ judging. IsToldOfRoot judging.folders.root.now judging.folders.out.now judging.folders.reports.now };
+
+    ghost does = { λ _. OnlyReads };
+
+    ghost spared = { λ judging. judging.folders.root.now };
+
+    ghost laws = { reading_laws IsJudgedEntry IsJudgedEntryLine IsVerifyTally (λ judging. judging.folders.root.now) };
+
+    fn enter_folder(&self, _folder: &str, _levels: u8) -> Result<(), AllocError> {
+        Ok(())
+    }
+
+    fn visit_entry<T: Tree, O: Sink>(
+        &self,
+        tree: &mut T,
+        _entered: &(),
+        path: &str,
+        kind: FileKind,
+        out: &mut O,
+        tally: &mut VerifyTally,
+    ) -> Result<(), DeviceFault> {
+        match SdsName::parse(path) {
+            Ok(_) => {
+                let judgement = judge_day(tree, self.alloc, self.folders, path)?;
+                tell(self.alloc, path, judgement, out, tally)
+            }
+            Err(fault) => tell(self.alloc, path, other_judgement(kind, fault), out, tally),
+        }
+    }
+
+    fn visit_unlisted<T: Tree, O: Sink>(
+        &self,
+        _tree: &mut T,
+        folder: &str,
+        _place: &str,
+        out: &mut O,
+        tally: &mut VerifyTally,
+    ) -> Result<(), DeviceFault> {
+        let refused = Judgement::Refused(Refusal::Listing);
+        tell(self.alloc, told_folder(folder), refused, out, tally)
+    }
+}
+
+/// Searches the records for days that the archive does not have.
+#[derive(Clone, Copy)]
+pub(crate) struct Searching<'a> {
+    pub(crate) alloc: Global,
+    pub(crate) folders: Folders<'a>,
+}
+
+impl EntryVisitor for Searching<'_> {
+    type Tally = VerifyTally;
+
+    type Folder = ();
+
+    ghost Line = { JudgedEntry };
+
+    ghost tells = { λ _. TellsEntries };
+
+    ghost stops = { λ _. StopsTellingJudged };
+
+    ghost says = { λ searching. IsToldOfOut searching.folders.root.now searching.folders.out.now };
+
+    ghost does = { λ _. OnlyReads };
+
+    ghost spared = { λ searching. searching.folders.out.now };
+
+    ghost laws = { reading_laws IsJudgedEntry IsJudgedEntryLine IsVerifyTally (λ searching. searching.folders.out.now) };
+
+    fn enter_folder(&self, _folder: &str, _levels: u8) -> Result<(), AllocError> {
+        Ok(())
+    }
+
+    /// What is no day is not told.
+    fn visit_entry<T: Tree, O: Sink>(
+        &self,
+        tree: &mut T,
+        _entered: &(),
+        path: &str,
+        _kind: FileKind,
+        out: &mut O,
+        tally: &mut VerifyTally,
+    ) -> Result<(), DeviceFault> {
+        match SdsName::parse(path) {
+            Ok(_) => {
+                let file = join(self.alloc, self.folders.root, path)?;
+                if may_have(tree, file.as_str())? {
+                    return Ok(());
+                }
+                tell(self.alloc, path, Judgement::Orphan, out, tally)
+            }
+            Err(_) => Ok(()),
+        }
+    }
+
+    /// A folder that is not there has no list to tell of.
+    fn visit_unlisted<T: Tree, O: Sink>(
+        &self,
+        tree: &mut T,
+        folder: &str,
+        place: &str,
+        out: &mut O,
+        tally: &mut VerifyTally,
+    ) -> Result<(), DeviceFault> {
+        if !may_have(tree, place)? {
+            return Ok(());
+        }
+        let refused = Judgement::Refused(Refusal::RecordsListing);
+        tell(self.alloc, told_folder(folder), refused, out, tally)
+    }
+}
