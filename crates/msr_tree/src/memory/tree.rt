@@ -20,12 +20,11 @@ use crate::tree::{Tree, TreeFault};
 use std::alloc::Global;
 use std::marker::Model;
 
-/// Owner, group, mode and time of the file that was made after so many steps.
+/// What is told of the file that was made after so many steps, but for its bytes.
 #[derive(Clone, Copy)]
 struct Dress {
     made: usize,
-    rights: Rights,
-    time: Time,
+    facts: Facts,
 }
 
 /// What a look tells of a folder.
@@ -49,12 +48,35 @@ const FOLDER: Facts = Facts {
     },
 };
 
+/// What a look tells of a file that was made then and has no bytes.
+fn made_at(moment: u64) -> Facts {
+    let time = Time {
+        seconds: i64::try_from(moment).unwrap_or(i64::MAX),
+        nanoseconds: 0,
+    };
+    Facts {
+        kind: Kind::Regular,
+        device: 0,
+        number: moment,
+        bytes: 0,
+        changed: time,
+        touched: time,
+        rights: Rights {
+            owner: 0,
+            group: 0,
+            mode: 0o644,
+        },
+    }
+}
+
 /// Files in memory.
 #[derive(Drop)]
 pub struct MemoryTree {
     alloc: Global,
     deeds: Vec<Deed>,
     dresses: Vec<Dress>,
+    /// How many steps came before the crash, so that a new file has a number and a time that no older one has.
+    begun: u64,
     failure: Option<Failure>,
 }
 
@@ -75,10 +97,18 @@ impl MemoryTree {
     pub fn new(alloc: Global) -> MemoryTree
         ensures past { result ≡ [] }
     {
+        MemoryTree::begun_at(alloc, 0)
+    }
+
+    /// A tree without files that begins with a crash after so many steps.
+    fn begun_at(alloc: Global, begun: u64) -> MemoryTree
+        ensures past { result ≡ [] }
+    {
         MemoryTree {
             alloc,
             deeds: Vec::new(alloc),
             dresses: Vec::new(alloc),
+            begun,
             failure: None,
         }
     }
@@ -219,9 +249,37 @@ impl MemoryTree {
         ensures err { IfErr result (λ fault. fault ≡ Memory) }
     {
         match left(self.deeds.as_slice(), name, choices) {
-            Some(bytes) => after.with(name, bytes),
+            Some(file) => after.again(name, file.bytes, self.facts_of(file)),
             None => Ok(()),
         }
+    }
+
+    /// A file that is there after a crash, of which the same is told as before.
+    fn again(&mut self, name: &str, bytes: &[u8], facts: Facts) -> Result<(), TreeFault>
+        ensures past { OnOk result (self.new
+            ≡ FolderStored (folder_above name.now) ∷ FileStored name.now ∷ Made name.now bytes.now ∷ self.old) }
+        ensures rest { OnOk result (IsAtRest self.old → IsAtRest self.new) }
+        ensures err { IfErr result (λ fault. fault ≡ Memory) }
+    {
+        let made = self.deeds.len();
+        self.put_on(made, facts)?;
+        self.with(name, bytes)
+    }
+
+    /// Notes what is told of a file.
+    fn put_on(&mut self, made: usize, facts: Facts) -> Result<(), TreeFault>
+        ensures same { self.new ≡ self.old }
+        ensures err { IfErr result (λ fault. fault ≡ Memory) }
+    {
+        match self.dresses.push(Dress { made, facts }) {
+            Ok(()) => Ok(()),
+            Err(_) => Err(TreeFault::Memory),
+        }
+    }
+
+    /// How many steps were done before so many of this tree's, also those before the crash.
+    fn moment(&self, steps: usize) -> u64 {
+        self.begun.saturating_add(steps as u64)
     }
 
     /// The tree after a crash at this moment.
@@ -230,7 +288,8 @@ impl MemoryTree {
         ensures left { IfOk result (λ after. (name : Path) → MayLeave self.now name (seen after name)) }
         ensures err { IfErr result (λ fault. fault ≡ Memory) }
     {
-        let mut after = MemoryTree::new(self.alloc);
+        let begun = self.moment(self.deeds.len());
+        let mut after = MemoryTree::begun_at(self.alloc, begun);
         let mut rest = self.deeds.as_slice();
         while let Some((deed, before)) = rest.split_last() {
             if let Some(name) = deed.target() {
@@ -251,23 +310,14 @@ impl MemoryTree {
             .iter()
             .rev()
             .find(|dress| dress.made == file.made);
-        let time = Time {
-            seconds: i64::try_from(file.made).unwrap_or(i64::MAX),
-            nanoseconds: 0,
-        };
-        let rights = Rights {
-            owner: 0,
-            group: 0,
-            mode: 0o644,
+        let facts = match dress {
+            Some(dress) => dress.facts,
+            None => made_at(self.moment(file.made)),
         };
         Facts {
             kind: Kind::Regular,
-            device: 0,
-            number: file.made as u64,
             bytes: file.bytes.len() as u64,
-            changed: dress.map_or(time, |dress| dress.time),
-            touched: time,
-            rights: dress.map_or(rights, |dress| dress.rights),
+            ..facts
         }
     }
 
@@ -458,14 +508,13 @@ impl Tree for MemoryTree {
         let Some(file) = find(self.deeds.as_slice(), path) else {
             return Err(self.refuse());
         };
-        let dress = Dress {
-            made: file.made,
+        let made = file.made;
+        let before = self.facts_of(file);
+        let dressed = Facts {
+            changed: time.unwrap_or(before.changed),
             rights: facts.rights,
-            time: time.unwrap_or(self.facts_of(file).changed),
+            ..before
         };
-        match self.dresses.push(dress) {
-            Ok(()) => Ok(()),
-            Err(_) => Err(TreeFault::Memory),
-        }
+        self.put_on(made, dressed)
     }
 }
