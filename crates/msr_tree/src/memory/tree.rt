@@ -1,7 +1,7 @@
 //! The tree in memory.
 ghost use Rattle.std.specs.Prelude.{◌≡◌, ◌∷◌, ℕ, List, [], None, string_bytes, option_map, IfErr, IfOk, IsSome, length, MatchOption, MatchResult, OnOk};
-ghost use Rattle.msr_tree.specs.Calls.{DoesStep, Stops};
-ghost use Rattle.msr_tree.specs.Steps.{Failed, FileStored, FolderStored, IsAtRest, Made, MayLeave, Path, folder_above, now, seen};
+ghost use Rattle.msr_tree.specs.Calls.{Copies, DoesStep, RenamesNew, Stops};
+ghost use Rattle.msr_tree.specs.Steps.{Failed, FileStored, FolderStored, IsAtRest, Linked, Made, MayLeave, Path, Renamed, folder_above, now, seen};
 ghost use Rattle.msr_tree.specs.declared.facts.Kind.TheVariants.{Regular};
 ghost use Rattle.msr_tree.specs.declared.tree.TreeFault.TheVariants.{Memory};
 
@@ -339,17 +339,61 @@ impl MemoryTree {
         })
     }
 
-    /// A copy of a file that is cut, if there is the file.
-    fn cut(&self, from: &str, to: &str) -> Result<Option<Deed>, TreeFault>
-        ensures { MatchResult result (λ cut. MatchOption cut (now self.now from.now ≡ None)
-            (λ deed. IsSome (now self.now from.now) × (bytes : List ℕ) × (step_of deed ≡ Made to.now bytes)))
-            (λ fault. fault ≡ Memory) }
+    /// A copy of a file that is cut.
+    fn cut(&self, from: &str, to: &str) -> Result<Deed, TreeFault>
+        ensures { MatchResult result (λ cut. (bytes : List ℕ) × (step_of cut ≡ Made to.now bytes)) (λ fault. fault ≡ Memory) }
     {
-        let Some(bytes) = self.seen(from) else {
-            return Ok(None);
-        };
-        let half = Vec::from_slice(self.alloc, &bytes[..bytes.len() / 2])?;
-        Ok(Some(Deed::Made(self.own(to)?, half)))
+        let to = self.own(to)?;
+        let bytes = self.seen(from).unwrap_or(b"");
+        Ok(Deed::Made(to, Vec::from_slice(self.alloc, &bytes[..bytes.len() / 2])?))
+    }
+
+    fn linked(&self, from: &str, to: &str) -> Result<Deed, TreeFault>
+        ensures { MatchResult result (λ deed. step_of deed ≡ Linked from.now to.now) (λ fault. fault ≡ Memory) }
+    {
+        Ok(Deed::Linked(self.own(from)?, self.own(to)?))
+    }
+
+    fn renamed(&self, from: &str, to: &str) -> Result<Deed, TreeFault>
+        ensures { MatchResult result (λ deed. step_of deed ≡ Renamed from.now to.now) (λ fault. fault ≡ Memory) }
+    {
+        Ok(Deed::Renamed(self.own(from)?, self.own(to)?))
+    }
+
+    /// Gives a file a name that nothing has.
+    fn copy_free(&mut self, from: &str, to: &str) -> Result<(), TreeFault>
+        requires there { IsSome (now self.old from.now) }
+        requires free { now self.old to.now ≡ None }
+        ensures { Copies from.now to.now result self.old self.new }
+    {
+        match self.next_ending() {
+            Some(Ending::Part) => {
+                let cut = self.cut(from, to)?;
+                Err(self.refuse_after(cut))
+            }
+            ending => {
+                let linked = self.linked(from, to)?;
+                self.ends(ending, linked)
+            }
+        }
+    }
+
+    /// Gives a file a name that nothing has in place of its own.
+    fn rename_free(&mut self, from: &str, to: &str) -> Result<bool, TreeFault>
+        requires { now self.old to.now ≡ None }
+        ensures { RenamesNew from.now to.now result self.old self.new }
+    {
+        match self.next_ending() {
+            Some(Ending::Part) => {
+                let linked = self.linked(from, to)?;
+                Err(self.refuse_after(linked))
+            }
+            ending => {
+                let renamed = self.renamed(from, to)?;
+                self.ends(ending, renamed)?;
+                Ok(true)
+            }
+        }
     }
 }
 
@@ -405,20 +449,20 @@ impl Tree for MemoryTree {
     }
 
     fn make(&mut self, path: &str) -> Result<MemoryWriter, TreeFault> {
-        let writer = MemoryWriter::new(self.alloc, self.own(path)?);
-        let made = Deed::Made(self.own(path)?, Vec::new(self.alloc));
         if self.seen(path).is_some() {
             return Err(self.refuse());
         }
+        let own = self.own(path)?;
+        let made = Deed::Made(self.own(path)?, Vec::new(self.alloc));
         self.does(made)?;
-        Ok(writer)
+        Ok(MemoryWriter::new(self.alloc, own))
     }
 
     fn finish(&mut self, path: &str, writer: MemoryWriter) -> Result<(), TreeFault> {
-        let own = self.own(path)?;
         if writer.path.as_str() != path {
             return Err(self.refuse());
         }
+        let own = self.own(path)?;
         self.does(Deed::Made(own, writer.into_bytes()))
     }
 
@@ -431,30 +475,21 @@ impl Tree for MemoryTree {
     }
 
     fn copy(&mut self, from: &str, to: &str) -> Result<(), TreeFault> {
-        let linked = Deed::Linked(self.own(from)?, self.own(to)?);
-        let Some(cut) = self.cut(from, to)? else {
-            return Err(self.refuse());
-        };
-        if self.seen(to).is_some() {
+        if self.seen(from).is_none() || self.seen(to).is_some() {
             return Err(self.refuse());
         }
-        match self.next_ending() {
-            Some(Ending::Part) => Err(self.refuse_after(cut)),
-            ending => self.ends(ending, linked),
-        }
+        self.copy_free(from, to)
     }
 
     fn rename(&mut self, from: &str, to: &str) -> Result<(), TreeFault> {
-        let renamed = Deed::Renamed(self.own(from)?, self.own(to)?);
         if self.seen(from).is_none() {
             return Err(self.refuse());
         }
+        let renamed = self.renamed(from, to)?;
         self.does(renamed)
     }
 
     fn rename_new(&mut self, from: &str, to: &str) -> Result<bool, TreeFault> {
-        let linked = Deed::Linked(self.own(from)?, self.own(to)?);
-        let renamed = Deed::Renamed(self.own(from)?, self.own(to)?);
         if self.seen(from).is_none() {
             return Err(self.refuse());
         }
@@ -462,13 +497,7 @@ impl Tree for MemoryTree {
         if is_taken {
             return Ok(false);
         }
-        match self.next_ending() {
-            Some(Ending::Part) => Err(self.refuse_after(linked)),
-            ending => {
-                self.ends(ending, renamed)?;
-                Ok(true)
-            }
-        }
+        self.rename_free(from, to)
     }
 
     fn remove(&mut self, path: &str) -> Result<(), TreeFault> {
@@ -477,10 +506,10 @@ impl Tree for MemoryTree {
     }
 
     fn store_file(&mut self, path: &str) -> Result<(), TreeFault> {
-        let stored = Deed::FileStored(self.own(path)?);
         if self.seen(path).is_none() {
             return Err(self.refuse());
         }
+        let stored = Deed::FileStored(self.own(path)?);
         self.does(stored)
     }
 
@@ -490,10 +519,10 @@ impl Tree for MemoryTree {
     }
 
     fn make_folders(&mut self, _top: &str, folder: &str) -> Result<bool, TreeFault> {
-        let made = Deed::FolderMade(self.own(folder)?);
         if self.seen(folder).is_some() {
             return Ok(false);
         }
+        let made = Deed::FolderMade(self.own(folder)?);
         self.does(made)?;
         Ok(true)
     }
