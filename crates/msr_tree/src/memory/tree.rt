@@ -69,6 +69,14 @@ fn made_at(moment: u64) -> Facts {
     }
 }
 
+/// Whether a step makes that folder, or one below it.
+fn makes_within(deed: &Deed, path: &str) -> bool {
+    match deed {
+        Deed::FolderMade(folder) => is_within(path, folder.as_str()),
+        _ => false,
+    }
+}
+
 /// Files in memory.
 #[derive(Drop)]
 pub struct MemoryTree {
@@ -323,11 +331,9 @@ impl MemoryTree {
 
     /// Whether a folder was made, or a name below it got a file.
     fn is_folder(&self, path: &str) -> bool {
-        self.deeds.iter().any(|deed| match deed {
-            Deed::FolderMade(folder) => is_within(path, folder.as_str()),
-            _ => deed
-                .target()
-                .is_some_and(|name| name != path && is_within(path, name)),
+        self.deeds.iter().any(|deed| match deed.target() {
+            Some(name) => name != path && is_within(path, name),
+            None => makes_within(deed, path),
         })
     }
 
