@@ -167,7 +167,7 @@ impl<'a, R: Files> SystemTree<'a, R> {
             Ok(()) => Ok(true),
             Err(error) if error.kind() == ErrorKind::AlreadyExists => {
                 let found = self.found(path)?;
-                Ok(found.is_some_and(|facts| facts.kind == Kind::Folder))
+                Ok(matches!(found, Some(facts) if facts.kind == Kind::Folder))
             }
             Err(error) => Err(error),
         }
@@ -280,7 +280,7 @@ impl<'a, R: Files> SystemTree<'a, R> {
             file.set_times(FileTimes::new().set_modified(modified))?;
         }
         let dressed = facts_of(&file.metadata()?);
-        if dressed.rights == rights && time.is_none_or(|time| dressed.changed == time) {
+        if dressed.rights == rights && dressed.changed == time.unwrap_or(dressed.changed) {
             Ok(())
         } else {
             Err(refusal("owner, mode or time cannot be kept"))

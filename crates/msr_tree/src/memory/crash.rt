@@ -61,23 +61,23 @@ fn is_stored(deeds: &[Deed], file: Found<'_>) -> bool
 }
 
 /// What is seen of a file after a crash.
-fn shown<'a>(deeds: &[Deed], file: Found<'a>, choices: &mut Choices) -> Option<&'a [u8]>
-    ensures { ShowsAfter (steps_kept deeds.now) (Some (file_of file.entry)) (option_map (λ bytes. bytes.now) result) }
+fn shown<'a>(deeds: &[Deed], file: Found<'a>, choices: &mut Choices) -> Option<Found<'a>>
+    ensures { ShowsAfter (steps_kept deeds.now) (Some (file_of file.entry)) (option_map (λ left. left.bytes.now) result) }
 {
     if is_stored(deeds, file) {
-        return Some(file.bytes);
+        return Some(file);
     }
     match choices.among(4) {
-        0 => Some(file.bytes),
-        1 => Some(&file.bytes[..file.bytes.len() / 2]),
-        2 => Some(&file.bytes[..0]),
+        0 => Some(file),
+        1 => Some(file.cut(file.bytes.len() / 2)),
+        2 => Some(file.cut(0)),
         _ => None,
     }
 }
 
 /// What is seen under a name after a crash.
-pub(super) fn left<'a>(deeds: &'a [Deed], name: &str, choices: &mut Choices) -> Option<&'a [u8]>
-    ensures { MayLeave (steps_kept deeds.now) name.now (option_map (λ bytes. bytes.now) result) }
+pub(super) fn left<'a>(deeds: &'a [Deed], name: &str, choices: &mut Choices) -> Option<Found<'a>>
+    ensures { MayLeave (steps_kept deeds.now) name.now (option_map (λ left. left.bytes.now) result) }
 {
     let file = lead(deeds, name, choices)?;
     shown(deeds, file, choices)

@@ -12,6 +12,16 @@ pub(crate) struct Found<'a> {
     pub(crate) made: usize,
 }
 
+impl<'a> Found<'a> {
+    /// The file with no more than its first bytes.
+    pub(super) fn cut(self, count: usize) -> Found<'a> {
+        Found {
+            bytes: self.bytes.get(..count).unwrap_or(self.bytes),
+            made: self.made,
+        }
+    }
+}
+
 /// The file that a name leads to after these steps.
 pub(crate) fn find<'a>(deeds: &'a [Deed], name: &str) -> Option<Found<'a>>
     ensures { option_map file_of result ≡ now (steps_kept deeds.now) name.now }

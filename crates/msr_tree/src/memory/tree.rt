@@ -1,7 +1,7 @@
 //! The tree in memory.
 ghost use Rattle.std.specs.Prelude.{◌≡◌, ◌∷◌, ℕ, List, [], None, string_bytes, option_map, IfErr, IfOk, IsSome, length, MatchOption, MatchResult, OnOk};
-ghost use Rattle.msr_tree.specs.Calls.{DoesStep, Stops};
-ghost use Rattle.msr_tree.specs.Steps.{Failed, FileStored, FolderStored, IsAtRest, Made, MayLeave, Path, folder_above, now, seen};
+ghost use Rattle.msr_tree.specs.Calls.{Copies, DoesStep, RenamesNew, Stops};
+ghost use Rattle.msr_tree.specs.Steps.{Failed, FileStored, FolderStored, IsAtRest, Linked, Made, MayLeave, Path, Renamed, folder_above, now, seen};
 ghost use Rattle.msr_tree.specs.declared.facts.Kind.TheVariants.{Regular};
 ghost use Rattle.msr_tree.specs.declared.tree.TreeFault.TheVariants.{Memory};
 
@@ -20,12 +20,11 @@ use crate::tree::{Tree, TreeFault};
 use std::alloc::Global;
 use std::marker::Model;
 
-/// Owner, group, mode and time of the file that was made after so many steps.
+/// What is told of the file that was made after so many steps, but for its bytes.
 #[derive(Clone, Copy)]
 struct Dress {
     made: usize,
-    rights: Rights,
-    time: Time,
+    facts: Facts,
 }
 
 /// What a look tells of a folder.
@@ -49,12 +48,43 @@ const FOLDER: Facts = Facts {
     },
 };
 
+/// What a look tells of a file that was made then and has no bytes.
+fn made_at(moment: u64) -> Facts {
+    let time = Time {
+        seconds: i64::try_from(moment).unwrap_or(i64::MAX),
+        nanoseconds: 0,
+    };
+    Facts {
+        kind: Kind::Regular,
+        device: 0,
+        number: moment,
+        bytes: 0,
+        changed: time,
+        touched: time,
+        rights: Rights {
+            owner: 0,
+            group: 0,
+            mode: 0o644,
+        },
+    }
+}
+
+/// Whether a step makes that folder, or one below it.
+fn makes_within(deed: &Deed, path: &str) -> bool {
+    match deed {
+        Deed::FolderMade(folder) => is_within(path, folder.as_str()),
+        _ => false,
+    }
+}
+
 /// Files in memory.
 #[derive(Drop)]
 pub struct MemoryTree {
     alloc: Global,
     deeds: Vec<Deed>,
     dresses: Vec<Dress>,
+    /// How many steps came before the crash, so that a new file has a number and a time that no older one has.
+    begun: u64,
     failure: Option<Failure>,
 }
 
@@ -75,10 +105,18 @@ impl MemoryTree {
     pub fn new(alloc: Global) -> MemoryTree
         ensures past { result ≡ [] }
     {
+        MemoryTree::begun_at(alloc, 0)
+    }
+
+    /// A tree without files that begins with a crash after so many steps.
+    fn begun_at(alloc: Global, begun: u64) -> MemoryTree
+        ensures past { result ≡ [] }
+    {
         MemoryTree {
             alloc,
             deeds: Vec::new(alloc),
             dresses: Vec::new(alloc),
+            begun,
             failure: None,
         }
     }
@@ -219,9 +257,37 @@ impl MemoryTree {
         ensures err { IfErr result (λ fault. fault ≡ Memory) }
     {
         match left(self.deeds.as_slice(), name, choices) {
-            Some(bytes) => after.with(name, bytes),
+            Some(file) => after.again(name, file.bytes, self.facts_of(file)),
             None => Ok(()),
         }
+    }
+
+    /// A file that is there after a crash, of which the same is told as before.
+    fn again(&mut self, name: &str, bytes: &[u8], facts: Facts) -> Result<(), TreeFault>
+        ensures past { OnOk result (self.new
+            ≡ FolderStored (folder_above name.now) ∷ FileStored name.now ∷ Made name.now bytes.now ∷ self.old) }
+        ensures rest { OnOk result (IsAtRest self.old → IsAtRest self.new) }
+        ensures err { IfErr result (λ fault. fault ≡ Memory) }
+    {
+        let made = self.deeds.len();
+        self.put_on(made, facts)?;
+        self.with(name, bytes)
+    }
+
+    /// Notes what is told of a file.
+    fn put_on(&mut self, made: usize, facts: Facts) -> Result<(), TreeFault>
+        ensures same { self.new ≡ self.old }
+        ensures err { IfErr result (λ fault. fault ≡ Memory) }
+    {
+        match self.dresses.push(Dress { made, facts }) {
+            Ok(()) => Ok(()),
+            Err(_) => Err(TreeFault::Memory),
+        }
+    }
+
+    /// How many steps were done before so many of this tree's, also those before the crash.
+    fn moment(&self, steps: usize) -> u64 {
+        self.begun.saturating_add(steps as u64)
     }
 
     /// The tree after a crash at this moment.
@@ -230,7 +296,8 @@ impl MemoryTree {
         ensures left { IfOk result (λ after. (name : Path) → MayLeave self.now name (seen after name)) }
         ensures err { IfErr result (λ fault. fault ≡ Memory) }
     {
-        let mut after = MemoryTree::new(self.alloc);
+        let begun = self.moment(self.deeds.len());
+        let mut after = MemoryTree::begun_at(self.alloc, begun);
         let mut rest = self.deeds.as_slice();
         while let Some((deed, before)) = rest.split_last() {
             if let Some(name) = deed.target() {
@@ -251,33 +318,22 @@ impl MemoryTree {
             .iter()
             .rev()
             .find(|dress| dress.made == file.made);
-        let time = Time {
-            seconds: i64::try_from(file.made).unwrap_or(i64::MAX),
-            nanoseconds: 0,
-        };
-        let rights = Rights {
-            owner: 0,
-            group: 0,
-            mode: 0o644,
+        let facts = match dress {
+            Some(dress) => dress.facts,
+            None => made_at(self.moment(file.made)),
         };
         Facts {
             kind: Kind::Regular,
-            device: 0,
-            number: file.made as u64,
             bytes: file.bytes.len() as u64,
-            changed: dress.map_or(time, |dress| dress.time),
-            touched: time,
-            rights: dress.map_or(rights, |dress| dress.rights),
+            ..facts
         }
     }
 
     /// Whether a folder was made, or a name below it got a file.
     fn is_folder(&self, path: &str) -> bool {
-        self.deeds.iter().any(|deed| match deed {
-            Deed::FolderMade(folder) => is_within(path, folder.as_str()),
-            _ => deed
-                .target()
-                .is_some_and(|name| name != path && is_within(path, name)),
+        self.deeds.iter().any(|deed| match deed.target() {
+            Some(name) => name != path && is_within(path, name),
+            None => makes_within(deed, path),
         })
     }
 
@@ -289,17 +345,61 @@ impl MemoryTree {
         })
     }
 
-    /// A copy of a file that is cut, if there is the file.
-    fn cut(&self, from: &str, to: &str) -> Result<Option<Deed>, TreeFault>
-        ensures { MatchResult result (λ cut. MatchOption cut (now self.now from.now ≡ None)
-            (λ deed. IsSome (now self.now from.now) × (bytes : List ℕ) × (step_of deed ≡ Made to.now bytes)))
-            (λ fault. fault ≡ Memory) }
+    /// A copy of a file that is cut.
+    fn cut(&self, from: &str, to: &str) -> Result<Deed, TreeFault>
+        ensures { MatchResult result (λ cut. (bytes : List ℕ) × (step_of cut ≡ Made to.now bytes)) (λ fault. fault ≡ Memory) }
     {
-        let Some(bytes) = self.seen(from) else {
-            return Ok(None);
-        };
-        let half = Vec::from_slice(self.alloc, &bytes[..bytes.len() / 2])?;
-        Ok(Some(Deed::Made(self.own(to)?, half)))
+        let to = self.own(to)?;
+        let bytes = self.seen(from).unwrap_or(b"");
+        Ok(Deed::Made(to, Vec::from_slice(self.alloc, &bytes[..bytes.len() / 2])?))
+    }
+
+    fn linked(&self, from: &str, to: &str) -> Result<Deed, TreeFault>
+        ensures { MatchResult result (λ deed. step_of deed ≡ Linked from.now to.now) (λ fault. fault ≡ Memory) }
+    {
+        Ok(Deed::Linked(self.own(from)?, self.own(to)?))
+    }
+
+    fn renamed(&self, from: &str, to: &str) -> Result<Deed, TreeFault>
+        ensures { MatchResult result (λ deed. step_of deed ≡ Renamed from.now to.now) (λ fault. fault ≡ Memory) }
+    {
+        Ok(Deed::Renamed(self.own(from)?, self.own(to)?))
+    }
+
+    /// Gives a file a name that nothing has.
+    fn copy_free(&mut self, from: &str, to: &str) -> Result<(), TreeFault>
+        requires there { IsSome (now self.old from.now) }
+        requires free { now self.old to.now ≡ None }
+        ensures { Copies from.now to.now result self.old self.new }
+    {
+        match self.next_ending() {
+            Some(Ending::Part) => {
+                let cut = self.cut(from, to)?;
+                Err(self.refuse_after(cut))
+            }
+            ending => {
+                let linked = self.linked(from, to)?;
+                self.ends(ending, linked)
+            }
+        }
+    }
+
+    /// Gives a file a name that nothing has in place of its own.
+    fn rename_free(&mut self, from: &str, to: &str) -> Result<bool, TreeFault>
+        requires { now self.old to.now ≡ None }
+        ensures { RenamesNew from.now to.now result self.old self.new }
+    {
+        match self.next_ending() {
+            Some(Ending::Part) => {
+                let linked = self.linked(from, to)?;
+                Err(self.refuse_after(linked))
+            }
+            ending => {
+                let renamed = self.renamed(from, to)?;
+                self.ends(ending, renamed)?;
+                Ok(true)
+            }
+        }
     }
 }
 
@@ -355,20 +455,20 @@ impl Tree for MemoryTree {
     }
 
     fn make(&mut self, path: &str) -> Result<MemoryWriter, TreeFault> {
-        let writer = MemoryWriter::new(self.alloc, self.own(path)?);
-        let made = Deed::Made(self.own(path)?, Vec::new(self.alloc));
         if self.seen(path).is_some() {
             return Err(self.refuse());
         }
+        let own = self.own(path)?;
+        let made = Deed::Made(self.own(path)?, Vec::new(self.alloc));
         self.does(made)?;
-        Ok(writer)
+        Ok(MemoryWriter::new(self.alloc, own))
     }
 
     fn finish(&mut self, path: &str, writer: MemoryWriter) -> Result<(), TreeFault> {
-        let own = self.own(path)?;
         if writer.path.as_str() != path {
             return Err(self.refuse());
         }
+        let own = self.own(path)?;
         self.does(Deed::Made(own, writer.into_bytes()))
     }
 
@@ -381,30 +481,21 @@ impl Tree for MemoryTree {
     }
 
     fn copy(&mut self, from: &str, to: &str) -> Result<(), TreeFault> {
-        let linked = Deed::Linked(self.own(from)?, self.own(to)?);
-        let Some(cut) = self.cut(from, to)? else {
-            return Err(self.refuse());
-        };
-        if self.seen(to).is_some() {
+        if self.seen(from).is_none() || self.seen(to).is_some() {
             return Err(self.refuse());
         }
-        match self.next_ending() {
-            Some(Ending::Part) => Err(self.refuse_after(cut)),
-            ending => self.ends(ending, linked),
-        }
+        self.copy_free(from, to)
     }
 
     fn rename(&mut self, from: &str, to: &str) -> Result<(), TreeFault> {
-        let renamed = Deed::Renamed(self.own(from)?, self.own(to)?);
         if self.seen(from).is_none() {
             return Err(self.refuse());
         }
+        let renamed = self.renamed(from, to)?;
         self.does(renamed)
     }
 
     fn rename_new(&mut self, from: &str, to: &str) -> Result<bool, TreeFault> {
-        let linked = Deed::Linked(self.own(from)?, self.own(to)?);
-        let renamed = Deed::Renamed(self.own(from)?, self.own(to)?);
         if self.seen(from).is_none() {
             return Err(self.refuse());
         }
@@ -412,13 +503,7 @@ impl Tree for MemoryTree {
         if is_taken {
             return Ok(false);
         }
-        match self.next_ending() {
-            Some(Ending::Part) => Err(self.refuse_after(linked)),
-            ending => {
-                self.ends(ending, renamed)?;
-                Ok(true)
-            }
-        }
+        self.rename_free(from, to)
     }
 
     fn remove(&mut self, path: &str) -> Result<(), TreeFault> {
@@ -427,10 +512,10 @@ impl Tree for MemoryTree {
     }
 
     fn store_file(&mut self, path: &str) -> Result<(), TreeFault> {
-        let stored = Deed::FileStored(self.own(path)?);
         if self.seen(path).is_none() {
             return Err(self.refuse());
         }
+        let stored = Deed::FileStored(self.own(path)?);
         self.does(stored)
     }
 
@@ -440,10 +525,10 @@ impl Tree for MemoryTree {
     }
 
     fn make_folders(&mut self, _top: &str, folder: &str) -> Result<bool, TreeFault> {
-        let made = Deed::FolderMade(self.own(folder)?);
         if self.seen(folder).is_some() {
             return Ok(false);
         }
+        let made = Deed::FolderMade(self.own(folder)?);
         self.does(made)?;
         Ok(true)
     }
@@ -458,14 +543,13 @@ impl Tree for MemoryTree {
         let Some(file) = find(self.deeds.as_slice(), path) else {
             return Err(self.refuse());
         };
-        let dress = Dress {
-            made: file.made,
+        let made = file.made;
+        let before = self.facts_of(file);
+        let dressed = Facts {
+            changed: time.unwrap_or(before.changed),
             rights: facts.rights,
-            time: time.unwrap_or(self.facts_of(file).changed),
+            ..before
         };
-        match self.dresses.push(dress) {
-            Ok(()) => Ok(()),
-            Err(_) => Err(TreeFault::Memory),
-        }
+        self.put_on(made, dressed)
     }
 }

@@ -44,7 +44,12 @@ pub(super) fn facts_of(metadata: &Metadata) -> Facts {
 
 /// A time that a file can be given: one from 1970 on.
 pub(super) fn system_time(time: Time) -> Option<SystemTime> {
-    let seconds = Duration::from_secs(u64::try_from(time.seconds).ok()?);
-    let part = Duration::from_nanos(u64::try_from(time.nanoseconds).ok()?);
-    UNIX_EPOCH.checked_add(seconds.checked_add(part)?)
+    let (Ok(seconds), Ok(nanoseconds)) = (
+        u64::try_from(time.seconds),
+        u64::try_from(time.nanoseconds),
+    ) else {
+        return None;
+    };
+    let part = Duration::from_nanos(nanoseconds);
+    UNIX_EPOCH.checked_add(Duration::from_secs(seconds).checked_add(part)?)
 }

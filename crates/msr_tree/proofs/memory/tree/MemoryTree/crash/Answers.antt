@@ -7,7 +7,7 @@ use Rattle.msr_tree.proofs.memory.tree.MemoryTree.crash.Goals as goal
 pub loop-deed-init : goal.loop-deed-init
 loop-deed-init c =
     let is : c.args.self.now ≡ steps_kept c.as_slice-rest.result.now = cc (c.self.view_is, c.as_slice-rest.ensures.value) in
-    let new = c.new-after.ensures.past in
+    let new = c.begun_at-after.ensures.past in
     record {
       rests = subst IsAtRest (sym new) nothing_rests;
       sees = λ name. subst (λ l. Sees c.args.self.now (steps_kept c.as_slice-rest.result.now) l name) (sym new)
