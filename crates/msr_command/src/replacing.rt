@@ -72,7 +72,7 @@ fn done_of_replacing<'a>(
     failed: Option<String>,
     why: Option<io::Error>,
 ) -> Result<Done, TaskFault<'a>>
-    ensures { EndsReplacing asked.now found result }
+    ensures { EndsReplacing asked.now failed found result }
 {
     let found = match found {
         Ok(found) => found,
