@@ -22,9 +22,9 @@ use Rattle.msr_walk.proofs.EntriesTold.{none_told, stops_entries, walk_stops}
 use Rattle.msr_verify.specs.Entries.{IsJudgedEntry, IsJudgedEntryLine}
 use Rattle.msr_verify.specs.Walk.{Verifies, judged_summary}
 use Rattle.msr_verify.proofs.EntriesFound.{none_told as none_found, stops_entries as stops_found, walk_stops as verifying_stops}
-use Rattle.msr_replace.specs.Entries.{IsEntry as IsOutcome, IsEntryLine as IsOutcomeLine}
-use Rattle.msr_replace.specs.Sums.{summary as outcomes_summary}
-use Rattle.msr_replace.specs.Walk.{Replaces, ReplacingEnds, TellsFailed}
+use Rattle.msr_replace.specs.Entries.{IsExchangeEntry, IsExchangeEntryLine}
+use Rattle.msr_replace.specs.Sums.{exchange_summary}
+use Rattle.msr_replace.specs.Walk.{ReplacesDays, ReplacingEnds, TellsFailed}
 use Rattle.msr_command.specs.declared.done.Done.{Done}
 use Rattle.msr_command.specs.declared.done.Done.TheVariants.{Written, Repacked}
 use Rattle.msr_command.specs.declared.task_fault.TaskFault.{TaskFault}
@@ -270,7 +270,7 @@ failed_at undo printed (Some at) path is tells =
     (tells.0, tells.1, (s.0, s.1, s.2, s.3, s.4, s.5 ∙ is))
 
 pub replace_ended : {Z : Type 0} (asked : Replacing) (out0 out : Device) (failed : Option (String Z)) (found : Result WalkFound DeviceFault) (result : Result Done TaskFault) →
-    Replaces asked.undo out0 out failed found → EndsReplacing asked failed found result → ReplacesArchive asked out0 out result
+    ReplacesDays asked.undo out0 out failed found → EndsReplacing asked failed found result → ReplacesArchive asked out0 out result
 replace_ended asked out0 out failed (Ok found) (Ok done) does ends = record {
   printed = does.printed;
   prints = does.prints;
@@ -342,7 +342,7 @@ replace_unstored : (asked : Replacing) (printed : List ℕ) (done : Done) → Re
 replace_unstored asked printed done (inl fails) = absurd fails
 replace_unstored asked printed done (inr ends) =
     let P : List ℕ → Type 0 = λ text.
-    IsWalk IsOutcome IsOutcomeLine (outcomes_summary asked.undo) text ends.walk.0 in
+    IsWalk IsExchangeEntry IsExchangeEntryLine (exchange_summary asked.undo) text ends.walk.0 in
     record { entries = ends.walk.0; rest = []; walk = subst P (sym (append-nil printed)) ends.walk.1 }
 
 pub task_unsettled : (task : Task) (standard out0 out : Device) (done : Done) → Does task standard out0 out (Ok done) →

@@ -13,9 +13,9 @@ use Rattle.msr_tree.proofs.Moments.{at_end, joined}
 use Rattle.msr_verify.specs.declared.judging.Finding.{Finding}
 use Rattle.msr_verify.specs.declared.judging.Finding.TheVariants as finding
 use Rattle.msr_verify.specs.declared.judging.VerifyFault.{VerifyFault}
-use Rattle.msr_replace.specs.Answers.{HaveBytes, HaveInt24, IsFound, IsRefusedFor, IsReplaced, IsShownItself, IsTold, IsVerifiedDay, Means, Replaces, replaced_of}
+use Rattle.msr_replace.specs.Answers.{HaveBytes, HaveInt24, IsFoundDay, IsRefusedFor, IsReplaced, IsShownItself, IsToldDay, IsVerifiedDay, Means, Replaces, replaced_of}
 use Rattle.msr_replace.specs.Restored.{refusal_of}
-use Rattle.msr_replace.specs.Judging.{HaveLengths, IsOpened, Judges, JudgesKinds, JudgesMissing, JudgesSeen, JudgesWhole, LackInt24, ShowsItself, TellsKinds, verified_of}
+use Rattle.msr_replace.specs.Judging.{HaveLengths, IsOpenedDay, JudgesReplaceable, JudgesKinds, JudgesMissing, JudgesSeen, JudgesWhole, LackInt24, ShowsItself, TellsKinds, verified_of}
 use Rattle.msr_replace.specs.Kinds.{LacksInt24}
 use Rattle.msr_replace.specs.Looks.{AreOfNames, AreWhole, AsksYoung, IsSeenDay, RefusesByNames, SortsAs, is_of_names}
 use Rattle.msr_replace.specs.Names.{Names, all, path_at}
@@ -57,7 +57,7 @@ module _ (p r : List Step) (changes : ChangesOnly [] p r) where
       shows = same_seen report (Some text) have.shows;
     }
 
-    pub found_sooner : (answered : Result Finding VerifyFault) → IsFound names report answered r → IsFound names report answered p
+    pub found_sooner : (answered : Result Finding VerifyFault) → IsFoundDay names report answered r → IsFoundDay names report answered p
     found_sooner answered found = record {
       file = found.file;
       records = found.records;
@@ -96,7 +96,7 @@ module _ (p r : List Step) (changes : ChangesOnly [] p r) where
     refused_sooner said.Dress found = tt
     refused_sooner said.AsideDress found = tt
 
-    pub told_sooner : (work : DayWork) (x : DayAnswer) → IsTold work names report x r → IsTold work names report x p
+    pub told_sooner : (work : DayWork) (x : DayAnswer) → IsToldDay work names report x r → IsToldDay work names report x p
     told_sooner work (answer.Replaced before after) is = is
     told_sooner work answer.Same is = record {
       file = is.file;
@@ -114,7 +114,7 @@ module _ (p r : List Step) (changes : ChangesOnly [] p r) where
     told_sooner work answer.Differs is = found_sooner (Ok finding.Differs) is
     told_sooner work (answer.Refused why) is = refused_sooner why is
 
-    pub judges_sooner : (work : DayWork) (x : Judged) (s : List Step) → Judges work names report r s x → Judges work names report p s x
+    pub judges_sooner : (work : DayWork) (x : Judged) (s : List Step) → JudgesReplaceable work names report r s x → JudgesReplaceable work names report p s x
     judges_sooner work (judged.Told x) s is = told_sooner work x is
     judges_sooner work (judged.Verified v) s is = verified_sooner work v.file.bytes v.records.bytes is
 
@@ -141,7 +141,7 @@ module _ (work : DayWork) (names : Names) (report : Path) where
   abbrev Kept : (a b : List ℕ) → List Step → Type 0
   Kept = AreKept names Original Records
 
-  means_of : (x : DayAnswer) (p q : List Step) → IsTold work names report x p → Means work names report x p q
+  means_of : (x : DayAnswer) (p q : List Step) → IsToldDay work names report x p → Means work names report x p q
   means_of (answer.Replaced before after) p q is = absurd is
   means_of answer.Same p q is = inl is
   means_of answer.Young p q is = is
@@ -155,7 +155,7 @@ module _ (work : DayWork) (names : Names) (report : Path) where
   -- nothing is done
   pub told_here : {A : Type 0} (First : (old new : List Step) → A → Type 0) (first : Result A TreeFault) (result : Result DayAnswer TreeFault) (before after : List Step → Type 0)
       → (IsErrOf result fault.Failed → IsErrOf first fault.Failed)
-      → ((p q : List Step) → IfOk first (λ x. First p q x) → IfOk result (λ x. IsTold work names report x p))
+      → ((p q : List Step) → IfOk first (λ x. First p q x) → IfOk result (λ x. IsToldDay work names report x p))
       → Goes before after (Acts [] First first) → Goes before after (R result)
   told_here First first result before after fails tells goes = goes_as _ _ before after (λ p q acts. record {
     changes = changes_more [] (all names) p q (λ n none. tt) acts.changes;
@@ -165,7 +165,7 @@ module _ (work : DayWork) (names : Names) (report : Path) where
     answers = ending result p q (tells p q acts.does);
   }) goes
     where
-      ending : (r : Result DayAnswer TreeFault) (p q : List Step) → IfOk r (λ x. IsTold work names report x p) → IfOk r (λ x. Means work names report x p q)
+      ending : (r : Result DayAnswer TreeFault) (p q : List Step) → IfOk r (λ x. IsToldDay work names report x p) → IfOk r (λ x. Means work names report x p q)
       ending (Ok x) p q is = means_of x p q is
       ending (Err why) p q is = tt
 
@@ -203,7 +203,7 @@ module _ (work : DayWork) (names : Names) (report : Path) where
   pub verified_then : (v : Verified) (end : Result Told TreeFault) (result : Result DayAnswer TreeFault) (before mid after : List Step → Type 0)
       → (IsErrOf result fault.Failed → IsErrOf end fault.Failed)
       → ((p r : List Step) → IfOk end (λ x. Means work names report (replaced_of x v) p r) → IfOk result (λ x. Means work names report x p r))
-      → Goes before mid (Acts [] (Judges work names report) (giving (judged.Verified v))) → Goes mid after (KeepsAll names Original Records Kept end) → Goes before after (R result)
+      → Goes before mid (Acts [] (JudgesReplaceable work names report) (giving (judged.Verified v))) → Goes mid after (KeepsAll names Original Records Kept end) → Goes before after (R result)
   verified_then v end result before mid after fails same first goes = record {
     from = λ new went.
         let later = goes.from new went in
@@ -234,19 +234,12 @@ module _ (work : DayWork) (names : Names) (report : Path) where
       each (Err why) s t P so says = tt
 
   pub verified_stopped : (v : Verified) (why : TreeFault) (before mid after : List Step → Type 0)
-      → Goes before mid (Acts [] (Judges work names report) (giving (judged.Verified v))) → Goes mid after (KeepsAll names Original Records Kept (stopping Told why)) → Goes before after (R (stopping DayAnswer why))
+      → Goes before mid (Acts [] (JudgesReplaceable work names report) (giving (judged.Verified v))) → Goes mid after (KeepsAll names Original Records Kept (stopping Told why)) → Goes before after (R (stopping DayAnswer why))
   verified_stopped v why before mid after first goes =
       verified_then v (stopping Told why) (stopping DayAnswer why) before mid after (λ is. let so : why ≡ fault.Failed = cc in ap (λ w. Err w) so) (λ p r none. tt) first goes
 
 -- What is judged of a day, call by call.
 module _ (work : DayWork) (names : Names) (report : Path) where
-  -- what was seen first
-  pub whole_of : (p : List Step) (looked : Looked) (file records : Facts) → IsSeenDay names report p p looked → AreWhole looked file records → HaveLengths names file records p
-  whole_of p looked file records sees whole =
-      let one : Looks names.day p (Some file) = subst (λ x. Looks names.day p x) whole.file_is sees.file in
-      let two : Looks names.records p (Some records) = subst (λ x. Looks names.records p x) whole.records_are sees.records in
-      record { file_is = one.regular whole.file_kind; records_are = two.regular whole.records_kind }
-
   lengths_sooner : (file records : Facts) (p r : List Step) → ChangesOnly [] p r → HaveLengths names file records p → HaveLengths names file records r
   lengths_sooner file records p r changes have = record {
     file_is = subst (λ at. IsSomeAnd at (λ found. file.bytes ≡ length found.bytes)) (sym (now_kept [] names.day p r tt changes)) have.file_is;
@@ -258,7 +251,7 @@ module _ (work : DayWork) (names : Names) (report : Path) where
   length_of (Some file) bytes n is has = let same : file.bytes ≡ bytes = cc in has ∙ ap length same
 
   -- files that are verified, and what is told of them
-  pub verified_day : (file records : Facts) (p : List Step) → HaveLengths names file records p → IsFound names report (Ok finding.Verified) p → (work.int24 ≡ true) ⊎ LackInt24 names p
+  pub verified_day : (file records : Facts) (p : List Step) → HaveLengths names file records p → IsFoundDay names report (Ok finding.Verified) p → (work.int24 ≡ true) ⊎ LackInt24 names p
       → IsVerifiedDay work names report file.bytes records.bytes p
   verified_day file records p have found kinds = record {
     file = found.file;
@@ -271,11 +264,11 @@ module _ (work : DayWork) (names : Names) (report : Path) where
     after_is = length_of (now p names.records) found.records records.bytes found.bytes.comes have.records_are;
   }
 
-  pub judges_verified : (file records : Facts) (p s : List Step) → IsVerifiedDay work names report file.bytes records.bytes p → Judges work names report p s (verified_of work file records)
+  pub judges_verified : (file records : Facts) (p s : List Step) → IsVerifiedDay work names report file.bytes records.bytes p → JudgesReplaceable work names report p s (verified_of work file records)
   judges_verified file records p s day = by (work.only_smaller) (leb file.bytes records.bytes) refl refl
     where
       by : (asked fits : Bool) → work.only_smaller ≡ asked → leb file.bytes records.bytes ≡ fits
-          → Judges work names report p s (if asked && fits then judged.Told (answer.Larger file.bytes records.bytes) else judged.Verified (record { file = file; records = records; touch = work.touch }))
+          → JudgesReplaceable work names report p s (if asked && fits then judged.Told (answer.Larger file.bytes records.bytes) else judged.Verified (record { file = file; records = records; touch = work.touch }))
       by true true asked fits = (asked, leb-true file.bytes records.bytes fits, day)
       by true false asked fits = day
       by false true asked fits = day
@@ -327,26 +320,21 @@ module _ (work : DayWork) (names : Names) (file records : Facts) where
       (λ p q ch tells report have found. judges_verified work names report file records p q
       (verified_day work names report file records p have found (inr (subst (λ o. TellsKinds names p q o) none tells)))) goes
 
-  pub kinds_refused : (looked : Option DayRefusal) (why : DayRefusal) (one two : List Step → Type 0) → looked ≡ Some why → Goes one two (Acts [] (TellsKinds names) (giving looked))
-      → Goes one two (Acts [] Kinds (giving (judged.Told (answer.Refused why))))
-  kinds_refused looked why one two some goes = told_after (TellsKinds names) Kinds looked (judged.Told (answer.Refused why)) one two
-      (λ p q ch tells report have found. (subst (λ o. TellsKinds names p q o) some tells) report) goes
-
   module _ (report : Path) where
     abbrev Whole : (old new : List Step) → Judged → Type 0
     Whole = JudgesWhole work names report file records
 
-    pub whole_told : (found : Opened) (x : DayAnswer) (one two : List Step → Type 0) → found ≡ opened.Told x → Goes one two (Acts [] (IsOpened work names report) (giving found)) → Goes one two (Acts [] Whole (giving (judged.Told x)))
-    whole_told found x one two is goes = told_after (IsOpened work names report) Whole found (judged.Told x) one two
-        (λ p q ch tells have. subst (λ o. IsOpened work names report p q o) is tells) goes
+    pub whole_told : (found : Opened) (x : DayAnswer) (one two : List Step → Type 0) → found ≡ opened.Told x → Goes one two (Acts [] (IsOpenedDay work names report) (giving found)) → Goes one two (Acts [] Whole (giving (judged.Told x)))
+    whole_told found x one two is goes = told_after (IsOpenedDay work names report) Whole found (judged.Told x) one two
+        (λ p q ch tells have. subst (λ o. IsOpenedDay work names report p q o) is tells) goes
 
     pub whole_verified : (found : Opened) (result : Result Judged TreeFault) (one mid two : List Step → Type 0) → found ≡ opened.Verified
-        → Goes one mid (Acts [] (IsOpened work names report) (giving found)) → Goes mid two (Acts [] Kinds result) → Goes one two (Acts [] Whole result)
-    whole_verified found result one mid two is first goes = told_then (IsOpened work names report) Kinds Whole found result one mid two
+        → Goes one mid (Acts [] (IsOpenedDay work names report) (giving found)) → Goes mid two (Acts [] Kinds result) → Goes one two (Acts [] Whole result)
+    whole_verified found result one mid two is first goes = told_then (IsOpenedDay work names report) Kinds Whole found result one mid two
         (λ p q r x c d tells kinds have. judges_sooner p q c names report work x r
-        (kinds report (lengths_sooner work names report file records p q c have) (found_later p q c (subst (λ o. IsOpened work names report p q o) is tells)))) first goes
+        (kinds report (lengths_sooner work names report file records p q c have) (found_later p q c (subst (λ o. IsOpenedDay work names report p q o) is tells)))) first goes
       where
-        found_later : (p q : List Step) → ChangesOnly [] p q → IsFound names report (Ok finding.Verified) p → IsFound names report (Ok finding.Verified) q
+        found_later : (p q : List Step) → ChangesOnly [] p q → IsFoundDay names report (Ok finding.Verified) p → IsFoundDay names report (Ok finding.Verified) q
         found_later p q changes found = record {
           file = found.file;
           records = found.records;
@@ -367,72 +355,31 @@ module _ (work : DayWork) (names : Names) (file records : Facts) where
     whole_later looked result one mid two first goes = told_then RefusesByNames Whole Whole looked result one mid two
         (λ p q r x c d tells whole have. judges_sooner p q c names report work x r (whole (lengths_sooner work names report file records p q c have))) first goes
 
-no_facts : (looked : Option Facts) → is_some looked ≡ false → looked ≡ None
-no_facts None is = refl
-no_facts (Some facts) is = cc
-
 -- what is judged by what was seen
 module _ (work : DayWork) (names : Names) (report : Path) where
   module _ (looked : Looked) where
     abbrev Seen : (old new : List Step) → Judged → Type 0
     Seen = JudgesSeen work names report looked
 
-    pub seen_missing : (result : Result Judged TreeFault) (one two : List Step → Type 0) → SortsAs looked sorted.Missing → Goes one two (Acts [] (JudgesMissing work names report looked) result) → Goes one two (Acts [] Seen result)
-    seen_missing result one two missing goes = goes_as _ _ one two (λ p q acts. record { changes = acts.changes; cause = acts.cause; does = each result (λ x judges sees. judges sees missing) acts.does }) goes
-      where
-        each : {P Q : Judged → Type 0} (r : Result Judged TreeFault) → ((x : Judged) → P x → Q x) → IfOk r P → IfOk r Q
-        each (Ok x) so does = so x does
-        each (Err why) so does = tt
-
     pub seen_refused : (why : DayRefusal) (one : List Step → Type 0) → is_of_names why ≡ true → Goes one one (Acts [] Seen (giving (judged.Told (answer.Refused why))))
     seen_refused why one names_it = told_now Seen (judged.Told (answer.Refused why)) one (λ p sees. of_names names report why p names_it)
-
-    pub seen_whole : (file records : Facts) (result : Result Judged TreeFault) (one two : List Step → Type 0) → AreWhole looked file records
-        → Goes one two (Acts [] (JudgesWhole work names report file records) result) → Goes one two (Acts [] Seen result)
-    seen_whole file records result one two whole goes = goes_as _ _ one two (λ p q acts. record {
-      changes = acts.changes;
-      cause = acts.cause;
-      does = each result (λ x judges sees. judges (whole_of work names report p looked file records sees whole)) acts.does;
-    }) goes
-      where
-        each : {P Q : Judged → Type 0} (r : Result Judged TreeFault) → ((x : Judged) → P x → Q x) → IfOk r P → IfOk r Q
-        each (Ok x) so does = so x does
-        each (Err why) so does = tt
-
-    -- records or report are not there
-    pub missing_told : (own : Bool) (one two : List Step → Type 0) → Goes one two (Acts [] (ShowsItself names report) (giving own)) → Goes one two (Acts [] (JudgesMissing work names report looked) (giving (judged.Told answer.Missing)))
-    missing_told own one two goes = told_after (ShowsItself names report) (JudgesMissing work names report looked) own (judged.Told answer.Missing) one two (λ p q ch shows sees missing. absent p sees missing) goes
-      where
-        absent : (p : List Step) → IsSeenDay names report p p looked → SortsAs looked sorted.Missing → IsTold work names report answer.Missing p
-        absent p sees missing = ⊎_elim (λ one. inl (subst (λ o. Looks names.records p o) one sees.records)) (λ other. inr (subst (λ o. Looks report p o) other sees.text)) missing
 
     pub missing_now : (one : List Step → Type 0) → Goes one one (Acts [] (JudgesMissing work names report looked) (giving (judged.Told answer.Missing)))
     missing_now one = told_now (JudgesMissing work names report looked) (judged.Told answer.Missing) one
         (λ p sees missing. ⊎_elim (λ one. inl (subst (λ o. Looks names.records p o) one sees.records)) (λ other. inr (subst (λ o. Looks report p o) other sees.text)) missing)
 
-    pub missing_same : (own : Bool) (one two : List Step → Type 0) → is_some looked.records ≡ false → own ≡ true → Goes one two (Acts [] (ShowsItself names report) (giving own)) → Goes one two (Acts [] (JudgesMissing work names report looked) (giving (judged.Told answer.Same)))
-    missing_same own one two none is goes = told_after (ShowsItself names report) (JudgesMissing work names report looked) own (judged.Told answer.Same) one two
-        (λ p q ch shows sees missing. let least = shows is in record {
-          file = least.file;
-          text = least.text;
-          day = least.day;
-          shows = least.shows;
-          none = subst (λ o. Looks names.records p o) (no_facts looked.records none) sees.records;
-          least = least.least;
-        }) goes
-
   -- a day that is young
   pub young_told : (young : Bool) (looked : Looked) (one mid two : List Step → Type 0) → young ≡ true → Goes one mid (Acts [] (IsSeenDay names report) (giving looked)) → Goes mid two (Acts [] (AsksYoung work) (giving young))
-      → Goes one two (Acts [] (Judges work names report) (giving (judged.Told answer.Young)))
+      → Goes one two (Acts [] (JudgesReplaceable work names report) (giving (judged.Told answer.Young)))
   young_told young looked one mid two is first second =
-      then_ok {A = Looked} {B = Bool} {C = Judged} [] (IsSeenDay names report) (AsksYoung work) (Judges work names report) looked young (judged.Told answer.Young) one mid two (λ p q r a b c d. b is) first second
+      then_ok {A = Looked} {B = Bool} {C = Judged} [] (IsSeenDay names report) (AsksYoung work) (JudgesReplaceable work names report) looked young (judged.Told answer.Young) one mid two (λ p q r a b c d. b is) first second
 
   pub judged_seen : (young : Bool) (looked : Looked) (result : Result Judged TreeFault) (one mid late two : List Step → Type 0) → Goes one mid (Acts [] (IsSeenDay names report) (giving looked)) → Goes mid late (Acts [] (AsksYoung work) (giving young))
-      → Goes late two (Acts [] (JudgesSeen work names report looked) result) → Goes one two (Acts [] (Judges work names report) result)
+      → Goes late two (Acts [] (JudgesSeen work names report looked) result) → Goes one two (Acts [] (JudgesReplaceable work names report) result)
   judged_seen young looked result one mid late two first second third =
       let both = then_ok {A = Looked} {B = Bool} {C = Unit {0}} [] (IsSeenDay names report) (AsksYoung work) (λ old new x. IsSeenDay names report old old looked) looked young tt one mid late
           (λ p q r a b c d. seen_later names report p q p p looked (changes_none [] p) a) first second in
-      told_then {A = Unit {0}} {B = Judged} (λ old new x. IsSeenDay names report old old looked) (JudgesSeen work names report looked) (Judges work names report) tt result one late two
+      told_then {A = Unit {0}} {B = Judged} (λ old new x. IsSeenDay names report old old looked) (JudgesSeen work names report looked) (JudgesReplaceable work names report) tt result one late two
       (λ p q r x c d sees judges. judges_sooner p q c names report work x r (judges (seen_later names report p p q q looked c sees))) both third
 
 -- memory is refused before anything is done

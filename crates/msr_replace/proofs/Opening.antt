@@ -12,8 +12,8 @@ use Rattle.msr_verify.specs.Day.{VerifiesDay}
 use Rattle.msr_verify.specs.declared.judging.Finding.{Finding}
 use Rattle.msr_verify.specs.declared.judging.Finding.TheVariants as finding
 use Rattle.msr_verify.specs.declared.judging.VerifyFault.{VerifyFault}
-use Rattle.msr_replace.specs.Answers.{HaveInt24, IsFound, IsRefusedFor}
-use Rattle.msr_replace.specs.Judging.{FindsOpen, IsLeastIf, IsOpened, IsOpenedBeside, IsOpenedBy, IsOwnLeast, LackInt24, LeastOf, Reads, ShowsItself, ShowsItselfBy, TellsKinds, kinds_refusal, opened_of}
+use Rattle.msr_replace.specs.Answers.{HaveInt24, IsFoundDay, IsRefusedFor}
+use Rattle.msr_replace.specs.Judging.{FindsOpen, IsLeastIf, IsOpenedDay, IsOpenedBeside, IsOpenedBy, IsOwnLeast, LackInt24, LeastOf, ReadsName, ShowsItself, ShowsItselfBy, TellsKinds, kinds_refusal, opened_as_found}
 use Rattle.msr_replace.specs.Kinds.{HoldsInt24, LacksInt24, TellsInt24}
 use Rattle.msr_replace.specs.Names.{Names}
 use Rattle.msr_replace.specs.declared.answers.DayAnswer.TheVariants.{Refused}
@@ -39,30 +39,30 @@ module _ {R : Type 0} (device : R → Device) (given : Path) where
 
   -- it is, and what it gives is read
   pub opened_as : {B : Type 0} (path : Path) (Done : (old new : List Step) → B → Type 0) (found : Option R) (reader : R) (b : B) (one two : List Step → Type 0) → given ≡ path → found ≡ Some reader
-      → ((p q : List Step) → Reads path (device reader) p → Done p q b) → Goes one two (Acts [] Finds (giving found)) → Goes one two (Acts [] Done (giving b))
+      → ((p q : List Step) → ReadsName path (device reader) p → Done p q b) → Goes one two (Acts [] Finds (giving found)) → Goes one two (Acts [] Done (giving b))
   opened_as path Done found reader b one two same is so goes = told_after Finds Done found b one two
-      (λ p q ch f. so p q (subst (λ n. Reads n (device reader) p) same (reads_of given (device reader) p (subst (λ o. FindsOpen given device p q o) is f)))) goes
+      (λ p q ch f. so p q (subst (λ n. ReadsName n (device reader) p) same (reads_of given (device reader) p (subst (λ o. FindsOpen given device p q o) is f)))) goes
 
   -- and then
   pub opened_then : {B : Type 0} (path : Path) (Second Done : (old new : List Step) → B → Type 0) (found : Option R) (reader : R) (result : Result B TreeFault) (one mid two : List Step → Type 0) → given ≡ path → found ≡ Some reader
-      → ((p q r : List Step) (b : B) → ChangesOnly [] p q → Reads path (device reader) p → Second q r b → Done p r b)
+      → ((p q r : List Step) (b : B) → ChangesOnly [] p q → ReadsName path (device reader) p → Second q r b → Done p r b)
       → Goes one mid (Acts [] Finds (giving found)) → Goes mid two (Acts [] Second result) → Goes one two (Acts [] Done result)
   opened_then path Second Done found reader result one mid two same is so first goes = told_then Finds Second Done found result one mid two
-      (λ p q r b c d f s. so p q r b c (subst (λ n. Reads n (device reader) p) same (reads_of given (device reader) p (subst (λ o. FindsOpen given device p q o) is f))) s) first goes
+      (λ p q r b c d f s. so p q r b c (subst (λ n. ReadsName n (device reader) p) same (reads_of given (device reader) p (subst (λ o. FindsOpen given device p q o) is f))) s) first goes
 
 -- what verifying says
 module _ (work : DayWork) (names : Names) where
-  pub opened_means : (report : Path) (answer : Result Finding VerifyFault) (p q : List Step) → IsFound names report answer p → IsOpened work names report p q (opened_of answer)
+  pub opened_means : (report : Path) (answer : Result Finding VerifyFault) (p q : List Step) → IsFoundDay names report answer p → IsOpenedDay work names report p q (opened_as_found answer)
   opened_means report (Ok finding.Verified) p q found = found
   opened_means report (Ok finding.NotShown) p q found = found
   opened_means report (Ok finding.Differs) p q found = found
   opened_means report (Err fault) p q found = found
 
-  pub own_judged : (text packed own : Device) (answer : Result Finding VerifyFault) (p q : List Step) → VerifiesDay own packed text answer → Reads names.day own p → IsOpenedBeside work names text packed p q (opened_of answer)
+  pub own_judged : (text packed own : Device) (answer : Result Finding VerifyFault) (p q : List Step) → VerifiesDay own packed text answer → ReadsName names.day own p → IsOpenedBeside work names text packed p q (opened_as_found answer)
   own_judged text packed own answer p q verifies reads report shows comes = opened_means report answer p q (found_by names report p own packed text answer reads comes shows verifies)
 
 module _ (names : Names) where
-  pub kinds_told : (records : Device) (answer : Result Bool ReadFault) (p q : List Step) → TellsInt24 records answer → Reads names.records records p → TellsKinds names p q (kinds_refusal answer)
+  pub kinds_told : (records : Device) (answer : Result Bool ReadFault) (p q : List Step) → TellsInt24 records answer → ReadsName names.records records p → TellsKinds names p q (kinds_refusal answer)
   kinds_told records (Ok true) p q tells reads = λ report. record {
     records = reads.bytes;
     comes = reads.is_seen;
@@ -76,7 +76,7 @@ module _ (names : Names) where
   kinds_told records (Err why) p q tells reads = λ report. tt
 
 -- what was opened later was there before
-pub opened_sooner : (work : DayWork) (names : Names) (report : Path) (p q : List Step) → ChangesOnly [] p q → (r : List Step) (x : Opened) → IsOpened work names report q r x → IsOpened work names report p r x
+pub opened_sooner : (work : DayWork) (names : Names) (report : Path) (p q : List Step) → ChangesOnly [] p q → (r : List Step) (x : Opened) → IsOpenedDay work names report q r x → IsOpenedDay work names report p r x
 opened_sooner work names report p q changes r opened.Verified is = found_sooner p q changes names report (Ok finding.Verified) is
 opened_sooner work names report p q changes r (opened.Told x) is = told_sooner p q changes names report work x is
 

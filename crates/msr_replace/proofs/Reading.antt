@@ -11,26 +11,22 @@ use Rattle.msr_tree.proofs.Changes.{seen_kept}
 use Rattle.msr_verify.specs.Day.{DayAnswers, IsShownLeast, VerifiesDay}
 use Rattle.msr_verify.specs.declared.judging.Finding.{Finding}
 use Rattle.msr_verify.specs.declared.judging.VerifyFault.{VerifyFault}
-use Rattle.msr_replace.specs.Answers.{IsFound}
-use Rattle.msr_replace.specs.Judging.{FindsOpen, IsOwnLeast, LeastOf, Reads}
+use Rattle.msr_replace.specs.Answers.{IsFoundDay}
+use Rattle.msr_replace.specs.Judging.{FindsOpen, IsOwnLeast, LeastOf, ReadsName}
 use Rattle.msr_replace.specs.Names.{Names}
 
--- a file has the bytes of its name also before and after nothing was changed
-pub reads_sooner : (path : Path) (device : Device) (p q : List Step) → ChangesOnly [] p q → Opens path q device → Reads path device p
-reads_sooner path device p q changes opens = record { bytes = opens.0; is_seen = sym (seen_kept [] path p q tt changes) ∙ opens.1; gives = opens.2 }
-
-pub reads_later : (path : Path) (device : Device) (p q : List Step) → ChangesOnly [] p q → Reads path device p → Reads path device q
+pub reads_later : (path : Path) (device : Device) (p q : List Step) → ChangesOnly [] p q → ReadsName path device p → ReadsName path device q
 reads_later path device p q changes reads = record { bytes = reads.bytes; is_seen = seen_kept [] path p q tt changes ∙ reads.is_seen; gives = reads.gives }
 
-pub reads_of : (path : Path) (device : Device) (past : List Step) → Opens path past device → Reads path device past
+pub reads_of : (path : Path) (device : Device) (past : List Step) → Opens path past device → ReadsName path device past
 reads_of path device past opens = record { bytes = opens.0; is_seen = opens.1; gives = opens.2 }
 
 pub left_is : (device : Device) (bytes first : List ℕ) → device ≡ unused (Some bytes) → HasLeft device first → bytes ≡ first
 left_is device bytes first is left = subst (λ d. HasLeft d first) is left
 
 module _ (names : Names) (report : Path) (past : List Step) where
-  pub found_by : (own packed text : Device) (answer : Result Finding VerifyFault) → Reads names.day own past → Reads names.records packed past → Reads report text past
-      → VerifiesDay own packed text answer → IsFound names report answer past
+  pub found_by : (own packed text : Device) (answer : Result Finding VerifyFault) → ReadsName names.day own past → ReadsName names.records packed past → ReadsName report text past
+      → VerifiesDay own packed text answer → IsFoundDay names report answer past
   found_by own packed text answer file records shows verifies =
       let one : file.bytes ≡ verifies.first = left_is own file.bytes verifies.first file.gives verifies.left_file in
       let two : records.bytes ≡ verifies.second = left_is packed records.bytes verifies.second records.gives verifies.left_records in
@@ -46,7 +42,7 @@ module _ (names : Names) (report : Path) (past : List Step) where
             (subst (λ x. DayAnswers verifies.first verifies.second x answer) (sym three) verifies.answers));
       }
 
-  pub least_by : (own text : Device) → Reads names.day own past → Reads report text past → LeastOf own text → IsOwnLeast names report past
+  pub least_by : (own text : Device) → ReadsName names.day own past → ReadsName report text past → LeastOf own text → IsOwnLeast names report past
   least_by own text file shows least =
       let one : file.bytes ≡ least.first = left_is own file.bytes least.first file.gives least.left_records in
       let two : shows.bytes ≡ least.text = left_is text shows.bytes least.text shows.gives least.left_report in

@@ -28,7 +28,7 @@ pub record HaveBytes (names : Names) (report : Path) (file records text : List �
   pub shows : seen past report ≡ Some text
 
 -- Verifying them has this answer.
-pub record IsFound (names : Names) (report : Path) (answer : Result Finding VerifyFault) (past : List Step) : Type 0 where
+pub record IsFoundDay (names : Names) (report : Path) (answer : Result Finding VerifyFault) (past : List Step) : Type 0 where
   pub file : List ℕ
   pub records : List ℕ
   pub text : List ℕ
@@ -68,21 +68,21 @@ pub record HaveInt24 (names : Names) (past : List Step) : Type 0 where
 
 -- what a refusal says of the bytes
 abbrev pub IsRefusedFor : Names → (report : Path) → DayRefusal → List Step → Type 0
-IsRefusedFor names report (said.Fault fault) past = IsFound names report (Err fault) past
+IsRefusedFor names report (said.Fault fault) past = IsFoundDay names report (Err fault) past
 IsRefusedFor names report said.Int24 past = HaveInt24 names past
 IsRefusedFor names report refusal past = Unit {0}
 
 -- what an answer says of a day with which nothing is done
-abbrev pub IsTold : DayWork → Names → (report : Path) → DayAnswer → List Step → Type 0
-IsTold work names report (Replaced before after) past = ⊥
-IsTold work names report Same past = IsShownItself names report past
-IsTold work names report Young past = IsSome work.changed_before
-IsTold work names report (Larger before after) past = (work.only_smaller ≡ true) × (before ≤ after) × IsVerifiedDay work names report before after past
-IsTold work names report Changed past = Unit {0}
-IsTold work names report Missing past = (now past names.records ≡ None) ⊎ (now past report ≡ None)
-IsTold work names report NotShown past = IsFound names report (Ok finding.NotShown) past
-IsTold work names report Differs past = IsFound names report (Ok finding.Differs) past
-IsTold work names report (Refused refusal) past = IsRefusedFor names report refusal past
+abbrev pub IsToldDay : DayWork → Names → (report : Path) → DayAnswer → List Step → Type 0
+IsToldDay work names report (Replaced before after) past = ⊥
+IsToldDay work names report Same past = IsShownItself names report past
+IsToldDay work names report Young past = IsSome work.changed_before
+IsToldDay work names report (Larger before after) past = (work.only_smaller ≡ true) × (before ≤ after) × IsVerifiedDay work names report before after past
+IsToldDay work names report Changed past = Unit {0}
+IsToldDay work names report Missing past = (now past names.records ≡ None) ⊎ (now past report ≡ None)
+IsToldDay work names report NotShown past = IsFoundDay names report (Ok finding.NotShown) past
+IsToldDay work names report Differs past = IsFoundDay names report (Ok finding.Differs) past
+IsToldDay work names report (Refused refusal) past = IsRefusedFor names report refusal past
 
 -- each crash leaves the records in ROOT, if both files were kept when it began
 abbrev pub IsInPlaceOf : Names → (old new : List Step) → Type 0
@@ -92,13 +92,13 @@ IsInPlaceOf names old new = (a b : List ℕ) → AreKept names Original Records 
 abbrev pub Means : DayWork → Names → (report : Path) → DayAnswer → (old new : List Step) → Type 0
 Means work names report (Replaced before after) old new = IsReplaced work names report before after old new
 Means work names report Same old new = IsShownItself names report old ⊎ IsInPlaceOf names old new
-Means work names report Young old new = IsTold work names report Young old
-Means work names report (Larger before after) old new = IsTold work names report (Larger before after) old
-Means work names report Changed old new = IsTold work names report Changed old
-Means work names report Missing old new = IsTold work names report Missing old
-Means work names report NotShown old new = IsTold work names report NotShown old
-Means work names report Differs old new = IsTold work names report Differs old
-Means work names report (Refused refusal) old new = IsTold work names report (Refused refusal) old
+Means work names report Young old new = IsToldDay work names report Young old
+Means work names report (Larger before after) old new = IsToldDay work names report (Larger before after) old
+Means work names report Changed old new = IsToldDay work names report Changed old
+Means work names report Missing old new = IsToldDay work names report Missing old
+Means work names report NotShown old new = IsToldDay work names report NotShown old
+Means work names report Differs old new = IsToldDay work names report Differs old
+Means work names report (Refused refusal) old new = IsToldDay work names report (Refused refusal) old
 
 -- What is promised of a day whose records are to take the place of its file: its names alone change; if both files are
 -- kept when it begins, they are at each moment since; another file in ASIDE is left alone; and the answer is so.

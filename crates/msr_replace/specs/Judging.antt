@@ -11,7 +11,7 @@ use Rattle.msr_input.specs.declared.fault.ReadFault.{ReadFault}
 use Rattle.msr_verify.specs.declared.judging.Finding.{Finding}
 use Rattle.msr_verify.specs.declared.judging.Finding.TheVariants as finding
 use Rattle.msr_verify.specs.declared.judging.VerifyFault.{VerifyFault}
-use Rattle.msr_replace.specs.Answers.{IsFound, IsRefusedFor, IsTold, IsVerifiedDay}
+use Rattle.msr_replace.specs.Answers.{IsFoundDay, IsRefusedFor, IsToldDay, IsVerifiedDay}
 use Rattle.msr_replace.specs.Looks.{IsSeenDay, SortsAs}
 use Rattle.msr_replace.specs.declared.looks.Looked.{Looked}
 use Rattle.msr_replace.specs.declared.looks.Sorted.TheVariants.{Missing}
@@ -34,29 +34,29 @@ FindsOpen path device old new None = Unit {0}
 FindsOpen path device old new (Some reader) = Opens path old (device reader)
 
 -- what is told of files that were opened and judged
-abbrev pub opened_of : Result Finding VerifyFault → Opened
-opened_of (Ok finding.Verified) = opened.Verified
-opened_of (Ok finding.NotShown) = opened.Told NotShown
-opened_of (Ok finding.Differs) = opened.Told Differs
-opened_of (Err fault) = opened.Told (Refused (Fault fault))
+abbrev pub opened_as_found : Result Finding VerifyFault → Opened
+opened_as_found (Ok finding.Verified) = opened.Verified
+opened_as_found (Ok finding.NotShown) = opened.Told NotShown
+opened_as_found (Ok finding.Differs) = opened.Told Differs
+opened_as_found (Err fault) = opened.Told (Refused (Fault fault))
 
-abbrev pub IsOpened : DayWork → Names → (report : Path) → (old new : List Step) → Opened → Type 0
-IsOpened work names report old new opened.Verified = IsFound names report (Ok finding.Verified) old
-IsOpened work names report old new (opened.Told answer) = IsTold work names report answer old
+abbrev pub IsOpenedDay : DayWork → Names → (report : Path) → (old new : List Step) → Opened → Type 0
+IsOpenedDay work names report old new opened.Verified = IsFoundDay names report (Ok finding.Verified) old
+IsOpenedDay work names report old new (opened.Told answer) = IsToldDay work names report answer old
 
 -- a reader has the bytes of a name
-pub record Reads (path : Path) (device : Device) (past : List Step) : Type 0 where
+pub record ReadsName (path : Path) (device : Device) (past : List Step) : Type 0 where
   pub bytes : List ℕ
   pub is_seen : seen past path ≡ Some bytes
   pub gives : device ≡ unused (Some bytes)
 
 -- the same where the report is open, and where the records are too
 abbrev pub IsOpenedBy : DayWork → Names → (text : Device) → (old new : List Step) → Opened → Type 0
-IsOpenedBy work names text old new opened = (report : Path) → Reads report text old → IsOpened work names report old new opened
+IsOpenedBy work names text old new opened = (report : Path) → ReadsName report text old → IsOpenedDay work names report old new opened
 
 abbrev pub IsOpenedBeside : DayWork → Names → (text packed : Device) → (old new : List Step) → Opened → Type 0
-IsOpenedBeside work names text packed old new opened = (report : Path) → Reads report text old → Reads names.records packed old
-    → IsOpened work names report old new opened
+IsOpenedBeside work names text packed old new opened = (report : Path) → ReadsName report text old → ReadsName names.records packed old
+    → IsOpenedDay work names report old new opened
 
 -- The text shows that the records are the fewest, if the answer is so.
 pub record LeastOf (records report : Device) : Type 0 where
@@ -84,7 +84,7 @@ abbrev pub ShowsItself : Names → (report : Path) → (old new : List Step) →
 ShowsItself names report old new answer = answer ≡ true → IsOwnLeast names report old
 
 abbrev pub ShowsItselfBy : Names → (text : Device) → (old new : List Step) → Bool → Type 0
-ShowsItselfBy names text old new answer = answer ≡ true → (report : Path) → Reads report text old → IsOwnLeast names report old
+ShowsItselfBy names text old new answer = answer ≡ true → (report : Path) → ReadsName report text old → IsOwnLeast names report old
 
 -- what is told of files that were verified, or what goes on with them
 abbrev pub verified_of : DayWork → (file records : Facts) → Judged
@@ -109,9 +109,9 @@ TellsKinds names old new None = LackInt24 names old
 TellsKinds names old new (Some refusal) = (report : Path) → IsRefusedFor names report refusal old
 
 -- what is known before anything is done
-abbrev pub Judges : DayWork → Names → (report : Path) → (old new : List Step) → Judged → Type 0
-Judges work names report old new (judged.Told answer) = IsTold work names report answer old
-Judges work names report old new (judged.Verified verified) = IsVerifiedDay work names report verified.file.bytes verified.records.bytes old
+abbrev pub JudgesReplaceable : DayWork → Names → (report : Path) → (old new : List Step) → Judged → Type 0
+JudgesReplaceable work names report old new (judged.Told answer) = IsToldDay work names report answer old
+JudgesReplaceable work names report old new (judged.Verified verified) = IsVerifiedDay work names report verified.file.bytes verified.records.bytes old
 
 -- the day's file and its records have as many bytes as was told
 pub record HaveLengths (names : Names) (file records : Facts) (past : List Step) : Type 0 where
@@ -119,15 +119,15 @@ pub record HaveLengths (names : Names) (file records : Facts) (past : List Step)
   pub records_are : IsSomeAnd (now past names.records) (λ found. records.bytes ≡ length found.bytes)
 
 abbrev pub JudgesKinds : DayWork → Names → (file records : Facts) → (old new : List Step) → Judged → Type 0
-JudgesKinds work names file records old new answer = (report : Path) → HaveLengths names file records old → IsFound names report (Ok finding.Verified) old
-    → Judges work names report old new answer
+JudgesKinds work names file records old new answer = (report : Path) → HaveLengths names file records old → IsFoundDay names report (Ok finding.Verified) old
+    → JudgesReplaceable work names report old new answer
 
 abbrev pub JudgesWhole : DayWork → Names → (report : Path) → (file records : Facts) → (old new : List Step) → Judged → Type 0
-JudgesWhole work names report file records old new answer = HaveLengths names file records old → Judges work names report old new answer
+JudgesWhole work names report file records old new answer = HaveLengths names file records old → JudgesReplaceable work names report old new answer
 
 -- what is known where records or report are missing, and by what was seen
 abbrev pub JudgesMissing : DayWork → Names → (report : Path) → Looked → (old new : List Step) → Judged → Type 0
-JudgesMissing work names report looked old new answer = IsSeenDay names report old old looked → SortsAs looked Missing → Judges work names report old new answer
+JudgesMissing work names report looked old new answer = IsSeenDay names report old old looked → SortsAs looked Missing → JudgesReplaceable work names report old new answer
 
 abbrev pub JudgesSeen : DayWork → Names → (report : Path) → Looked → (old new : List Step) → Judged → Type 0
-JudgesSeen work names report looked old new answer = IsSeenDay names report old old looked → Judges work names report old new answer
+JudgesSeen work names report looked old new answer = IsSeenDay names report old old looked → JudgesReplaceable work names report old new answer

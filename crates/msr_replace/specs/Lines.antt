@@ -28,14 +28,14 @@ word_of_restored restored.Restored = word.Restored
 word_of_restored restored.Changed = word.Changed
 word_of_restored (restored.Refused refusal) = word.Refused
 
-abbrev pub word_of : Outcome → Word
-word_of (Day answer) = word_of_answer answer
-word_of (Undone answer) = word_of_restored answer
-word_of (Refused refusal) = word.Refused
-word_of (Skipped fault) = word.Skipped
-word_of Orphan = word.Orphan
-word_of DayFailed = word.Unfinished
-word_of FolderFailed = word.Unfinished
+abbrev pub exchange_word : Outcome → Word
+exchange_word (Day answer) = word_of_answer answer
+exchange_word (Undone answer) = word_of_restored answer
+exchange_word (Refused refusal) = word.Refused
+exchange_word (Skipped fault) = word.Skipped
+exchange_word Orphan = word.Orphan
+exchange_word DayFailed = word.Unfinished
+exchange_word FolderFailed = word.Unfinished
 
 -- the bytes of the file that was replaced
 abbrev pub before_of : Outcome → ℕ
@@ -56,14 +56,14 @@ abbrev pub IsReason : List ℕ → Type 0
 IsReason end = (why : List ℕ) × (end ≡ codes ": " ++ (why ++ codes "\n"))
 
 -- how a line ends; the texts of refusals and faults are shown by tests
-abbrev pub IsEnd : Outcome → List ℕ → Type 0
-IsEnd (Day (answer.Replaced before after)) end = end ≡ bytes_text before after
-IsEnd (Day (answer.Larger before after)) end = end ≡ bytes_text before after
-IsEnd (Day (answer.Refused refusal)) end = IsReason end
-IsEnd (Undone (restored.Refused refusal)) end = IsReason end
-IsEnd (Refused refusal) end = IsReason end
-IsEnd (Skipped fault) end = IsReason end
-IsEnd outcome end = end ≡ codes "\n"
+abbrev pub IsExchangeEnd : Outcome → List ℕ → Type 0
+IsExchangeEnd (Day (answer.Replaced before after)) end = end ≡ bytes_text before after
+IsExchangeEnd (Day (answer.Larger before after)) end = end ≡ bytes_text before after
+IsExchangeEnd (Day (answer.Refused refusal)) end = IsReason end
+IsExchangeEnd (Undone (restored.Refused refusal)) end = IsReason end
+IsExchangeEnd (Refused refusal) end = IsReason end
+IsExchangeEnd (Skipped fault) end = IsReason end
+IsExchangeEnd outcome end = end ≡ codes "\n"
 
 -- the path that is told of an entry: if the day failed, that of its folder
 abbrev pub told_path : Outcome → (path : List ℕ) → List ℕ
@@ -71,6 +71,6 @@ told_path DayFailed path = folder_of path
 told_path _ path = path
 
 -- the line of an entry: its word, its path as it is shown, and an end
-abbrev pub IsOutcomeLine : (path : List ℕ) → Outcome → List ℕ → Type 0
-IsOutcomeLine path outcome line = (end : List ℕ) × IsEnd outcome end
-    × (line ≡ text_of (word_of outcome) ++ (codes " " ++ (shown_path (told_path outcome path) ++ end)))
+abbrev pub IsExchangeLine : (path : List ℕ) → Outcome → List ℕ → Type 0
+IsExchangeLine path outcome line = (end : List ℕ) × IsExchangeEnd outcome end
+    × (line ≡ text_of (exchange_word outcome) ++ (codes " " ++ (shown_path (told_path outcome path) ++ end)))

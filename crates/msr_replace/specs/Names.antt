@@ -69,18 +69,18 @@ folder_at names RecordsPart = names.out
 folder_at names Note = names.aside
 folder_at names NotePart = names.aside
 
-abbrev pub number : Place → ℕ
-number Day = 0
-number DayPart = 1
-number Original = 2
-number OriginalPart = 3
-number Records = 4
-number RecordsPart = 5
-number Note = 6
-number NotePart = 7
+abbrev pub place_number : Place → ℕ
+place_number Day = 0
+place_number DayPart = 1
+place_number Original = 2
+place_number OriginalPart = 3
+place_number Records = 4
+place_number RecordsPart = 5
+place_number Note = 6
+place_number NotePart = 7
 
 abbrev pub is_place : Place → Place → Bool
-is_place one other = number one == number other
+is_place one other = place_number one == place_number other
 
 -- No two are the same, and each stands in its folder.
 pub record AreNames (names : Names) : Type 0 where

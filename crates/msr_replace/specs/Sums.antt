@@ -2,9 +2,9 @@
 use Rattle.std.specs.Prelude.{ℕ, Bool, true, false, List, [], ◌∷◌, ◌++◌, codes, slice_index}
 use Rattle.std.specs.Fmt.{decimal}
 use Rattle.std.specs.List.{flat_map}
-use Rattle.msr_replace.specs.Entries.{Entry, count_of, is_word, sum_of}
+use Rattle.msr_replace.specs.Entries.{ExchangeEntry, exchange_count, is_word, sum_of}
 use Rattle.msr_replace.specs.Lines.{after_of, before_of, bytes_text}
-use Rattle.msr_replace.specs.Words.{number, text_of}
+use Rattle.msr_replace.specs.Words.{word_number, text_of}
 use Rattle.msr_replace.specs.declared.words.Word.{Word}
 use Rattle.msr_replace.specs.declared.words.Word.TheVariants.{Replaced, Same, Young, Larger, Changed, Skipped, Refused, Missing, NotShown, Differs, Orphan, Unfinished, Restored}
 use Rattle.msr_replace.specs.declared.tally.Tally.{Tally}
@@ -28,13 +28,13 @@ total_line false count before after = (codes "total" ++ sums_text count replace_
 total_line true count before after = (codes "total" ++ sums_text count undo_words) ++ codes "\n"
 
 -- what is counted of a word
-abbrev pub counted : Tally → Word → ℕ
-counted tally word = slice_index tally.counts (number word)
+abbrev pub count_kept : Tally → Word → ℕ
+count_kept tally word = slice_index tally.counts (word_number word)
 
 abbrev pub tally_line : (undo : Bool) → Tally → List ℕ
-tally_line undo tally = total_line undo (counted tally) tally.before tally.after
+tally_line undo tally = total_line undo (count_kept tally) tally.before tally.after
 
 -- the line after those of the entries
-abbrev pub summary : (undo : Bool) → List Entry → List ℕ
-summary undo entries =
-    total_line undo (λ word. count_of (is_word word) entries) (sum_of before_of entries) (sum_of after_of entries)
+abbrev pub exchange_summary : (undo : Bool) → List ExchangeEntry → List ℕ
+exchange_summary undo entries =
+    total_line undo (λ word. exchange_count (is_word word) entries) (sum_of before_of entries) (sum_of after_of entries)

@@ -5,9 +5,9 @@ use Rattle.msr_devices.specs.declared.fault.DeviceFault.{DeviceFault}
 use Rattle.msr_folders.specs.Found.{Finds}
 use Rattle.msr_folders.specs.Visits.{IsWalk, IsWalkInPart, StopsTelling, Tells}
 use Rattle.msr_folders.specs.declared.found.WalkFound.{WalkFound}
-use Rattle.msr_replace.specs.Entries.{Entry, IsEntry, IsEntryLine, IsStopped, IsTally, count_of}
-use Rattle.msr_replace.specs.Lines.{IsOutcomeLine}
-use Rattle.msr_replace.specs.Sums.{summary}
+use Rattle.msr_replace.specs.Entries.{ExchangeEntry, IsExchangeEntry, IsExchangeEntryLine, IsStoppedAt, IsExchangeTally, exchange_count}
+use Rattle.msr_replace.specs.Lines.{IsExchangeLine}
+use Rattle.msr_replace.specs.Sums.{exchange_summary}
 use Rattle.msr_replace.specs.Words.{is_unwell, is_well}
 use Rattle.msr_replace.specs.declared.lines.Outcome.{Outcome}
 use Rattle.msr_replace.specs.declared.progress.Progress.{Progress}
@@ -15,40 +15,40 @@ use Rattle.msr_replace.specs.declared.progress.Progress.{Progress}
 -- The line of an entry was printed.
 pub record Prints (path : List ℕ) (outcome : Outcome) (out0 out : Device) : Type 0 where
   pub line : List ℕ
-  pub is_line : IsOutcomeLine path outcome line
+  pub is_line : IsExchangeLine path outcome line
   pub takes : Takes out0 out line
   pub calm : IsCalm out0 out
 
 -- What a walk has come to by these entries.
-pub record HasCome {T : Type 0} (entries : List Entry) (progress : Progress T) : Type 0 where
-  pub counted : IsTally entries progress.tally
-  pub stopped : IsStopped entries progress.failed
+pub record HasCome {T : Type 0} (entries : List ExchangeEntry) (progress : Progress T) : Type 0 where
+  pub counted : IsExchangeTally entries progress.tally
+  pub stopped : IsStoppedAt entries progress.failed
 
 -- some more entries were told: their lines were printed, and they are counted
-abbrev pub TellsOutcomes : {T : Type 0} → Device → Device → Progress T → Progress T → Type 0
-TellsOutcomes out0 out old new = Tells IsEntry IsEntryLine HasCome out0 out old new
+abbrev pub TellsExchanges : {T : Type 0} → Device → Device → Progress T → Progress T → Type 0
+TellsExchanges out0 out old new = Tells IsExchangeEntry IsExchangeEntryLine HasCome out0 out old new
 
 -- that was printed when the walk stopped
-abbrev pub StopsTellingOutcomes : Device → Device → DeviceFault → Type 0
-StopsTellingOutcomes out0 out fault = StopsTelling IsEntry IsEntryLine out0 out fault
+abbrev pub StopsTellingExchanges : Device → Device → DeviceFault → Type 0
+StopsTellingExchanges out0 out fault = StopsTelling IsExchangeEntry IsExchangeEntryLine out0 out fault
 
 -- a walk that came to its end tells whether one of its entries is to be looked at, and if none is, whether there is a day
-abbrev pub TellsFound : List Entry → WalkFound → Type 0
-TellsFound entries found = Finds (count_of is_unwell entries) (count_of is_well entries) found
+abbrev pub TellsFound : List ExchangeEntry → WalkFound → Type 0
+TellsFound entries found = Finds (exchange_count is_unwell entries) (exchange_count is_well entries) found
 
 -- the whole text was printed, or a prefix of it when the walk stopped
 abbrev pub ReplacingEnds : (undo : Bool) → (printed : List ℕ) → Result WalkFound DeviceFault → Type 0
 ReplacingEnds undo printed (Ok found) =
-    (entries : List Entry) × IsWalk IsEntry IsEntryLine (summary undo) printed entries × TellsFound entries found
-ReplacingEnds undo printed (Err fault) = IsWalkInPart IsEntry IsEntryLine (summary undo) printed
+    (entries : List ExchangeEntry) × IsWalk IsExchangeEntry IsExchangeEntryLine (exchange_summary undo) printed entries × TellsFound entries found
+ReplacingEnds undo printed (Err fault) = IsWalkInPart IsExchangeEntry IsExchangeEntryLine (exchange_summary undo) printed
 
 -- the text of a walk in which no entry failed, or the last one did, with this path
 abbrev pub TellsFailed : {Z : Type 0} → (undo : Bool) → (printed : List ℕ) → Option (String Z) → Type 0
 TellsFailed undo printed failed =
-    (entries : List Entry) × IsWalk IsEntry IsEntryLine (summary undo) printed entries × IsStopped entries failed
+    (entries : List ExchangeEntry) × IsWalk IsExchangeEntry IsExchangeEntryLine (exchange_summary undo) printed entries × IsStoppedAt entries failed
 
 -- What replacing the days of an archive printed, or undoing it, and how it ended.
-pub record Replaces {Z : Type 0} (undo : Bool) (out0 out : Device) (failed : Option (String Z))
+pub record ReplacesDays {Z : Type 0} (undo : Bool) (out0 out : Device) (failed : Option (String Z))
     (result : Result WalkFound DeviceFault) : Type 0 where
   pub printed : List ℕ
   pub prints : Takes out0 out printed

@@ -4,20 +4,20 @@ use Rattle.msr_replace.specs.declared.words.Word.{Word}
 use Rattle.msr_replace.specs.declared.words.Word.TheVariants as word
 
 -- its place among all words
-abbrev pub number : Word → ℕ
-number word.Replaced = 0
-number word.Same = 1
-number word.Young = 2
-number word.Larger = 3
-number word.Changed = 4
-number word.Skipped = 5
-number word.Refused = 6
-number word.Missing = 7
-number word.NotShown = 8
-number word.Differs = 9
-number word.Orphan = 10
-number word.Unfinished = 11
-number word.Restored = 12
+abbrev pub word_number : Word → ℕ
+word_number word.Replaced = 0
+word_number word.Same = 1
+word_number word.Young = 2
+word_number word.Larger = 3
+word_number word.Changed = 4
+word_number word.Skipped = 5
+word_number word.Refused = 6
+word_number word.Missing = 7
+word_number word.NotShown = 8
+word_number word.Differs = 9
+word_number word.Orphan = 10
+word_number word.Unfinished = 11
+word_number word.Restored = 12
 
 abbrev pub text_of : Word → List ℕ
 text_of word.Replaced = codes "replaced"

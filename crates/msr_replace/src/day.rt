@@ -5,7 +5,7 @@ ghost use Rattle.msr_tree.specs.Acts.{Acts};
 ghost use Rattle.msr_tree.specs.Calls.{Goes};
 ghost use Rattle.msr_replace.specs.Answers.{Replaces, replaced_of};
 ghost use Rattle.msr_replace.specs.Restored.{RestoresDay, restored_of};
-ghost use Rattle.msr_replace.specs.Judging.{Judges, JudgesKinds, JudgesMissing, JudgesSeen, JudgesWhole, verified_of};
+ghost use Rattle.msr_replace.specs.Judging.{JudgesReplaceable, JudgesKinds, JudgesMissing, JudgesSeen, JudgesWhole, verified_of};
 ghost use Rattle.msr_replace.specs.Names.{AreNames};
 ghost use Rattle.msr_replace.specs.Work.{AreThreeFolders, names_in, report_in};
 
@@ -147,7 +147,7 @@ fn judge<T: Tree>(
     path: &str,
     report: &str,
 ) -> Result<Judged, TreeFault>
-    ensures { Goes (T.went tree.old) (T.went tree.new) (Acts [] (Judges work.now names.now report.now) result) }
+    ensures { Goes (T.went tree.old) (T.went tree.new) (Acts [] (JudgesReplaceable work.now names.now report.now) result) }
 {
     let looked = look_at_day(tree, names, report)?;
     if is_young(tree, work, names, looked.file)? {

@@ -1,7 +1,7 @@
 //! What became of an entry of a folder, and its line.
 ghost use Rattle.std.specs.Prelude.{◌≡◌, IfOk};
 ghost use Rattle.std.specs.String.{string_bytes};
-ghost use Rattle.msr_replace.specs.Lines.{IsOutcomeLine, after_of, before_of, told_path, word_of, word_of_answer, word_of_restored};
+ghost use Rattle.msr_replace.specs.Lines.{IsExchangeLine, after_of, before_of, told_path, exchange_word, word_of_answer, word_of_restored};
 
 use crate::answers::{DayAnswer, DayRestored};
 use crate::words::Word;
@@ -73,7 +73,7 @@ fn word_of_restored(answer: DayRestored) -> Word
 
 impl Outcome {
     pub(crate) fn word(self) -> Word
-        ensures { result ≡ word_of self }
+        ensures { result ≡ exchange_word self }
     {
         match self {
             Outcome::Day(answer) => word_of_answer(answer),
@@ -117,7 +117,7 @@ impl Outcome {
 
     /// The line that tells it of the entry with this path.
     pub(crate) fn line(self, alloc: Global, path: &str) -> Result<String, AllocError>
-        ensures { IfOk result (λ line. IsOutcomeLine path.now self (string_bytes line)) }
+        ensures { IfOk result (λ line. IsExchangeLine path.now self (string_bytes line)) }
     {
         let word = self.word().text();
         let path = shown_path(alloc, self.told_path(path))?;

@@ -3,8 +3,8 @@ ghost use Rattle.std.specs.Prelude.{◌≡◌, ◌++◌, ◌∷◌, [], List, If
 ghost use Rattle.std.specs.String.{string_bytes};
 ghost use Rattle.msr_devices.specs.Device.{CanCountCall, IsCalm, Takes};
 ghost use Rattle.msr_folders.specs.Visits.{StopsPrefix};
-ghost use Rattle.msr_replace.specs.Entries.{Entry, IsTally};
-ghost use Rattle.msr_replace.specs.Sums.{counted, sum_text, sums_text, tally_line};
+ghost use Rattle.msr_replace.specs.Entries.{ExchangeEntry, IsExchangeTally};
+ghost use Rattle.msr_replace.specs.Sums.{count_kept, sum_text, sums_text, tally_line};
 
 use crate::lines::Outcome;
 use crate::words::{WORDS, Word};
@@ -26,7 +26,7 @@ pub(crate) struct Tally {
 impl Tally {
     /// The tally before anything was told.
     pub(crate) fn new() -> Tally
-        ensures { IsTally [] result }
+        ensures { IsExchangeTally [] result }
     {
         Tally {
             counts: [0; WORDS],
@@ -39,8 +39,8 @@ impl Tally {
 
     /// Counts one entry more.
     pub(crate) fn add(&mut self, outcome: Outcome)
-        ensures { (before : List Entry) (entry : Entry) → IsTally before self.old
-            → entry.outcome ≡ outcome → IsTally (before ++ entry ∷ []) self.new }
+        ensures { (before : List ExchangeEntry) (entry : ExchangeEntry) → IsExchangeTally before self.old
+            → entry.outcome ≡ outcome → IsExchangeTally (before ++ entry ∷ []) self.new }
     {
         let word = outcome.word();
         let at = word.number();
@@ -53,14 +53,14 @@ impl Tally {
 
     /// How many lines have that word.
     fn count(&self, word: Word) -> u64
-        ensures { result ≡ counted self.now word }
+        ensures { result ≡ count_kept self.now word }
     {
         self.counts[word.number()]
     }
 
     /// What the last line tells of a word.
     fn sum(&self, alloc: Global, word: Word) -> Result<String, AllocError>
-        ensures { IfOk result (λ text. string_bytes text ≡ sum_text (counted self.now) word) }
+        ensures { IfOk result (λ text. string_bytes text ≡ sum_text (count_kept self.now) word) }
     {
         let count = self.count(word);
         let word = word.text();
@@ -69,7 +69,7 @@ impl Tally {
 
     /// The last line up to its bytes.
     fn sums(&self, alloc: Global, words: &[Word]) -> Result<String, AllocError>
-        ensures { IfOk result (λ text. string_bytes text ≡ codes "total" ++ sums_text (counted self.now) words.now) }
+        ensures { IfOk result (λ text. string_bytes text ≡ codes "total" ++ sums_text (count_kept self.now) words.now) }
     {
         let mut line = String::from_str(alloc, "total")?;
         for word in words {

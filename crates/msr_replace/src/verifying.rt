@@ -4,7 +4,7 @@ ghost use Rattle.msr_devices.specs.Device.{CanCountCall};
 ghost use Rattle.msr_report.specs.Proper.{IsProper};
 ghost use Rattle.msr_tree.specs.Acts.{Acts};
 ghost use Rattle.msr_tree.specs.Calls.{Goes};
-ghost use Rattle.msr_replace.specs.Judging.{FindsOpen, IsLeastBy, IsLeastIf, IsOpened, IsOpenedBeside, IsOpenedBy, ShowsItself, ShowsItselfBy, TellsKinds, kinds_refusal, opened_of};
+ghost use Rattle.msr_replace.specs.Judging.{FindsOpen, IsLeastBy, IsLeastIf, IsOpenedDay, IsOpenedBeside, IsOpenedBy, ShowsItself, ShowsItselfBy, TellsKinds, kinds_refusal, opened_as_found};
 
 use crate::answers::{DayAnswer, DayRefusal};
 use crate::kinds::has_int24;
@@ -27,7 +27,7 @@ pub(crate) enum Opened {
 }
 
 fn opened_of(answer: Result<Finding, VerifyFault>) -> Opened
-    ensures { result ≡ opened_of answer }
+    ensures { result ≡ opened_as_found answer }
 {
     match answer {
         Ok(Finding::Verified) => Opened::Verified,
@@ -103,7 +103,7 @@ pub(crate) fn verify_files<T: Tree>(
     names: &DayNames,
     report: &str,
 ) -> Result<Opened, TreeFault>
-    ensures { Goes (T.went tree.old) (T.went tree.new) (Acts [] (IsOpened work.now names.now report.now) result) }
+    ensures { Goes (T.went tree.old) (T.went tree.new) (Acts [] (IsOpenedDay work.now names.now report.now) result) }
 {
     match open_at(tree, report)? {
         Some(mut text) => verify_records(tree, work, names, &mut text),

@@ -4,8 +4,9 @@ ghost use Rattle.std.specs.Prelude.{◌≡◌, ◌↔◌, ◌++◌, ◌∷◌, [
 ghost use Rattle.msr_devices.specs.Device.{CanCountCall, HasFailed};
 ghost use Rattle.msr_folders.proofs.VisitLemmas.{visitor_laws};
 ghost use Rattle.msr_options.specs.Tasks.{AreApartFrom, StandApart};
-ghost use Rattle.msr_replace.specs.Entries.{Entry, IsDay, IsEntry, IsEntryLine, IsGoing, IsOutcomeOf, IsTally, entry_of, has_failed};
-ghost use Rattle.msr_replace.specs.Walk.{HasCome, Prints, Replaces, StopsTellingOutcomes, TellsOutcomes};
+ghost use Rattle.msr_verify.specs.Entries.{IsDay};
+ghost use Rattle.msr_replace.specs.Entries.{ExchangeEntry, IsExchangeEntry, IsExchangeEntryLine, IsGoing, IsExchangeOf, IsExchangeTally, entry_of, has_failed};
+ghost use Rattle.msr_replace.specs.Walk.{HasCome, Prints, ReplacesDays, StopsTellingExchanges, TellsExchanges};
 ghost use Rattle.msr_replace.specs.Work.{AreThreeFolders};
 
 use crate::day::{replace_path, restore_path};
@@ -77,10 +78,10 @@ fn print<T: Tree, O: Sink>(
 ) -> Result<(), DeviceFault>
     requires { CanCountCall (O.device out.old) }
     ensures printed { OnOk result (Prints path.now outcome (O.device out.old) (O.device out.new)) }
-    ensures counted { OnOk result ((before : List Entry) → IsTally before progress.old.tally
-        → IsTally (before ++ entry_of path.now outcome ∷ []) progress.new.tally) }
-    ensures stops { IsOutcomeOf path.now outcome →
-        IfErr result (StopsTellingOutcomes (O.device out.old) (O.device out.new)) }
+    ensures counted { OnOk result ((before : List ExchangeEntry) → IsExchangeTally before progress.old.tally
+        → IsExchangeTally (before ++ entry_of path.now outcome ∷ []) progress.new.tally) }
+    ensures stops { IsExchangeOf path.now outcome →
+        IfErr result (StopsTellingExchanges (O.device out.old) (O.device out.new)) }
     ensures kept { progress.new.failed ≡ progress.old.failed }
 {
     let line = outcome.line(alloc, path)?;
@@ -98,11 +99,11 @@ fn tell<T: Tree, O: Sink>(
     progress: &mut Progress<T>,
 ) -> Result<(), DeviceFault>
     requires count { CanCountCall (O.device out.old) }
-    requires entry { IsOutcomeOf path.now outcome }
+    requires entry { IsExchangeOf path.now outcome }
     requires going { has_failed outcome ≡ false }
     requires before { progress.old.failed ≡ None }
-    ensures told { OnOk result (TellsOutcomes (O.device out.old) (O.device out.new) progress.old progress.new) }
-    ensures stops { IfErr result (StopsTellingOutcomes (O.device out.old) (O.device out.new)) }
+    ensures told { OnOk result (TellsExchanges (O.device out.old) (O.device out.new) progress.old progress.new) }
+    ensures stops { IfErr result (StopsTellingExchanges (O.device out.old) (O.device out.new)) }
 {
     print(alloc, path, outcome, out, progress)
 }
@@ -116,11 +117,11 @@ fn stop<T: Tree, O: Sink>(
     progress: &mut Progress<T>,
 ) -> Result<(), DeviceFault>
     requires count { CanCountCall (O.device out.old) }
-    requires entry { IsOutcomeOf path.now outcome }
+    requires entry { IsExchangeOf path.now outcome }
     requires failed { has_failed outcome ≡ true }
     requires before { progress.old.failed ≡ None }
-    ensures told { OnOk result (TellsOutcomes (O.device out.old) (O.device out.new) progress.old progress.new) }
-    ensures stops { IfErr result (StopsTellingOutcomes (O.device out.old) (O.device out.new)) }
+    ensures told { OnOk result (TellsExchanges (O.device out.old) (O.device out.new) progress.old progress.new) }
+    ensures stops { IfErr result (StopsTellingExchanges (O.device out.old) (O.device out.new)) }
 {
     let at = String::from_str(alloc, path)?;
     print(alloc, path, outcome, out, progress)?;
@@ -128,7 +129,7 @@ fn stop<T: Tree, O: Sink>(
     Ok(())
 }
 
-/// Replaces or restores a day, or looks whether the archive has it.
+/// ReplacesDays or restores a day, or looks whether the archive has it.
 fn handle<R: Files, T: Tree>(
     replacer: &Replacer<'_, R, T>,
     path: &str,
@@ -158,8 +159,8 @@ fn tell_day<R: Files, T: Tree, O: Sink>(
     requires day { IsDay path.now }
     requires before { progress.old.failed ≡ None }
     requires count { CanCountCall (O.device out.old) }
-    ensures told { OnOk result (TellsOutcomes (O.device out.old) (O.device out.new) progress.old progress.new) }
-    ensures stops { IfErr result (StopsTellingOutcomes (O.device out.old) (O.device out.new)) }
+    ensures told { OnOk result (TellsExchanges (O.device out.old) (O.device out.new) progress.old progress.new) }
+    ensures stops { IfErr result (StopsTellingExchanges (O.device out.old) (O.device out.new)) }
 {
     let alloc = replacer.work.alloc;
     match handle(replacer, path, &mut progress.tree) {
@@ -215,8 +216,8 @@ where
     ) -> Result<bool, DeviceFault>
         requires count { CanCountCall (O.device out.old) }
         requires before { progress.old.failed ≡ None }
-        ensures told { OnOk result (TellsOutcomes (O.device out.old) (O.device out.new) progress.old progress.new) }
-        ensures stops { IfErr result (StopsTellingOutcomes (O.device out.old) (O.device out.new)) }
+        ensures told { OnOk result (TellsExchanges (O.device out.old) (O.device out.new) progress.old progress.new) }
+        ensures stops { IfErr result (StopsTellingExchanges (O.device out.old) (O.device out.new)) }
     {
         let alloc = self.work.alloc;
         match begin_folder(&mut progress.tree, &self.work, folder) {
@@ -237,8 +238,8 @@ where
     ) -> Result<(), DeviceFault>
         requires count { CanCountCall (O.device out.old) }
         requires before { progress.old.failed ≡ None }
-        ensures told { OnOk result (TellsOutcomes (O.device out.old) (O.device out.new) progress.old progress.new) }
-        ensures stops { IfErr result (StopsTellingOutcomes (O.device out.old) (O.device out.new)) }
+        ensures told { OnOk result (TellsExchanges (O.device out.old) (O.device out.new) progress.old progress.new) }
+        ensures stops { IfErr result (StopsTellingExchanges (O.device out.old) (O.device out.new)) }
     {
         match end_folder(&mut progress.tree, &self.work, folder) {
             Ok(()) => Ok(()),
@@ -265,11 +266,11 @@ where
     /// The folder of the archive, which is locked while its days are worked on.
     type Folder = Option<R::File>;
 
-    ghost tells = { λ _. TellsOutcomes };
+    ghost tells = { λ _. TellsExchanges };
 
-    ghost stops = { λ _ out0 out _ _. StopsTellingOutcomes out0 out };
+    ghost stops = { λ _ out0 out _ _. StopsTellingExchanges out0 out };
 
-    ghost laws = { visitor_laws (λ _. IsEntry) (λ _. IsEntryLine) HasCome };
+    ghost laws = { visitor_laws (λ _. IsExchangeEntry) (λ _. IsExchangeEntryLine) HasCome };
 
     fn enter_folder<O: Sink>(
         &self,
@@ -359,8 +360,8 @@ where
     R::File: LockFile,
     requires apart { AreThreeFolders work.now }
     requires count { CanCountCall (O.device out.old) }
-    ensures told { OnOk result (TellsOutcomes (O.device out.old) (O.device out.new) progress.old progress.new) }
-    ensures stops { IfErr result (StopsTellingOutcomes (O.device out.old) (O.device out.new)) }
+    ensures told { OnOk result (TellsExchanges (O.device out.old) (O.device out.new) progress.old progress.new) }
+    ensures stops { IfErr result (StopsTellingExchanges (O.device out.old) (O.device out.new)) }
 {
     let root = match course {
         Course::Root => work.root,
@@ -394,8 +395,8 @@ where
     R::File: LockFile,
     requires apart { AreThreeFolders work.now }
     requires count { CanCountCall (O.device out.old) }
-    ensures told { OnOk result (TellsOutcomes (O.device out.old) (O.device out.new) progress.old progress.new) }
-    ensures stops { IfErr result (StopsTellingOutcomes (O.device out.old) (O.device out.new)) }
+    ensures told { OnOk result (TellsExchanges (O.device out.old) (O.device out.new) progress.old progress.new) }
+    ensures stops { IfErr result (StopsTellingExchanges (O.device out.old) (O.device out.new)) }
 {
     let below = asked.below.as_slice();
     if asked.undo {
@@ -418,7 +419,7 @@ where
     requires apart { AreThreeFolders work.now }
     requires empty { HasCome [] progress.old }
     requires count { CanCountCall (O.device out.old) }
-    ensures answer { Replaces asked.now.undo (O.device out.old) (O.device out.new) progress.new.failed result }
+    ensures answer { ReplacesDays asked.now.undo (O.device out.old) (O.device out.new) progress.new.failed result }
     ensures write { IsErrOf result DeviceFault.Failed ↔ HasFailed (O.device out.old) (O.device out.new) }
 {
     walk_all(rt, work, asked, out, progress)?;
@@ -427,7 +428,7 @@ where
     Ok(WalkFound::of(tally.unwell, tally.well))
 }
 
-/// Replaces the days of the archive, or of the folders of it that are asked for, one after another, and tells then the
+/// ReplacesDays the days of the archive, or of the folders of it that are asked for, one after another, and tells then the
 /// days of the same folders of the records that the archive does not have; or restores the days that were set aside. Tells
 /// last whether there is anything but days that are as they should be and what is skipped, and whether there is a day.
 pub fn replace<R: Files, T: Tree + Drop, O: Sink>(
@@ -443,7 +444,7 @@ where
     requires apart { StandApart asked.now.folders }
     requires aside { AreApartFrom asked.now.aside.now asked.now.folders }
     requires count { CanCountCall (O.device out.old) }
-    ensures answer { Replaces asked.now.undo (O.device out.old) (O.device out.new) result.failed result.found }
+    ensures answer { ReplacesDays asked.now.undo (O.device out.old) (O.device out.new) result.failed result.found }
 
     // A failure of the sink is answered as such, and nothing else is.
     ensures write { IsErrOf result.found DeviceFault.Failed ↔ HasFailed (O.device out.old) (O.device out.new) }

@@ -1,6 +1,6 @@
 //! The words with which lines begin, by which they are counted.
 ghost use Rattle.std.specs.Prelude.{◌≡◌, ◌<◌};
-ghost use Rattle.msr_replace.specs.Words.{is_unwell, is_well, number, text_of};
+ghost use Rattle.msr_replace.specs.Words.{is_unwell, is_well, text_of, word_number};
 
 /// The word with which a line begins, by which lines are counted.
 #[derive(Clone, Copy, Debug, PartialEq, Eq)]
@@ -50,7 +50,7 @@ impl Word {
 
     /// Its place among all words.
     pub(crate) fn number(self) -> usize
-        ensures value { result ≡ number self }
+        ensures value { result ≡ word_number self }
         ensures most { result < WORDS }
     {
         match self {

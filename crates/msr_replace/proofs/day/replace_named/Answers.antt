@@ -1,6 +1,6 @@
 use Rattle.std.proofs.lemmas.Result.{err_from_is_err_and}
 use Rattle.msr_tree.proofs.Acting.{giving}
-use Rattle.msr_replace.specs.Judging.{Judges}
+use Rattle.msr_replace.specs.Judging.{JudgesReplaceable}
 use Rattle.msr_replace.specs.declared.day.Judged.{Judged}
 use Rattle.msr_replace.specs.declared.day.Judged.TheVariants as judged
 use Rattle.msr_replace.proofs.Judged.{told_here, told_stopped, verified_stopped, verified_then}
@@ -9,7 +9,7 @@ use Rattle.msr_replace.proofs.day.replace_named.Goals as goal
 pub returns-in_err-answer : goal.returns-in_err-answer
 returns-in_err-answer g c =
     let p = err_from_is_err_and c.from_residual.result c.from_residual.ensures.1 in
-    rw (p.1, p.2) (told_stopped c.args.work.now c.args.names.now c.args.report.now {A = Judged} (Judges c.args.work.now c.args.names.now c.args.report.now) _ _ _ c.in_err-answer.ensures)
+    rw (p.1, p.2) (told_stopped c.args.work.now c.args.names.now c.args.report.now {A = Judged} (JudgesReplaceable c.args.work.now c.args.names.now c.args.report.now) _ _ _ c.in_err-answer.ensures)
 
 pub returns-in_err-told-in-Verified : goal.returns-in_err-told-in-Verified
 returns-in_err-told-in-Verified g c =
@@ -18,7 +18,7 @@ returns-in_err-told-in-Verified g c =
 
 pub returns-in-Told : goal.returns-in-Told
 returns-in-Told g c =
-    told_here c.args.work.now c.args.names.now c.args.report.now {A = Judged} (Judges c.args.work.now c.args.names.now c.args.report.now) (giving (judged.Told c.in-Told.answer)) (giving c.in-Told.answer) _ _ (λ is. cc) (λ p q is. is) (rw c.in-Told.is at c.in_ok-answer.ensures)
+    told_here c.args.work.now c.args.names.now c.args.report.now {A = Judged} (JudgesReplaceable c.args.work.now c.args.names.now c.args.report.now) (giving (judged.Told c.in-Told.answer)) (giving c.in-Told.answer) _ _ (λ is. cc) (λ p q is. is) (rw c.in-Told.is at c.in_ok-answer.ensures)
 
 pub returns-in_ok-told-in-Verified : goal.returns-in_ok-told-in-Verified
 returns-in_ok-told-in-Verified g c =

@@ -1,7 +1,7 @@
 use Rattle.std.proofs.lemmas.Result.{err_from_is_err_and}
 use Rattle.std.proofs.Common.{refl}
 use Rattle.msr_folders.proofs.VisitLemmas.{part_line}
-use Rattle.msr_replace.specs.Entries.{IsEntry, IsEntryLine, entry_of}
+use Rattle.msr_replace.specs.Entries.{IsExchangeEntry, IsExchangeEntryLine, entry_of}
 use Rattle.msr_replace.proofs.LinesTold.{none_told}
 use Rattle.msr_replace.proofs.walk.print.Goals as goal
 
@@ -15,7 +15,7 @@ returns-in_err-write_all-clause-stops g c =
     let p = err_from_is_err_and c.from_residual-in_err-write_all.result c.from_residual-in_err-write_all.ensures.1 in
     let part = c.in_err-write_all.ensures.part in
     λ is. rw (p.1, p.2) (
-      part_line IsEntry IsEntryLine _ _ part.0 (entry_of c.args.path.now c.args.outcome) c.as_bytes.result.now is
+      part_line IsExchangeEntry IsExchangeEntryLine _ _ part.0 (entry_of c.args.path.now c.args.outcome) c.as_bytes.result.now is
           (rw c.as_bytes.ensures.value c.in_ok-line.ensures) part.1,
       c.in_err-write_all.ensures.failed,
     )

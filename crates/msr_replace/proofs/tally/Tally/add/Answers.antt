@@ -1,12 +1,12 @@
 use Rattle.std.proofs.Common.{◌≡◌, ◌<◌, length, arith, refl}
-use Rattle.msr_replace.specs.Lines.{after_of, before_of, word_of}
-use Rattle.msr_replace.specs.Words.{is_unwell, is_well, number}
+use Rattle.msr_replace.specs.Lines.{after_of, before_of, exchange_word}
+use Rattle.msr_replace.specs.Words.{is_unwell, is_well, word_number}
 use Rattle.msr_replace.proofs.Counted.{as_number, count_more, counts_more, sum_more}
 use Rattle.msr_replace.proofs.tally.Tally.add.Goals as goal
 
 pub returns : goal.returns
 returns c = λ before entry h is.
-    let place : c.number-at.result ≡ number (word_of entry.outcome) =
+    let place : c.number-at.result ≡ word_number (exchange_word entry.outcome) =
     rw (c.number-at.ensures.value, c.word-word.ensures, ← is) refl in
     let room : c.number-at.result < length c.args.self.now.counts = omega arith in
     record {

@@ -1,6 +1,6 @@
 use Rattle.std.proofs.Common.{◌≡◌, ◌++◌, codes, take}
 use Rattle.std.specs.String.{string_bytes}
-use Rattle.msr_replace.specs.Sums.{counted, sums_text}
+use Rattle.msr_replace.specs.Sums.{count_kept, sums_text}
 use Rattle.msr_replace.proofs.tally.Tally.sums.Given as goal
 
 abbrev pub invariant-loop-word : goal.invariant-loop-word
