@@ -378,16 +378,22 @@ module _ (work : DayWork) (names : Names) (report : Path) where
       → Goes late two (Acts [] (JudgesSeen work names report looked) result) → Goes one two (Acts [] (JudgesReplaceable work names report) result)
   judged_seen young looked result one mid late two first second third =
       let both = then_ok {A = Looked} {B = Bool} {C = Unit {0}} [] (IsSeenDay names report) (AsksYoung work) (λ old new x. IsSeenDay names report old old looked) looked young tt one mid late
-          (λ p q r a b c d. seen_later names report p q p p looked (changes_none [] p) a) first second in
+      (λ p q r a b c d. seen_later names report p q p p looked (changes_none [] p) a) first second in
       told_then {A = Unit {0}} {B = Judged} (λ old new x. IsSeenDay names report old old looked) (JudgesSeen work names report looked) (JudgesReplaceable work names report) tt result one late two
       (λ p q r x c d sees judges. judges_sooner p q c names report work x r (judges (seen_later names report p p q q looked c sees))) both third
 
 -- memory is refused before anything is done
 pub replaced_none : (work : DayWork) (names : Names) (report : Path) (one : List Step → Type 0) → Goes one one (Replaces work names report (stopping DayAnswer fault.Memory))
-replaced_none work names report one = record { from = λ new went. (new, went, record {
-  changes = changes_none (all names) new;
-  cause = λ is. cc;
-  safe = λ a b kept. quiet_moments names Original Records [] a b new new tt tt tt kept.keeps (changes_none [] new);
-  alone = alone_moments [] names.original names.day new new tt (changes_none [] new);
-  answers = tt;
-}) }
+replaced_none work names report one = record {
+  from = λ new went. (
+    new,
+    went,
+    record {
+      changes = changes_none (all names) new;
+      cause = λ is. cc;
+      safe = λ a b kept. quiet_moments names Original Records [] a b new new tt tt tt kept.keeps (changes_none [] new);
+      alone = alone_moments [] names.original names.day new new tt (changes_none [] new);
+      answers = tt;
+    },
+  );
+}

@@ -13,7 +13,7 @@ use Rattle.msr_verify.proofs.TellingThere.{judged_there}
 use Rattle.msr_verify.specs.Day.{VerifiesDay}
 use Rattle.msr_verify.specs.Entries.{judgement_of}
 use Rattle.msr_verify.specs.Files.{AnswerThere, DayPlaces, IsJudgementThere, JudgesDay}
-use Rattle.msr_verify.specs.Opening.{AreApart, IsUnjudged, MayHave, OpensDay, OpensFile}
+use Rattle.msr_verify.specs.Opening.{AreTwoFiles, IsUnjudged, MayHave, OpensDay, OpensFile}
 use Rattle.msr_verify.specs.declared.day.OpenDay.{OpenDay}
 use Rattle.msr_verify.specs.declared.day.Unjudged.{Unjudged}
 use Rattle.msr_verify.specs.declared.day.Unjudged.TheVariants as unjudged
@@ -38,7 +38,7 @@ unopened places path refusal device (unjudged.Refused found) old new so is =
     (is.0, subst (λ r. IsJudgementThere places (Refused r) old new) (sym is.1) (so is.2))
 unopened places path refusal device unjudged.Memory old new so is = subst (λ l. OnlyLooks old l) (sym is) (looks_none old)
 
-pub not_apart : (places : DayPlaces) (why : Unjudged) (old new : List Step) → AreApart places.file places.records (Err why) old new → IsUnjudged places why old new
+pub not_apart : (places : DayPlaces) (why : Unjudged) (old new : List Step) → AreTwoFiles places.file places.records (Err why) old new → IsUnjudged places why old new
 not_apart places (unjudged.Refused found) old new is =
     (is.0, subst (λ r. IsJudgementThere places (Refused r) old new) (sym is.1) is.2)
 not_apart places unjudged.Memory old new is = subst (λ l. OnlyLooks old l) (sym is) (looks_none old)
@@ -124,7 +124,7 @@ open_failed path refusal device before after goes = goes_so _ _ before after (λ
 
 pub apart_failed : (file records : Path) (before after : List Step → Type 0)
     → Goes before after (Tells (TellsOneFile file records) (Err fault.Failed))
-    → Goes before after (AreApart file records (Err (unjudged.Refused SameFile)))
+    → Goes before after (AreTwoFiles file records (Err (unjudged.Refused SameFile)))
 apart_failed file records before after goes = goes_so _ _ before after (λ old new went stops.
     (tells_looks (TellsOneFile file records) (Err fault.Failed) old new stops, refl, inr (failed_more old new stops))) goes
 
@@ -155,7 +155,7 @@ not_opened places path refusal device why before after so goes =
     goes_so _ _ before after (λ old new went is. unopened places path refusal device why old new (so old new) is) goes
 
 pub not_told_apart : (places : DayPlaces) (why : Unjudged) (before after : List Step → Type 0)
-    → Goes before after (AreApart places.file places.records (Err why)) → Goes before after (IsUnjudged places why)
+    → Goes before after (AreTwoFiles places.file places.records (Err why)) → Goes before after (IsUnjudged places why)
 not_told_apart places why before after goes = goes_so _ _ before after (λ old new went is. not_apart places why old new is) goes
 
 -- after a call that changed nothing

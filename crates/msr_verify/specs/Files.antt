@@ -72,7 +72,7 @@ other_judgement Gone fault = Refused FileUnopened
 other_judgement kind fault = Skipped fault
 
 -- What is told of an entry of the archive: of a day what its files show, of anything else why it is no day.
-pub record IsToldOf (places : DayPlaces) (path : Path) (kind : FileKind) (judgement : Judgement) (old new : List Step) : Type 0 where
+pub record IsToldOfEntry (places : DayPlaces) (path : Path) (kind : FileKind) (judgement : Judgement) (old new : List Step) : Type 0 where
   pub day : IsDay path → IsJudgementThere places judgement old new
   pub other : (¬ (IsDay path)) → (fault : SdsFault) × IsNoDay path fault × (judgement ≡ other_judgement kind fault)
 
@@ -84,7 +84,7 @@ told_folder (f ∷ folder) = f ∷ folder
 -- the one entry that is told of a visit of the archive
 abbrev pub IsToldOfRoot : (root out reports : Path) → (old new : List Step) → Visit → List JudgedEntry → Type 0
 IsToldOfRoot root out reports old new (Entry path kind) entries = (judgement : Judgement)
-    × (entries ≡ record { path = path; judgement = judgement } ∷ []) × IsToldOf (day_places root out reports path) path kind judgement old new
+    × (entries ≡ record { path = path; judgement = judgement } ∷ []) × IsToldOfEntry (day_places root out reports path) path kind judgement old new
 IsToldOfRoot root out reports old new (WithoutList folder) entries =
     entries ≡ record { path = told_folder folder; judgement = Refused Listing } ∷ []
 

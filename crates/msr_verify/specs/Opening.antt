@@ -47,10 +47,10 @@ OpensFile path refusal device (Err (unjudged.Refused why)) old new = OnlyLooks o
 OpensFile path refusal device (Err unjudged.Memory) old new = new ≡ old
 
 -- the records are not the day's own file
-abbrev pub AreApart : (file records : Path) → Result (Unit {0}) Unjudged → (old new : List Step) → Type 0
-AreApart file records (Ok x) old new = (new ≡ old) × (¬ (AreOneFile file records old))
-AreApart file records (Err (unjudged.Refused why)) old new = OnlyLooks old new × (why ≡ SameFile) × (AreOneFile file records old ⊎ (failures old < failures new))
-AreApart file records (Err unjudged.Memory) old new = new ≡ old
+abbrev pub AreTwoFiles : (file records : Path) → Result (Unit {0}) Unjudged → (old new : List Step) → Type 0
+AreTwoFiles file records (Ok x) old new = (new ≡ old) × (¬ (AreOneFile file records old))
+AreTwoFiles file records (Err (unjudged.Refused why)) old new = OnlyLooks old new × (why ≡ SameFile) × (AreOneFile file records old ⊎ (failures old < failures new))
+AreTwoFiles file records (Err unjudged.Memory) old new = new ≡ old
 
 -- all files of a day are opened
 abbrev pub OpensDay : {R : Type 0} → DayPlaces → (R → Device) → Result (OpenDay R) Unjudged → (old new : List Step) → Type 0

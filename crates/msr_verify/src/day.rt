@@ -5,7 +5,7 @@ ghost use Rattle.msr_devices.specs.declared.fault.DeviceFault.TheVariants.{Memor
 ghost use Rattle.msr_tree.specs.Calls.{Goes};
 ghost use Rattle.msr_verify.specs.Entries.{IsJudgementOfDay};
 ghost use Rattle.msr_verify.specs.Files.{JudgesDay, day_places};
-ghost use Rattle.msr_verify.specs.Opening.{AreApart, MayHave, OpensDay, OpensFile, RefusesAs, RefusesDay, places_at};
+ghost use Rattle.msr_verify.specs.Opening.{AreTwoFiles, MayHave, OpensDay, OpensFile, RefusesAs, RefusesDay, places_at};
 ghost use Rattle.msr_verify.specs.declared.judgement.Refusal.TheVariants.{SameFile};
 
 use crate::judgement::{Judgement, Refusal, judgement_of};
@@ -133,7 +133,7 @@ fn open<T: Tree>(tree: &mut T, path: &str, refusal: Refusal) -> Result<T::Reader
 /// Refuses records that may be the day's own file under another name.
 fn require_apart<T: Tree>(tree: &mut T, file: &str, records: &str) -> Result<(), Unjudged>
     ensures refuses { IfErr result (RefusesAs SameFile) }
-    ensures goes { Goes (T.went tree.old) (T.went tree.new) (AreApart file.now records.now result) }
+    ensures goes { Goes (T.went tree.old) (T.went tree.new) (AreTwoFiles file.now records.now result) }
 {
     match tree.is_one(file, records) {
         Ok(false) => Ok(()),

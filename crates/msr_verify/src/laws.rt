@@ -32,5 +32,4 @@ pub fn same_inputs_have_one_output()
 /// not be read to its end.
 pub fn verified_is_exact()
     ensures { VerifiedIsExact }
-{
-}
+{}
