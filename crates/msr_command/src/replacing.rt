@@ -10,7 +10,7 @@ use crate::files::{make_folder, require_folder};
 use crate::task_fault::TaskFault;
 use crate::tasks::require_apart;
 use msr_devices::{DeviceFault, Sink};
-use msr_folders::{LockFile, WalkFound};
+use msr_folders::{LockFile, WalkFound, is_gone, join};
 use msr_options::{Folders, Replacing};
 use msr_replace::{Replaced, replace};
 use msr_tree::SystemTree;
@@ -41,7 +41,26 @@ fn require_all_apart<'a, R: Files>(
     require_apart(rt, alloc, asked.aside, root, reports)
 }
 
-/// Those that have to be there are folders, and the one that gets files is made, if it is missing, and stored.
+/// Whether something stands below a folder that is walked.
+fn is_asked_for<R: Files>(rt: &R, alloc: Global, walked: &str, folder: &str) -> bool {
+    match join(alloc, walked, folder) {
+        Ok(place) => !is_gone(rt, place.as_str()),
+        Err(_) => true,
+    }
+}
+
+/// Whether there may be a day below the folders that are asked for.
+fn may_have_days<R: Files>(rt: &R, alloc: Global, walked: &str, below: &[&str]) -> bool {
+    for folder in below {
+        if is_asked_for(rt, alloc, walked, folder) {
+            return true;
+        }
+    }
+    below.is_empty()
+}
+
+/// Those that have to be there are folders. The one that gets files is made, if it is missing, and stored, unless there is
+/// no day.
 fn prepare_folders<'a, R: Files>(
     rt: &R,
     alloc: Global,
@@ -50,11 +69,16 @@ fn prepare_folders<'a, R: Files>(
     ensures { IfErr result IsUnread }
 {
     require_folder(rt, asked.folders.root)?;
-    if asked.undo {
+    let (walked, made) = if asked.undo {
         require_folder(rt, asked.aside)?;
-        return make_folder(rt, alloc, asked.folders.out);
+        (asked.aside, asked.folders.out)
+    } else {
+        (asked.folders.root, asked.aside)
+    };
+    if !may_have_days(rt, alloc, walked, asked.below.as_slice()) {
+        return Ok(());
     }
-    make_folder(rt, alloc, asked.aside)
+    make_folder(rt, alloc, made)
 }
 
 /// Whether there has to be a day.
