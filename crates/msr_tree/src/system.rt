@@ -38,6 +38,8 @@ pub struct SystemTree<'a, R: Files> {
     rt: &'a R,
     alloc: Global,
     reason: Option<io::Error>,
+    /// Whether a file may have both names of a rename.
+    has_links: bool,
 }
 
 impl<'a, R: Files> SystemTree<'a, R> {
@@ -46,6 +48,17 @@ impl<'a, R: Files> SystemTree<'a, R> {
             rt,
             alloc,
             reason: None,
+            has_links: true,
+        }
+    }
+
+    /// The same, where no file that is renamed has the other name already: then a rename need not look whether it was done.
+    pub fn unlinked(rt: &'a R, alloc: Global) -> SystemTree<'a, R> {
+        SystemTree {
+            rt,
+            alloc,
+            reason: None,
+            has_links: false,
         }
     }
 
@@ -243,7 +256,7 @@ impl<'a, R: Files> SystemTree<'a, R> {
     fn rename_over(&self, from: &str, to: &str) -> io::Result<()> {
         fs::rename(self.rt, from, to)?;
         // Between two names of one file a rename does nothing.
-        if self.found(from)?.is_some() {
+        if self.has_links && self.found(from)?.is_some() {
             fs::remove_file(self.rt, from)?;
         }
         Ok(())

@@ -89,7 +89,7 @@ impl<'a, R: Files> Batch<'a, R> {
     }
 
     fn name_all(&mut self) -> Result<(), TreeFault> {
-        let mut tree = SystemTree::new(self.rt, self.alloc);
+        let mut tree = SystemTree::unlinked(self.rt, self.alloc);
         self.store_names(&mut tree)?;
         let out = join(self.alloc, self.folders.out, self.folder.as_str())?;
         let reports = join(self.alloc, self.folders.reports, self.folder.as_str())?;

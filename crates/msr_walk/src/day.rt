@@ -289,14 +289,14 @@ impl Day {
         }
     }
 
-    /// Removes what has the names of its files, or may have them after a crash, if the day is this walk's still, and tells
-    /// whether it need not be done again.
+    /// Removes what has the names of its files, or may have them after a crash, if the day is this walk's still. Tells whether
+    /// the next walk sees what is left: nothing, or what could not be removed.
     fn clear<R: Files>(&self, work: &Work<'_, R>, claimed: &ClaimedDay<'_, R::File>) -> bool {
         let (rt, claim) = (work.rt, claimed.claim);
         if !claim.is_ours(rt) || !claim.was_left && self.look(rt).is_free() {
             return true;
         }
-        clear_names(rt, work.alloc, claimed.files)
+        clear_names(rt, work.alloc, claimed.files) || !self.look(rt).is_free()
     }
 
     /// What an earlier walk left of the day, if it is whole, was made with these options, and from the input as it is,

@@ -14,7 +14,7 @@ pub(crate) fn give_names<R: Files>(
     files: &DayFiles,
     is_free: bool,
 ) -> Result<(), Unopened> {
-    let mut tree = SystemTree::new(rt, alloc);
+    let mut tree = SystemTree::unlinked(rt, alloc);
     let named = if is_free {
         name_new_day(&mut tree, files)
     } else {
@@ -29,7 +29,7 @@ pub(crate) fn give_names<R: Files>(
 /// Removes what has the names of a day, and tells whether it is gone. Where a folder cannot be stored, the rest is done as
 /// it is right for kills.
 pub(crate) fn clear_names<R: Files>(rt: &R, alloc: Global, files: &DayFiles) -> bool {
-    let mut tree = SystemTree::new(rt, alloc);
+    let mut tree = SystemTree::unlinked(rt, alloc);
     match clear_day(&mut tree, files) {
         Err(
             Stopped {
