@@ -1,6 +1,6 @@
 -- How tasks end: done, stopped, or before they begin.
-use Rattle.std.specs.Prelude.{◌↔◌, ⊤, IsTrue, vec_len}
-use Rattle.std.proofs.Common.{◌≡◌, ℕ, Bool, List, [], codes, refl, subst, sym, inl, inr, append-nil, Result, Ok, Err}
+use Rattle.std.specs.Prelude.{◌↔◌, ⊤, IsSomeAnd, IsTrue, Option, None, Some, String, string_bytes, vec_len}
+use Rattle.std.proofs.Common.{◌≡◌, ◌∙◌, ℕ, Bool, List, [], codes, refl, subst, sym, inl, inr, append-nil, Result, Ok, Err}
 use Rattle.msr_devices.specs.Device.{Device, HasLeft, Takes}
 use Rattle.msr_devices.proofs.Chaining.{left_of, takes_append, takes_none}
 use Rattle.msr_report.specs.declared.report.Report.{Report}
@@ -24,7 +24,7 @@ use Rattle.msr_verify.specs.Walk.{Verifies, judged_summary}
 use Rattle.msr_verify.proofs.EntriesFound.{none_told as none_found, stops_entries as stops_found, walk_stops as verifying_stops}
 use Rattle.msr_replace.specs.Entries.{IsEntry as IsOutcome, IsEntryLine as IsOutcomeLine}
 use Rattle.msr_replace.specs.Sums.{summary as outcomes_summary}
-use Rattle.msr_replace.specs.Walk.{Replaces, ReplacingEnds}
+use Rattle.msr_replace.specs.Walk.{Replaces, ReplacingEnds, TellsFailed}
 use Rattle.msr_command.specs.declared.done.Done.{Done}
 use Rattle.msr_command.specs.declared.done.Done.TheVariants.{Written, Repacked}
 use Rattle.msr_command.specs.declared.task_fault.TaskFault.{TaskFault}
@@ -262,25 +262,32 @@ replace_unbegun asked out stop is = record { printed = []; prints = takes_none o
 
 -- they were, or the walk was stopped
 
-pub replace_ended : (asked : Replacing) (out0 out : Device) (found : Result WalkFound DeviceFault) (result : Result Done TaskFault) →
-    Replaces asked.undo out0 out found → EndsReplacing asked found result → ReplacesArchive asked out0 out result
-replace_ended asked out0 out (Ok found) (Ok done) does ends = record {
+failed_at : {Z Y : Type 0} (undo : Bool) (printed : List ℕ) (failed : Option (String Z)) (path : String Y)
+    → IsSomeAnd failed (λ at. string_bytes at ≡ string_bytes path) → TellsFailed undo printed failed → TellsFailed undo printed (Some path)
+failed_at undo printed None path is tells = absurd is
+failed_at undo printed (Some at) path is tells =
+    let s = tells.2 in
+    (tells.0, tells.1, (s.0, s.1, s.2, s.3, s.4, s.5 ∙ is))
+
+pub replace_ended : {Z : Type 0} (asked : Replacing) (out0 out : Device) (failed : Option (String Z)) (found : Result WalkFound DeviceFault) (result : Result Done TaskFault) →
+    Replaces asked.undo out0 out failed found → EndsReplacing asked failed found result → ReplacesArchive asked out0 out result
+replace_ended asked out0 out failed (Ok found) (Ok done) does ends = record {
   printed = does.printed;
   prints = does.prints;
   ends = inr (record { found = found; walk = does.ends; is = ends });
 }
-replace_ended asked out0 out (Ok found) (Err (Failed path why)) does ends = record {
+replace_ended asked out0 out failed (Ok found) (Err (Failed path why)) does ends = record {
   printed = does.printed;
   prints = does.prints;
-  ends = inl (subst (λ it. ReplacingEnds asked.undo does.printed (Ok it)) ends does.ends);
+  ends = inl (subst (λ it. ReplacingEnds asked.undo does.printed (Ok it)) ends.0 does.ends, failed_at asked.undo does.printed failed path ends.1 does.failing);
 }
-replace_ended asked out0 out (Err fault) (Err (Tool why)) does ends = record {
+replace_ended asked out0 out failed (Err fault) (Err (Tool why)) does ends = record {
   printed = does.printed;
   prints = does.prints;
   ends = inr (inl (record { fault = fault; is = ends; walk = does.ends }));
 }
-replace_ended asked out0 out (Ok found) (Err _) does ends = absurd ends
-replace_ended asked out0 out (Err fault) _ does ends = absurd ends
+replace_ended asked out0 out failed (Ok found) (Err _) does ends = absurd ends
+replace_ended asked out0 out failed (Err fault) _ does ends = absurd ends
 
 -- what was printed is not stored
 

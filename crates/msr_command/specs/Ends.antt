@@ -1,5 +1,5 @@
 -- How a task ends: what was read and printed, for what the files of the system hold.
-use Rattle.std.specs.Prelude.{if◌then◌else◌, ◌≡◌, ◌≢◌, ◌⊎◌, ◌↔◌, ◌<◌, ◌≤◌, ◌&&◌, not, ℕ, ⊤, Bool, false, true, IsTrue, List, [], ◌==◌, codes, length, map, slice_get, string_bytes, vec_len, IsSomeAnd, Option, None, Result, Ok, Err}
+use Rattle.std.specs.Prelude.{if◌then◌else◌, ◌≡◌, ◌≢◌, ◌⊎◌, ◌↔◌, ◌<◌, ◌≤◌, ◌&&◌, not, ℕ, ⊤, Bool, false, true, IsTrue, List, [], ◌==◌, codes, length, map, slice_get, string_bytes, vec_len, IsSomeAnd, Option, None, Result, Ok, Err, Some, String}
 use Rattle.std.specs.Borrow.{Bor}
 use Rattle.std.specs.declared.io.Error.{Error}
 use Rattle.msr_devices.specs.Device.{Device, CountsError, HasFailed, HasLeft, Takes}
@@ -20,7 +20,7 @@ use Rattle.msr_folders.specs.declared.found.WalkFound.TheVariants.{Well, Unwell,
 use Rattle.msr_walk.specs.Walk.{WalkEnds}
 use Rattle.msr_walk.specs.declared.folders.Walked.{Walked as ArchiveWalked}
 use Rattle.msr_verify.specs.Walk.{VerifyingEnds}
-use Rattle.msr_replace.specs.Walk.{ReplacingEnds}
+use Rattle.msr_replace.specs.Walk.{ReplacingEnds, TellsFailed}
 use Rattle.msr_devices.specs.declared.fault.DeviceFault.{DeviceFault}
 use Rattle.msr_tool.specs.declared.fault.ToolFault.TheVariants as engine
 use Rattle.msr_compare.specs.declared.comparison.Comparison.TheVariants.{Differ}
@@ -278,14 +278,14 @@ wants_replaced asked = is_whole (vec_len asked.below) && not asked.undo
 abbrev pub done_of_replaced : Replacing → WalkFound → Done
 done_of_replaced asked found = done_of_walk None (wants_replaced asked) true found
 
--- a walk that found this, or was stopped so, ends the task; a call of the file system may have failed if something is to be
--- looked at
-abbrev pub EndsReplacing : Replacing → Result WalkFound DeviceFault → Result Done TaskFault → Type 0
-EndsReplacing asked (Ok found) (Ok done) = done ≡ done_of_replaced asked found
-EndsReplacing asked (Ok found) (Err (Failed path why)) = found ≡ Unwell
-EndsReplacing asked (Ok found) (Err _) = ⊥
-EndsReplacing asked (Err fault) (Err (Tool why)) = why ≡ fault_of_writing fault
-EndsReplacing asked (Err fault) _ = ⊥
+-- a walk that found this, or was stopped so, ends the task; a call of the file system may have failed at that path if
+-- something is to be looked at
+abbrev pub EndsReplacing : {Z : Type 0} → Replacing → (failed : Option (String Z)) → Result WalkFound DeviceFault → Result Done TaskFault → Type 0
+EndsReplacing asked failed (Ok found) (Ok done) = done ≡ done_of_replaced asked found
+EndsReplacing asked failed (Ok found) (Err (Failed path why)) = (found ≡ Unwell) × IsSomeAnd failed (λ at. string_bytes at ≡ string_bytes path)
+EndsReplacing asked failed (Ok found) (Err _) = ⊥
+EndsReplacing asked failed (Err fault) (Err (Tool why)) = why ≡ fault_of_writing fault
+EndsReplacing asked failed (Err fault) _ = ⊥
 
 -- The walk was stopped so, after a prefix of its text.
 pub record StopsReplacing (undo : Bool) (printed : List ℕ) (why : ToolFault) : Type 0 where
@@ -293,9 +293,10 @@ pub record StopsReplacing (undo : Bool) (printed : List ℕ) (why : ToolFault) :
   pub is : why ≡ fault_of_writing fault
   pub walk : ReplacingEnds undo printed (Err fault)
 
--- a call of the file system failed, and the whole text of the walk tells of something that is to be looked at
+-- a call of the file system failed, and the whole text of the walk tells of something that is to be looked at, last of what
+-- has this path
 abbrev pub FailsReplacing : (undo : Bool) → (printed : List ℕ) → Result Done TaskFault → Type 0
-FailsReplacing undo printed (Err (Failed path why)) = ReplacingEnds undo printed (Ok Unwell)
+FailsReplacing undo printed (Err (Failed path why)) = ReplacingEnds undo printed (Ok Unwell) × TellsFailed undo printed (Some path)
 FailsReplacing undo printed _ = ⊥
 
 -- folders overlap, memory was refused before the walk began, or one is no folder

@@ -3,8 +3,9 @@ ghost use Rattle.std.specs.Prelude.{◌≡◌, ◌↔◌, IfErr, IfOk, None, cod
 ghost use Rattle.msr_command.specs.Ends.{IsUncreated, IsUnread};
 
 use crate::task_fault::TaskFault;
-use msr_folders::{FileId, settle};
+use msr_folders::{FileId, make_stored, settle};
 use msr_tool::ToolFault;
+use std::alloc::Global;
 use std::fs::{File, OpenFile, OpenOptions};
 use std::io::ErrorKind;
 use std::rt::Files;
@@ -81,6 +82,18 @@ pub(crate) fn require_folder<'a, R: Files>(rt: &R, name: &'a str) -> Result<(), 
     } else {
         Err(TaskFault::CannotOpen(name, ErrorKind::NotADirectory.into()))
     }
+}
+
+/// What has this name is a folder that is on the disk: it is made if nothing has it.
+pub(crate) fn make_folder<'a, R: Files>(
+    rt: &R,
+    alloc: Global,
+    name: &'a str,
+) -> Result<(), TaskFault<'a>>
+    ensures { IfErr result IsUnread }
+{
+    opened(name, make_stored(rt, alloc, name))?;
+    require_folder(rt, name)
 }
 
 /// Creates the file with this name, or opens it and cuts it to nothing, unless it is the input by some name, or what

@@ -6,7 +6,7 @@ ghost use Rattle.msr_options.specs.Tasks.{AreApartFrom, StandApart};
 
 use crate::clock::time_of_now;
 use crate::done::Done;
-use crate::files::require_folder;
+use crate::files::{make_folder, require_folder};
 use crate::task_fault::TaskFault;
 use crate::tasks::require_apart;
 use msr_devices::{DeviceFault, Sink};
@@ -41,16 +41,20 @@ fn require_all_apart<'a, R: Files>(
     require_apart(rt, alloc, asked.aside, root, reports)
 }
 
-/// Those that have to be there are folders.
-fn require_folders<'a, R: Files>(rt: &R, asked: &Replacing<'a>) -> Result<(), TaskFault<'a>>
+/// Those that have to be there are folders, and the one that gets files is made, if it is missing, and stored.
+fn prepare_folders<'a, R: Files>(
+    rt: &R,
+    alloc: Global,
+    asked: &Replacing<'a>,
+) -> Result<(), TaskFault<'a>>
     ensures { IfErr result IsUnread }
 {
     require_folder(rt, asked.folders.root)?;
     if asked.undo {
-        require_folder(rt, asked.aside)
-    } else {
-        Ok(())
+        require_folder(rt, asked.aside)?;
+        return make_folder(rt, alloc, asked.folders.out);
     }
+    make_folder(rt, alloc, asked.aside)
 }
 
 /// Whether there has to be a day.
@@ -68,7 +72,7 @@ fn done_of_replacing<'a>(
     failed: Option<String>,
     why: Option<io::Error>,
 ) -> Result<Done, TaskFault<'a>>
-    ensures { EndsReplacing asked.now found result }
+    ensures { EndsReplacing asked.now failed found result }
 {
     let found = match found {
         Ok(found) => found,
@@ -96,8 +100,12 @@ where
         return Err(TaskFault::Overlap);
     }
     require_all_apart(rt, alloc, asked)?;
-    require_folders(rt, asked)?;
+    prepare_folders(rt, alloc, asked)?;
     let tree = SystemTree::new(rt, alloc);
-    let Replaced { failed, found, .. } = replace(rt, alloc, tree, asked, time_of_now(rt), output);
-    done_of_replacing(asked, found, failed, None)
+    let Replaced {
+        tree,
+        failed,
+        found,
+    } = replace(rt, alloc, tree, asked, time_of_now(rt), output);
+    done_of_replacing(asked, found, failed, tree.reason())
 }

@@ -8,6 +8,7 @@ mod found;
 mod lock;
 mod paths;
 mod places;
+mod stored;
 mod totals;
 mod visitor;
 
@@ -17,5 +18,6 @@ pub use found::WalkFound;
 pub use lock::{Lock, LockFile};
 pub use paths::{Shown, ended, folder_of, join, shown_path};
 pub use places::{Place, folders_overlap, place_of};
+pub use stored::make_stored;
 pub use totals::{Total, Totals};
 pub use visitor::{FolderWalk, Visitor, visit_folders};

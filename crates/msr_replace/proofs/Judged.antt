@@ -17,7 +17,7 @@ use Rattle.msr_replace.specs.Answers.{HaveBytes, HaveInt24, IsFound, IsRefusedFo
 use Rattle.msr_replace.specs.Restored.{refusal_of}
 use Rattle.msr_replace.specs.Judging.{HaveLengths, IsOpened, Judges, JudgesKinds, JudgesMissing, JudgesSeen, JudgesWhole, LackInt24, ShowsItself, TellsKinds, verified_of}
 use Rattle.msr_replace.specs.Kinds.{LacksInt24}
-use Rattle.msr_replace.specs.Looks.{AreWhole, AsksYoung, IsSeenDay, SortsAs, is_of_names}
+use Rattle.msr_replace.specs.Looks.{AreOfNames, AreWhole, AsksYoung, IsSeenDay, RefusesByNames, SortsAs, is_of_names}
 use Rattle.msr_replace.specs.Names.{Names, all, path_at}
 use Rattle.msr_replace.specs.Promise.{AreKept, KeepsAll, KeepsBoth, Says}
 use Rattle.msr_replace.specs.declared.answers.DayAnswer.{DayAnswer}
@@ -169,6 +169,11 @@ module _ (work : DayWork) (names : Names) (report : Path) where
       ending (Ok x) p q is = means_of x p q is
       ending (Err why) p q is = tt
 
+  pub told_stopped : {A : Type 0} (First : (old new : List Step) → A → Type 0) (why : TreeFault) (before after : List Step → Type 0)
+      → Goes before after (Acts [] First (stopping A why)) → Goes before after (R (stopping DayAnswer why))
+  told_stopped {A = A} First why before after goes =
+      told_here {A = A} First (stopping A why) (stopping DayAnswer why) before after (λ is. let so : why ≡ fault.Failed = cc in ap (λ w. Err w) so) (λ p q none. tt) goes
+
   -- both are kept while nothing changes
   kept_later : (a b : List ℕ) (p q : List Step) → ChangesOnly [] p q → Kept a b p → Kept a b q
   kept_later a b p q changes kept = record {
@@ -227,6 +232,11 @@ module _ (work : DayWork) (names : Names) (report : Path) where
           → ((a b : List ℕ) → Kept a b s → IfOk e (λ x. Says names Original a b t x)) → IfOk e P
       each (Ok x) s t P so says = so x says
       each (Err why) s t P so says = tt
+
+  pub verified_stopped : (v : Verified) (why : TreeFault) (before mid after : List Step → Type 0)
+      → Goes before mid (Acts [] (Judges work names report) (giving (judged.Verified v))) → Goes mid after (KeepsAll names Original Records Kept (stopping Told why)) → Goes before after (R (stopping DayAnswer why))
+  verified_stopped v why before mid after first goes =
+      verified_then v (stopping Told why) (stopping DayAnswer why) before mid after (λ is. let so : why ≡ fault.Failed = cc in ap (λ w. Err w) so) (λ p r none. tt) first goes
 
 -- What is judged of a day, call by call.
 module _ (work : DayWork) (names : Names) (report : Path) where
@@ -287,6 +297,22 @@ pub told_then : {A B : Type 0} (First : (old new : List Step) → A → Type 0) 
 told_then {A = A} {B = B} First Second Done a result one mid two so first goes =
     then_given {A = A} {B = B} [] First Second Done a result one mid two (λ p q r b f s c d. so p q r b c d f s) first goes
 
+-- a refusal that tells of names alone says nothing of bytes
+of_names : (names : Names) (report : Path) (why : DayRefusal) (p : List Step) → is_of_names why ≡ true → IsRefusedFor names report why p
+of_names names report (said.Fault fault) p is = cc
+of_names names report said.Int24 p is = cc
+of_names names report said.Link p is = tt
+of_names names report said.RecordsLink p is = tt
+of_names names report said.AsideLink p is = tt
+of_names names report said.FileUnopened p is = tt
+of_names names report said.RecordsUnopened p is = tt
+of_names names report said.ReportUnopened p is = tt
+of_names names report said.SameFile p is = tt
+of_names names report said.AsideTaken p is = tt
+of_names names report said.RecordsTaken p is = tt
+of_names names report said.Dress p is = tt
+of_names names report said.AsideDress p is = tt
+
 -- what is judged of verified files, with what is asked of their kinds
 module _ (work : DayWork) (names : Names) (file records : Facts) where
   abbrev Kinds : (old new : List Step) → Judged → Type 0
@@ -310,8 +336,8 @@ module _ (work : DayWork) (names : Names) (file records : Facts) where
     abbrev Whole : (old new : List Step) → Judged → Type 0
     Whole = JudgesWhole work names report file records
 
-    pub whole_told : (opened : Opened) (x : DayAnswer) (one two : List Step → Type 0) → opened ≡ opened.Told x → Goes one two (Acts [] (IsOpened work names report) (giving opened)) → Goes one two (Acts [] Whole (giving (judged.Told x)))
-    whole_told opened x one two is goes = told_after (IsOpened work names report) Whole opened (judged.Told x) one two
+    pub whole_told : (found : Opened) (x : DayAnswer) (one two : List Step → Type 0) → found ≡ opened.Told x → Goes one two (Acts [] (IsOpened work names report) (giving found)) → Goes one two (Acts [] Whole (giving (judged.Told x)))
+    whole_told found x one two is goes = told_after (IsOpened work names report) Whole found (judged.Told x) one two
         (λ p q ch tells have. subst (λ o. IsOpened work names report p q o) is tells) goes
 
     pub whole_verified : (found : Opened) (result : Result Judged TreeFault) (one mid two : List Step → Type 0) → found ≡ opened.Verified
@@ -333,6 +359,14 @@ module _ (work : DayWork) (names : Names) (file records : Facts) where
           answers = found.answers;
         }
 
+    pub whole_refused : (looked : Option DayRefusal) (why : DayRefusal) (one two : List Step → Type 0) → looked ≡ Some why → Goes one two (Acts [] RefusesByNames (giving looked)) → Goes one two (Acts [] Whole (giving (judged.Told (answer.Refused why))))
+    whole_refused looked why one two some goes = told_after RefusesByNames Whole looked (judged.Told (answer.Refused why)) one two
+        (λ p q ch tells have. of_names names report why p (subst AreOfNames some tells)) goes
+
+    pub whole_later : (looked : Option DayRefusal) (result : Result Judged TreeFault) (one mid two : List Step → Type 0) → Goes one mid (Acts [] RefusesByNames (giving looked)) → Goes mid two (Acts [] Whole result) → Goes one two (Acts [] Whole result)
+    whole_later looked result one mid two first goes = told_then RefusesByNames Whole Whole looked result one mid two
+        (λ p q r x c d tells whole have. judges_sooner p q c names report work x r (whole (lengths_sooner work names report file records p q c have))) first goes
+
 no_facts : (looked : Option Facts) → is_some looked ≡ false → looked ≡ None
 no_facts None is = refl
 no_facts (Some facts) is = cc
@@ -351,22 +385,7 @@ module _ (work : DayWork) (names : Names) (report : Path) where
         each (Err why) so does = tt
 
     pub seen_refused : (why : DayRefusal) (one : List Step → Type 0) → is_of_names why ≡ true → Goes one one (Acts [] Seen (giving (judged.Told (answer.Refused why))))
-    seen_refused why one names_it = told_now Seen (judged.Told (answer.Refused why)) one (λ p sees. by why p names_it)
-      where
-        by : (why : DayRefusal) (p : List Step) → is_of_names why ≡ true → IsRefusedFor names report why p
-        by (said.Fault fault) p is = cc
-        by said.Int24 p is = cc
-        by said.Link p is = tt
-        by said.RecordsLink p is = tt
-        by said.AsideLink p is = tt
-        by said.FileUnopened p is = tt
-        by said.RecordsUnopened p is = tt
-        by said.ReportUnopened p is = tt
-        by said.SameFile p is = tt
-        by said.AsideTaken p is = tt
-        by said.RecordsTaken p is = tt
-        by said.Dress p is = tt
-        by said.AsideDress p is = tt
+    seen_refused why one names_it = told_now Seen (judged.Told (answer.Refused why)) one (λ p sees. of_names names report why p names_it)
 
     pub seen_whole : (file records : Facts) (result : Result Judged TreeFault) (one two : List Step → Type 0) → AreWhole looked file records
         → Goes one two (Acts [] (JudgesWhole work names report file records) result) → Goes one two (Acts [] Seen result)

@@ -1,5 +1,5 @@
 -- Walks put together from the entries that were told.
-use Rattle.std.proofs.Common.{◌≡◌, ◌↔◌, ℕ, Bool, true, false, List, [], ◌∷◌, ◌++◌, refl, sym, subst, take, drop, Option, None, Some, String, Result, Ok, Err, IsErrOf, OnOk}
+use Rattle.std.proofs.Common.{ap, codes, ◌≡◌, ◌↔◌, ℕ, Bool, true, false, List, [], ◌∷◌, ◌++◌, refl, sym, subst, take, drop, Option, None, Some, String, Result, Ok, Err, IfErr, IsErrOf, OnOk}
 use Rattle.std.specs.List.{AllByRecursion}
 use Rattle.std.specs.String.{string_bytes}
 use Rattle.std.proofs.lemmas.List.{append-nil, take-append-drop}
@@ -15,6 +15,7 @@ use Rattle.msr_folders.proofs.VisitLemmas.{part_none}
 use Rattle.msr_folders.proofs.WalkLemmas as walks
 use Rattle.msr_report.specs.Writing.{TakesPrefix}
 use Rattle.msr_replace.specs.Entries.{Entry, IsEntry, IsEntryLine, IsOutcomeOf, IsStopped, IsTally, count_of, entry_of, has_failed, is_word}
+use Rattle.msr_replace.specs.Lines.{bytes_text}
 use Rattle.msr_replace.specs.Sums.{counted, replace_words, sum_text, sums_text, summary, tally_line, undo_words}
 use Rattle.msr_replace.specs.Walk.{HasCome, Prints, Replaces, StopsTellingOutcomes, TellsFound, TellsOutcomes}
 use Rattle.msr_replace.specs.declared.lines.Outcome.{Outcome}
@@ -68,13 +69,17 @@ sums_same : (one other : Word → ℕ) → ((word : Word) → one word ≡ other
 sums_same one other same [] = refl
 sums_same one other same (word ∷ words) = rw (same word, sums_same one other same words) refl
 
+line_same : (t u : List ℕ) (a b c d : ℕ) → t ≡ u → a ≡ b → c ≡ d
+    → (codes "total" ++ t) ++ bytes_text a c ≡ (codes "total" ++ u) ++ bytes_text b d
+line_same t u a b c d text before after = rw (text, before, after) refl
+
 -- the last line, from the counts of the entries
 pub summary_is : (undo : Bool) (entries : List Entry) (tally : Tally) → IsTally entries tally
     → tally_line undo tally ≡ summary undo entries
-summary_is false entries tally h =
-    rw (sums_same (counted tally) (λ word. count_of (is_word word) entries) h.counts replace_words, h.before, h.after) refl
-summary_is true entries tally h =
-    rw (sums_same (counted tally) (λ word. count_of (is_word word) entries) h.counts undo_words) refl
+summary_is false entries tally h = line_same _ _ _ _ _ _
+    (sums_same (counted tally) (λ word. count_of (is_word word) entries) h.counts replace_words) h.before h.after
+summary_is true entries tally h = ap (λ text. (codes "total" ++ text) ++ codes "\n")
+    (sums_same (counted tally) (λ word. count_of (is_word word) entries) h.counts undo_words)
 
 module _ {T : Type 0} where
   pub stops_summary : (undo : Bool) (out0 out1 out : Device) (old new : Progress T) (fault : DeviceFault)
@@ -187,3 +192,14 @@ module _ {T : Type 0} where
   tells_after out0 out old mid new (Ok x) tally failed told =
       tells_more out0 out0 out old mid new (tells_quiet out0 old mid tally failed) told
   tells_after out0 out old mid new (Err why) tally failed told = tt
+
+  -- one walk, and then another
+  pub tells_last : {R : Type 0} (out0 out1 out : Device) (old mid new : Progress T) (result : Result R DeviceFault)
+      → TellsOutcomes out0 out1 old mid → OnOk result (TellsOutcomes out1 out mid new) → OnOk result (TellsOutcomes out0 out old new)
+  tells_last out0 out1 out old mid new (Ok x) first second = tells_more out0 out1 out old mid new first second
+  tells_last out0 out1 out old mid new (Err why) first second = tt
+
+  pub stops_last : {R : Type 0} (out0 out1 out : Device) (old mid : Progress T) (result : Result R DeviceFault)
+      → TellsOutcomes out0 out1 old mid → IfErr result (λ fault. StopsTellingOutcomes out1 out fault) → IfErr result (λ fault. StopsTellingOutcomes out0 out fault)
+  stops_last out0 out1 out old mid (Ok x) first second = tt
+  stops_last out0 out1 out old mid (Err why) first second = stops_more out0 out1 out old mid why first second

@@ -83,9 +83,9 @@ module _ {R : Type 0} (path : Path) (device : R → Device) where
     does = tt;
   }) goes
 
-  pub opened_stopped : (why : TreeFault) (one two : List Step → Type 0) → Goes one two (Tells Told (stopping R why)) → Goes one two (Acts [] Finds (stopping (Option R) why))
-  opened_stopped why one two goes = goes_as _ _ one two (λ p q tells. record {
+  pub opened_refused : (why : TreeFault) (one two : List Step → Type 0) → Goes one two (Tells Told (stopping R why)) → Goes one two (Acts [] Finds (stopping (Option R) fault.Memory))
+  opened_refused why one two goes = goes_as _ _ one two (λ p q tells. record {
     changes = (acts_tells [] Told (stopping R why) p q tells).changes;
-    cause = λ is. (acts_tells [] Told (stopping R why) p q tells).cause (let so : why ≡ fault.Failed = cc in ap (λ w. Err w) so);
+    cause = λ is. cc;
     does = tt;
   }) goes

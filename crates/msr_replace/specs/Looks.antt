@@ -1,5 +1,5 @@
 -- What a look tells of the files of a day.
-use Rattle.std.specs.Prelude.{◌≡◌, ◌⊎◌, Bool, true, false, List, Option, None, Some, IsSome}
+use Rattle.std.specs.Prelude.{◌≡◌, ◌⊎◌, Bool, true, false, List, Option, None, Some, IfSome, IsSome}
 use Rattle.msr_tree.specs.Calls.{Looks}
 use Rattle.msr_tree.specs.Steps.{Path, Step}
 use Rattle.msr_tree.specs.declared.facts.Facts.{Facts}
@@ -23,6 +23,14 @@ abbrev pub is_of_names : DayRefusal → Bool
 is_of_names (Fault fault) = false
 is_of_names Int24 = false
 is_of_names refusal = true
+
+-- if there is a refusal, it is such a one
+abbrev pub AreOfNames : Option DayRefusal → Type 0
+AreOfNames refusal = IfSome refusal (λ why. is_of_names why ≡ true)
+
+-- a day is refused, or not, for what stands under names
+abbrev pub RefusesByNames : (old new : List Step) → Option DayRefusal → Type 0
+RefusesByNames old new refusal = AreOfNames refusal
 
 -- the three files of a day are there
 pub record AreWhole (looked : Looked) (file records : Facts) : Type 0 where

@@ -3,14 +3,15 @@ ghost use Rattle.std.specs.Prelude.{◌≡◌, []};
 ghost use Rattle.msr_sds.specs.SdsPath.{ReadsAsDay, SdsPath};
 ghost use Rattle.msr_tree.specs.Acts.{Acts};
 ghost use Rattle.msr_tree.specs.Calls.{Goes};
-ghost use Rattle.msr_replace.specs.Answers.{Replaces, RestoresDay, replaced_of, restored_of};
+ghost use Rattle.msr_replace.specs.Answers.{Replaces, replaced_of};
+ghost use Rattle.msr_replace.specs.Restored.{RestoresDay, restored_of};
 ghost use Rattle.msr_replace.specs.Judging.{Judges, JudgesKinds, JudgesMissing, JudgesSeen, JudgesWhole, verified_of};
 ghost use Rattle.msr_replace.specs.Names.{AreNames};
 ghost use Rattle.msr_replace.specs.Work.{AreThreeFolders, names_in, report_in};
 
 use crate::answers::{DayAnswer, DayRestored};
 use crate::exchange::replace_day;
-use crate::looks::{Looked, Sorted, is_young, look_at_day, sort};
+use crate::looks::{Looked, Sorted, is_young, look_at_day, odd_day, sort};
 use crate::names::DayNames;
 use crate::preparing::Verified;
 use crate::restore::restore_day;
@@ -62,8 +63,8 @@ fn judge_kinds<T: Tree>(
     }
 }
 
-/// There are the day's file, its records and a report.
-fn judge_whole<T: Tree>(
+/// There are the day's file, its records and a report, and the records may take the file's place.
+fn judge_files<T: Tree>(
     tree: &mut T,
     work: &DayWork<'_>,
     names: &DayNames,
@@ -77,6 +78,25 @@ fn judge_whole<T: Tree>(
     match verify_files(tree, work, names, report)? {
         Opened::Told(answer) => Ok(Judged::Told(answer)),
         Opened::Verified => judge_kinds(tree, work, names, file, records),
+    }
+}
+
+/// There are the day's file, its records and a report.
+fn judge_whole<T: Tree>(
+    tree: &mut T,
+    work: &DayWork<'_>,
+    names: &DayNames,
+    path: &str,
+    report: &str,
+    file: Facts,
+    records: Facts,
+) -> Result<Judged, TreeFault>
+    ensures { Goes (T.went tree.old) (T.went tree.new)
+        (Acts [] (JudgesWhole work.now names.now report.now file records) result) }
+{
+    match odd_day(tree, work, names, path, file, records)? {
+        Some(refusal) => Ok(Judged::Told(DayAnswer::Refused(refusal))),
+        None => judge_files(tree, work, names, report, file, records),
     }
 }
 
@@ -104,6 +124,7 @@ fn judge_sorted<T: Tree>(
     tree: &mut T,
     work: &DayWork<'_>,
     names: &DayNames,
+    path: &str,
     report: &str,
     looked: &Looked,
 ) -> Result<Judged, TreeFault>
@@ -113,7 +134,9 @@ fn judge_sorted<T: Tree>(
     match sort(looked) {
         Sorted::Missing => judge_missing(tree, work, names, report, looked),
         Sorted::Refused(refusal) => Ok(Judged::Told(DayAnswer::Refused(refusal))),
-        Sorted::Whole(file, records) => judge_whole(tree, work, names, report, file, records),
+        Sorted::Whole(file, records) => {
+            judge_whole(tree, work, names, path, report, file, records)
+        }
     }
 }
 
@@ -121,6 +144,7 @@ fn judge<T: Tree>(
     tree: &mut T,
     work: &DayWork<'_>,
     names: &DayNames,
+    path: &str,
     report: &str,
 ) -> Result<Judged, TreeFault>
     ensures { Goes (T.went tree.old) (T.went tree.new) (Acts [] (Judges work.now names.now report.now) result) }
@@ -129,7 +153,7 @@ fn judge<T: Tree>(
     if is_young(tree, work, names, looked.file)? {
         return Ok(Judged::Told(DayAnswer::Young));
     }
-    judge_sorted(tree, work, names, report, &looked)
+    judge_sorted(tree, work, names, path, report, &looked)
 }
 
 /// What is told of a day whose files were to change places.
@@ -161,12 +185,13 @@ fn replace_named<T: Tree>(
     tree: &mut T,
     work: &DayWork<'_>,
     names: &DayNames,
+    path: &str,
     report: &str,
 ) -> Result<DayAnswer, TreeFault>
     requires { AreNames names.now }
     ensures { Goes (T.went tree.old) (T.went tree.new) (Replaces work.now names.now report.now result) }
 {
-    match judge(tree, work, names, report)? {
+    match judge(tree, work, names, path, report)? {
         Judged::Told(answer) => Ok(answer),
         Judged::Verified(verified) => {
             let told = replace_day(tree, names, &verified)?;
@@ -188,7 +213,7 @@ pub fn replace_path<T: Tree>(
 {
     let names = DayNames::new(work, path)?;
     let report = work.report(path)?;
-    replace_named(tree, work, &names, report.as_str())
+    replace_named(tree, work, &names, path, report.as_str())
 }
 
 /// Gives the original of the day with this path its place again; its records go back to OUT.

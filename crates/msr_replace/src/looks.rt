@@ -2,10 +2,12 @@
 ghost use Rattle.std.specs.Prelude.{◌≡◌, []};
 ghost use Rattle.msr_tree.specs.Acts.{Acts};
 ghost use Rattle.msr_tree.specs.Calls.{Goes};
-ghost use Rattle.msr_replace.specs.Looks.{AsksYoung, IsSeenDay, SortsAs};
+ghost use Rattle.msr_replace.specs.Looks.{AsksYoung, IsSeenDay, RefusesByNames, SortsAs};
+ghost use Rattle.msr_replace.specs.Moves.{Anything};
 
 use crate::answers::DayRefusal;
 use crate::names::{DayNames, Place};
+use crate::ways::odd_way;
 use crate::work::DayWork;
 use msr_tree::{Facts, Kind, Time, Tree, TreeFault};
 
@@ -115,4 +117,46 @@ fn sort_file(looked: &Looked, records: Facts) -> Sorted
         Kind::Link => Sorted::Refused(DayRefusal::Link),
         Kind::Folder | Kind::Other => Sorted::Refused(DayRefusal::FileUnopened),
     }
+}
+
+fn are_one(one: Facts, other: Facts) -> bool {
+    one.device == other.device && one.number == other.number
+}
+
+/// Whether a day's original is there, and is not its file.
+fn is_apart(original: Option<Facts>, file: Facts) -> bool {
+    match original {
+        Some(original) => original.kind == Kind::Regular && !are_one(original, file),
+        None => false,
+    }
+}
+
+/// Whether the records are the day's file itself. If ASIDE has its original, a run that was killed has left them in OUT.
+fn is_own<T: Tree>(
+    tree: &mut T,
+    names: &DayNames,
+    file: Facts,
+    records: Facts,
+) -> Result<bool, TreeFault>
+    ensures { Goes (T.went tree.old) (T.went tree.new) (Acts [] Anything result) }
+{
+    let original = tree.look(names.at(Place::Original))?;
+    Ok(are_one(file, records) & !is_apart(original, file))
+}
+
+/// Why the records of a day may not take its file's place, by what the names lead to.
+pub(crate) fn odd_day<T: Tree>(
+    tree: &mut T,
+    work: &DayWork<'_>,
+    names: &DayNames,
+    path: &str,
+    file: Facts,
+    records: Facts,
+) -> Result<Option<DayRefusal>, TreeFault>
+    ensures { Goes (T.went tree.old) (T.went tree.new) (Acts [] RefusesByNames result) }
+{
+    if is_own(tree, names, file, records)? {
+        return Ok(Some(DayRefusal::SameFile));
+    }
+    odd_way(tree, work, path)
 }

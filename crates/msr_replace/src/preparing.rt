@@ -32,6 +32,14 @@ fn is_still(now: Option<Facts>, before: &Facts) -> bool {
     }
 }
 
+/// Whether nobody has touched it since, not even given it another name or other rights.
+fn is_untouched(now: Option<Facts>, before: &Facts) -> bool {
+    match now {
+        Some(now) => now.touched == before.touched && is_still(Some(now), before),
+        None => false,
+    }
+}
+
 /// Whether file and records are those that were verified.
 pub(crate) fn are_still<T: Tree>(
     tree: &mut T,
@@ -42,7 +50,7 @@ pub(crate) fn are_still<T: Tree>(
 {
     let file = tree.look(names.at(Place::Day))?;
     let records = tree.look(names.at(Place::Records))?;
-    Ok(is_still(file, &verified.file) & is_still(records, &verified.records))
+    Ok(is_untouched(file, &verified.file) & is_untouched(records, &verified.records))
 }
 
 /// Whether the original was written to since it was verified: it has another size or time.

@@ -1,6 +1,7 @@
 //! What the walk of a replace needs.
 ghost use Rattle.msr_replace.specs.Work.{AreThreeFolders};
 
+use crate::lines::EntryRefusal;
 use crate::work::DayWork;
 use std::marker::PhantomData;
 use std::rt::Files;
@@ -14,6 +15,16 @@ pub(crate) enum Course {
     Out,
     /// Those of the originals that were set aside, each of which is put back.
     Aside,
+}
+
+impl Course {
+    /// What is told of a folder that has no list.
+    pub(crate) fn unlisted(self) -> EntryRefusal {
+        match self {
+            Course::Root | Course::Aside => EntryRefusal::Listing,
+            Course::Out => EntryRefusal::RecordsListing,
+        }
+    }
 }
 
 /// What an entry needs: the system's files, what is to be done, and where.

@@ -201,6 +201,11 @@ where
         })
     }
 
+    /// Whether a folder of records or originals is not there.
+    fn may_lack(&self, place: &str) -> bool {
+        self.course != Course::Root && is_gone(self.rt, place)
+    }
+
     /// Begins with a folder of days that this process has, and tells whether its days are to be visited.
     fn begin<O: Sink>(
         &self,
@@ -332,20 +337,12 @@ where
         if progress.failed.is_some() {
             return Ok(());
         }
+        if self.may_lack(place) {
+            return Ok(());
+        }
         let path = if folder.is_empty() { "." } else { folder };
-        let refusal = match self.course {
-            Course::Root => EntryRefusal::Listing,
-            _ if is_gone(self.rt, place) => return Ok(()),
-            Course::Out => EntryRefusal::RecordsListing,
-            Course::Aside => EntryRefusal::Listing,
-        };
-        tell(
-            self.work.alloc,
-            path,
-            Outcome::Refused(refusal),
-            out,
-            progress,
-        )
+        let outcome = Outcome::Refused(self.course.unlisted());
+        tell(self.work.alloc, path, outcome, out, progress)
     }
 }
 

@@ -1,9 +1,13 @@
 //! The folders on the way to a folder of days, before and after its days are worked on.
 ghost use Rattle.std.specs.Prelude.{[]};
+ghost use Rattle.msr_tree.specs.Acts.{Acts};
 ghost use Rattle.msr_tree.specs.Calls.{Goes};
 ghost use Rattle.msr_tree.specs.Steps.{ChangesOnly};
+ghost use Rattle.msr_replace.specs.Looks.{AreOfNames, RefusesByNames};
+ghost use Rattle.msr_replace.specs.Moves.{Anything};
 ghost use Rattle.msr_replace.specs.Work.{parts_in};
 
+use crate::answers::DayRefusal;
 use crate::folders::clear_parts;
 use crate::work::DayWork;
 use msr_folders::{folder_of, join};
@@ -37,7 +41,7 @@ fn kind_at<T: Tree>(
     top: &str,
     folder: &str,
 ) -> Result<Option<Kind>, TreeFault>
-    ensures { Goes (T.went tree.old) (T.went tree.new) (ChangesOnly []) }
+    ensures { Goes (T.went tree.old) (T.went tree.new) (Acts [] Anything result) }
 {
     let place = join(alloc, top, folder)?;
     let found = tree.look(place.as_str())?;
@@ -46,7 +50,7 @@ fn kind_at<T: Tree>(
 
 /// What leads from `top` to a folder of days.
 fn way_to<T: Tree>(tree: &mut T, alloc: Global, top: &str, folder: &str) -> Result<Way, TreeFault>
-    ensures { Goes (T.went tree.old) (T.went tree.new) (ChangesOnly []) }
+    ensures { Goes (T.went tree.old) (T.went tree.new) (Acts [] Anything result) }
 {
     let station = folder_of(folder);
     let network = folder_of(station);
@@ -56,6 +60,31 @@ fn way_to<T: Tree>(tree: &mut T, alloc: Global, top: &str, folder: &str) -> Resu
     let last = kind_at(tree, alloc, top, folder)?;
     let way = further(further(Way::Straight, first), second);
     Ok(further(further(way, third), last))
+}
+
+/// Why records may not take a file's place, if a link, or what is no folder, is on the way to one of the two.
+fn refusal_of_ways(root: Way, out: Way) -> Option<DayRefusal>
+    ensures { AreOfNames result }
+{
+    match (root, out) {
+        (Way::Odd, _) => Some(DayRefusal::Link),
+        (_, Way::Odd) => Some(DayRefusal::RecordsLink),
+        _ => None,
+    }
+}
+
+/// The same of the day with this path.
+pub(crate) fn odd_way<T: Tree>(
+    tree: &mut T,
+    work: &DayWork<'_>,
+    path: &str,
+) -> Result<Option<DayRefusal>, TreeFault>
+    ensures { Goes (T.went tree.old) (T.went tree.new) (Acts [] RefusesByNames result) }
+{
+    let folder = folder_of(path);
+    let root = way_to(tree, work.alloc, work.root, folder)?;
+    let out = way_to(tree, work.alloc, work.out, folder)?;
+    Ok(refusal_of_ways(root, out))
 }
 
 /// The ways to a folder of days in ROOT, OUT and ASIDE.
@@ -132,11 +161,15 @@ pub(crate) fn end_folder<T: Tree>(
     let station = folder_of(folder);
     let network = folder_of(station);
     let (alloc, top) = (work.alloc, work.aside);
-    if is_removed(tree, alloc, top, folder)?
-        && is_removed(tree, alloc, top, station)?
-        && is_removed(tree, alloc, top, network)?
-    {
-        is_removed(tree, alloc, top, folder_of(network))?;
+    if !is_removed(tree, alloc, top, folder)? {
+        return Ok(());
     }
+    if !is_removed(tree, alloc, top, station)? {
+        return Ok(());
+    }
+    if !is_removed(tree, alloc, top, network)? {
+        return Ok(());
+    }
+    is_removed(tree, alloc, top, folder_of(network))?;
     Ok(())
 }

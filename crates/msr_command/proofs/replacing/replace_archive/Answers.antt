@@ -1,10 +1,7 @@
-use Rattle.std.proofs.Common.{inl, inr, refl}
+use Rattle.std.proofs.Common.{inl, inr}
 use Rattle.std.proofs.lemmas.Result.{err_from_is_err_and}
 use Rattle.msr_command.proofs.Endings.{replace_ended, replace_unbegun}
 use Rattle.msr_command.proofs.replacing.replace_archive.Goals as goal
-
-pub returns-then : goal.returns-then
-returns-then g c = replace_unbegun c.args.asked.now (g.O.Sink.device c.args.output.now) _ (inl (inl refl))
 
 pub returns-in_err-require_all_apart : goal.returns-in_err-require_all_apart
 returns-in_err-require_all_apart g c =
@@ -12,12 +9,12 @@ returns-in_err-require_all_apart g c =
     rw (p.1, p.2) (replace_unbegun c.args.asked.now (g.O.Sink.device c.args.output.now) _
     (inl c.in_err-require_all_apart.ensures))
 
-pub returns-in_err-require_folders : goal.returns-in_err-require_folders
-returns-in_err-require_folders g c =
-    let p = err_from_is_err_and c.from_residual-in_err-require_folders.result
-    c.from_residual-in_err-require_folders.ensures.1 in
+pub returns-in_err-prepare_folders : goal.returns-in_err-prepare_folders
+returns-in_err-prepare_folders g c =
+    let p = err_from_is_err_and c.from_residual-in_err-prepare_folders.result
+    c.from_residual-in_err-prepare_folders.ensures.1 in
     rw (p.1, p.2) (replace_unbegun c.args.asked.now (g.O.Sink.device c.args.output.now) _
-    (inr c.in_err-require_folders.ensures))
+    (inr c.in_err-prepare_folders.ensures))
 
 pub returns : goal.returns
-returns g c = replace_ended c.args.asked.now _ _ _ _ c.replace.ensures.answer c.done_of_replacing.ensures
+returns g c = replace_ended c.args.asked.now _ _ _ _ _ c.replace.ensures.answer c.done_of_replacing.ensures

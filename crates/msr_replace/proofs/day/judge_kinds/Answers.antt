@@ -1,8 +1,9 @@
-use Rattle.std.proofs.lemmas.Result.{err_from_is_err_and}
-use Rattle.std.proofs.Common.{Option}
-use Rattle.msr_tree.proofs.Acting.{stopped_as}
-use Rattle.msr_replace.specs.Judging.{JudgesKinds, TellsKinds}
-use Rattle.msr_replace.specs.declared.answers.DayRefusal.{DayRefusal}
-use Rattle.msr_replace.specs.declared.day.Judged.{Judged}
-use Rattle.msr_replace.proofs.Judged.{kinds_allowed, kinds_lack, kinds_refused}
+use Rattle.msr_replace.proofs.Judged.{kinds_allowed, kinds_lack}
 use Rattle.msr_replace.proofs.day.judge_kinds.Goals as goal
+
+pub returns-then-work : goal.returns-then-work
+returns-then-work g c = rw c.verified_of.ensures (kinds_allowed c.args.work.now c.args.names.now c.args.file c.args.records _ c.if-work.true)
+
+pub returns-in-None : goal.returns-in-None
+returns-in-None g c =
+    rw c.verified_of-in-None.ensures (kinds_lack c.args.work.now c.args.names.now c.args.file c.args.records c.in_ok-refusal.field-0 _ _ c.in-None.is c.in_ok-refusal.ensures)

@@ -18,7 +18,7 @@ records-preserved g c =
     let start = g.S.Source.device c.args.source.now in
     let one = rw c.in-Some.is at (c.in_ok-next.ensures.exact start u.records u.answers u.read) in
     let other : HasOtherKind one.found.row = subst (λ r. HasOtherKind r) one.row_is (subst (λ b. TellsOfRow c.in-Some.next b) c.if-is_found.false c.is_int24-is_found.ensures) in
-    sees_one start (g.S.Source.device c.records.source) (g.S.Source.device c.next_record.new.source) c.records.reader c.next_record.new.self u one.found _ one.read other
+    rw c.give_back.ensures (sees_one start (g.S.Source.device c.records.source) (g.S.Source.device c.next_record.new.source) c.records.reader c.next_record.new.self u one.found _ one.read other)
 
 pub returns-then-is_found : goal.returns-then-is_found
 returns-then-is_found g c =

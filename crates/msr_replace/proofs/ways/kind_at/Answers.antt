@@ -1,13 +1,24 @@
-use Rattle.std.proofs.Common.{[]}
+use Rattle.std.proofs.Common.{[], Option}
+use Rattle.std.proofs.lemmas.Result.{err_from_is_err_and}
 use Rattle.msr_tree.specs.Calls.{Looks}
-use Rattle.msr_replace.proofs.Quiet.{quiet_none, quiet_tells}
+use Rattle.msr_tree.specs.declared.facts.Facts.{Facts}
+use Rattle.msr_tree.specs.declared.facts.Kind.{Kind}
+use Rattle.msr_tree.proofs.Acting.{giving, goes_tells, stopped_as, told_as}
+use Rattle.msr_replace.specs.Moves.{Anything}
+use Rattle.msr_replace.proofs.Making.{goes_none}
 use Rattle.msr_replace.proofs.ways.kind_at.Goals as goal
 
 pub returns-in_err-place : goal.returns-in_err-place
-returns-in_err-place g c = quiet_none [] _
+returns-in_err-place g c =
+    let p = err_from_is_err_and c.from_residual.result c.from_residual.ensures.1 in
+    rw (p.1, p.2) (goes_none {T = Option Kind} [] (Anything {T = Option Kind}) _)
 
 pub returns-in_err-found : goal.returns-in_err-found
-returns-in_err-found g c = quiet_tells [] (Looks c.as_str.result.now) _ _ _ c.in_err-found.ensures
+returns-in_err-found g c =
+    let p = err_from_is_err_and c.from_residual-in_err-found.result c.from_residual-in_err-found.ensures.1 in
+    rw (p.1, p.2) (stopped_as {A = Option Facts} {B = Option Kind} [] _ (Anything {T = Option Kind}) _ _ _ (goes_tells {T = Option Facts} [] (Looks c.as_str.result.now) _ _ _ c.in_err-found.ensures))
 
 pub returns : goal.returns
-returns g c = quiet_tells [] (Looks c.as_str.result.now) _ _ _ c.in_ok-found.ensures
+returns g c =
+    told_as {A = Option Facts} {B = Option Kind} [] [] _ (Anything {T = Option Kind}) (giving c.in_ok-found.found) (giving _) _ _ (λ is. cc) (λ n none. none) (λ p q did changes. tt)
+    (goes_tells {T = Option Facts} [] (Looks c.as_str.result.now) _ _ _ c.in_ok-found.ensures)
