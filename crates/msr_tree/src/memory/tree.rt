@@ -1,5 +1,5 @@
 //! The tree in memory.
-ghost use Rattle.std.specs.Prelude.{◌≡◌, ◌∷◌, ℕ, List, [], None, string_bytes, option_map, IfErr, IfOk, IsSome, length, MatchOption, MatchResult, OnOk};
+ghost use Rattle.std.specs.Prelude.{◌≡◌, ◌∷◌, ℕ, List, [], None, string_bytes, option_map, IfErr, IfOk, IsSome, length, MatchResult, OnOk};
 ghost use Rattle.msr_tree.specs.Calls.{Copies, DoesStep, RenamesNew, Stops};
 ghost use Rattle.msr_tree.specs.Steps.{Failed, FileStored, FolderStored, IsAtRest, Linked, Made, MayLeave, Path, Renamed, folder_above, now, seen};
 ghost use Rattle.msr_tree.specs.declared.facts.Kind.TheVariants.{Regular};
