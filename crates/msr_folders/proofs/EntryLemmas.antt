@@ -88,9 +88,6 @@ module _ (root : Path) (old new : List Step) (same : IsSameWithin root old new) 
       folder_same (λ name. AreOfEntry new root levels (below folder name)) (λ name. AreOfEntry old root levels (below folder name)) folder visits
       (λ name part one. entry_same levels (below folder name) part one) are
 
-  pub list_same : (folder : Path) (names : List Path) → IsListing new (joined root folder) names → IsListing old (joined root folder) names
-  list_same folder names listing = listing_same (joined root folder) names (within_joined root folder) listing
-
   pub folders_same : (folders : List (Bor Path)) (visits : List Visit) → AreEntriesOf new root folders visits → AreEntriesOf old root folders visits
   folders_same [] visits are = entries_same 4 [] visits are
   folders_same (folder ∷ folders) visits are =

@@ -205,21 +205,6 @@ module _ {V L T : Type 0} (tells : V → List L → (out0 out : Device) → (tal
     goes = goes_so _ _ before after (λ old new went is. record { are = so old walk.visits is.are; says = is.says; does = is.does; unlisted = is.unlisted }) walk.goes;
   }
 
-  -- what was done
-  pub walk_does : (Are : List Step → List Visit → Type 0) (before after : List Step → Type 0) (out0 out : Device) (tally0 tally : T)
-      → Walk Are before after out0 out tally0 tally → Goes before after (does visitor)
-  walk_does Are before after out0 out tally0 tally walk = goes_so _ _ before after (λ old new went is. is.does) walk.goes
-
-  -- one call after another
-  pub then_does : (before mid after : List Step → Type 0) → Goes before mid (does visitor) → Goes mid after (does visitor) → Goes before after (does visitor)
-  then_does before mid after one two = goes_then _ _ _ before mid after (λ old middle new first second. laws.onward visitor old middle new first second) one two
-
-  pub then_visits : (before mid after : List Step → Type 0) → Goes before mid (does visitor) → Goes mid after (VisitDoes (does visitor)) → Goes before after (does visitor)
-  then_visits before mid after one two = goes_then _ _ _ before mid after (λ old middle new first second. laws.onward visitor old middle new first second.does) one two
-
-  pub same_does : (Before : (old new : List Step) → Type 0) (before after : List Step → Type 0) → ((old new : List Step) → Before old new → new ≡ old) → Goes before after Before → Goes before after (does visitor)
-  same_does Before before after so goes = goes_so _ _ before after (λ old new went first. subst (λ l. does visitor old l) (sym (so old new first)) (laws.still visitor old)) goes
-
   -- the next name of a folder
   pub next_name : (levels : ℕ) (folder name : Path) (names taken : List Path) (before mid after : List Step → Type 0) (out0 out1 out : Device) (tally0 tally1 tally : T)
       → spared visitor ≡ root

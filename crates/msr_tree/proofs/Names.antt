@@ -60,9 +60,6 @@ pub no_items : {X : Type 0} (items : List X) → length items ≡ 0 → items �
 no_items [] none = refl
 no_items (item ∷ items) none = absurd (omega arith)
 
-pub named_none : (past : List Step) (folder : Path) → AreNamed past past folder []
-named_none past folder = record { all = λ name proper there. inl there; only = λ name has. absurd (omega (arith, has.1)) }
-
 or_more : (folder : Bool) (found : Option File) → (folder || false) ≡ true → (folder || is_some found) ≡ true
 or_more true found is = refl
 or_more false found is = cc

@@ -21,15 +21,6 @@ use Rattle.msr_verify.specs.Entries.{IsDay, IsJudgedEntry, IsJudgedEntryLine, Is
 use Rattle.msr_verify.specs.Walk.{StopsTellingJudged, TellsJudged, TellsVerified, Verifies, judged_line, judged_summary}
 use Rattle.msr_verify.specs.declared.tally.VerifyTally.{VerifyTally}
 
--- no entry more
-pub tells_none : (out : Device) (tally : VerifyTally) → TellsJudged out out tally tally
-tells_none out tally = visits.tells_none IsJudgedEntry IsJudgedEntryLine IsVerifyTally out tally
-
-pub tells_more : (out0 out1 out : Device) (tally0 tally1 tally : VerifyTally) →
-    TellsJudged out0 out1 tally0 tally1 → TellsJudged out1 out tally1 tally → TellsJudged out0 out tally0 tally
-tells_more out0 out1 out tally0 tally1 tally first second =
-    visits.tells_more IsJudgedEntry IsJudgedEntryLine IsVerifyTally out0 out1 out tally0 tally1 tally first second
-
 -- nothing was printed
 pub none_told : (out : Device) → StopsTellingJudged out out Memory
 none_told out = (part_none IsJudgedEntry IsJudgedEntryLine out, (calm_same out).steady)

@@ -38,11 +38,6 @@ unopened places path refusal device (unjudged.Refused found) old new so is =
     (is.0, subst (λ r. IsJudgementThere places (Refused r) old new) (sym is.1) (so is.2))
 unopened places path refusal device unjudged.Memory old new so is = subst (λ l. OnlyLooks old l) (sym is) (looks_none old)
 
-pub not_apart : (places : DayPlaces) (why : Unjudged) (old new : List Step) → AreTwoFiles places.file places.records (Err why) old new → IsUnjudged places why old new
-not_apart places (unjudged.Refused found) old new is =
-    (is.0, subst (λ r. IsJudgementThere places (Refused r) old new) (sym is.1) is.2)
-not_apart places unjudged.Memory old new is = subst (λ l. OnlyLooks old l) (sym is) (looks_none old)
-
 -- what a source has is what was opened
 left_is : (past : List Step) (path : Path) (source : Device) (bytes : List ℕ) → Opens path past source → HasLeft source bytes → seen past path ≡ Some bytes
 left_is past path source bytes opens left =
@@ -100,10 +95,6 @@ judged_open places device day answer old new opens found = record {
   says = told_there places answer old new (answer_of places device day answer old new opens found);
 }
 
-pub judged_refused : {R : Type 0} (places : DayPlaces) (device : R → Device) (refusal : Refusal) (old new : List Step)
-    → OpensDay {R = R} places device (Err (unjudged.Refused refusal)) old new → JudgesDay places (Ok (Refused refusal)) old new
-judged_refused places device refusal old new is = record { looks = is.0; says = is.1 }
-
 -- a call that failed
 failed_more : (old new : List Step) → Stops fault.Failed (λ left. left ≡ old) old new → failures old < failures new
 failed_more old new stops = subst (λ l. failures old < failures l) (sym (stops.2 ∙ ap (λ l. Failed ∷ l) stops.1)) (omega arith)
@@ -154,27 +145,10 @@ pub not_opened : {R : Type 0} (places : DayPlaces) (path : Path) (refusal : Refu
 not_opened places path refusal device why before after so goes =
     goes_so _ _ before after (λ old new went is. unopened places path refusal device why old new (so old new) is) goes
 
-pub not_told_apart : (places : DayPlaces) (why : Unjudged) (before after : List Step → Type 0)
-    → Goes before after (AreTwoFiles places.file places.records (Err why)) → Goes before after (IsUnjudged places why)
-not_told_apart places why before after goes = goes_so _ _ before after (λ old new went is. not_apart places why old new is) goes
-
 -- after a call that changed nothing
 pub still_then : (P : List Step → Type 0) (R : (old new : List Step) → Type 0) (before mid after : List Step → Type 0)
     → Goes before mid (λ old new. (new ≡ old) × P old) → Goes mid after R → Goes before after R
 still_then P R before mid after one two = goes_so _ _ before after (λ old new went both. both.1) (goes_past P R before mid after one two)
-
--- all files are opened
-pub all_open : {R : Type 0} (places : DayPlaces) (device : R → Device) (day : OpenDay R) (w0 w1 w2 w3 w4 : List Step → Type 0)
-    → Goes w0 w1 (λ old new. (new ≡ old) × Opens places.report old (device day.report))
-    → Goes w1 w2 (λ old new. (new ≡ old) × Opens places.records old (device day.records))
-    → Goes w2 w3 (λ old new. (new ≡ old) × (¬ (AreOneFile places.file places.records old)))
-    → Goes w3 w4 (λ old new. (new ≡ old) × Opens places.file old (device day.file))
-    → Goes w0 w4 (OpensDay places device (Ok day))
-all_open places device day w0 w1 w2 w3 w4 report records apart file =
-    goes_so _ _ w0 w4 (λ old new went all. (all.1.1.1.0, all.1.1.0, all.1.1.1.1, all.1.0, all.0))
-    (goes_past (λ past. Opens places.report past (device day.report)) _ w0 w1 w4 report
-    (goes_past (λ past. Opens places.records past (device day.records)) _ w1 w2 w4 records
-    (goes_past (λ past. ¬ (AreOneFile places.file places.records past)) _ w2 w3 w4 apart file)))
 
 -- and judged
 pub opened_judged : {R : Type 0} (places : DayPlaces) (device : R → Device) (day : OpenDay R) (answer : Result Finding VerifyFault) (before after : List Step → Type 0)
@@ -182,13 +156,3 @@ pub opened_judged : {R : Type 0} (places : DayPlaces) (device : R → Device) (d
     → Goes before after (JudgesDay places (Ok (judgement_of answer)))
 opened_judged places device day answer before after goes found =
     goes_so _ _ before after (λ old new went is. judged_open places device day answer old new is found) goes
-
-pub refused_judged : {R : Type 0} (places : DayPlaces) (device : R → Device) (refusal : Refusal) (before after : List Step → Type 0)
-    → Goes before after (OpensDay {R = R} places device (Err (unjudged.Refused refusal))) → Goes before after (JudgesDay places (Ok (Refused refusal)))
-refused_judged places device refusal before after goes =
-    goes_so _ _ before after (λ old new went is. judged_refused places device refusal old new is) goes
-
-pub memory_unjudged : {R : Type 0} (places : DayPlaces) (device : R → Device) (fault : DeviceFault) (before after : List Step → Type 0)
-    → Goes before after (OpensDay {R = R} places device (Err unjudged.Memory)) → Goes before after (JudgesDay places (Err fault))
-memory_unjudged places device fault before after goes =
-    goes_so _ _ before after (λ old new went is. no_answer places fault old new is) goes

@@ -28,10 +28,6 @@ use Rattle.msr_verify.specs.declared.tally.VerifyTally.{VerifyTally}
 pub visit_looks : (old new : List Step) → OnlyLooks old new → VisitDoes OnlyReads old new
 visit_looks old new looks = record { does = look_reads old new looks; lists_none = look_lists_none old new looks }
 
--- a visit that makes no call
-pub visit_still : (before : List Step → Type 0) → Goes before before (VisitDoes OnlyReads)
-visit_still before = goes_none (VisitDoes OnlyReads) before (λ past. visit_looks past past (looks_none past))
-
 -- a visit that makes this call
 pub visit_by : (Does : (old new : List Step) → Type 0) (before after : List Step → Type 0) → ((old new : List Step) → Does old new → OnlyLooks old new)
     → Goes before after Does → Goes before after (VisitDoes OnlyReads)
@@ -97,14 +93,6 @@ visited_other root out_root reports path kind fault before out0 out tally0 tally
     visited_still (IsToldOfRoot root out_root reports) (Entry path kind) (record { path = path; judgement = other_judgement kind fault } ∷ [])
     before out0 out tally0 tally
     (λ past. (other_judgement kind fault, refl, record { day = λ day. absurd (none day); other = λ no_day. (fault, is, refl) })) told
-
--- a folder of the archive that has no list
-pub visited_folder : (root out_root reports folder : Path) (before : List Step → Type 0) (out0 out : Device) (tally0 tally : VerifyTally)
-    → TellsEntries (record { path = told_folder folder; judgement = Refused Listing } ∷ []) out0 out tally0 tally
-    → TellsVisit TellsEntries (IsToldOfRoot root out_root reports) OnlyReads (WithoutList folder) before before out0 out tally0 tally
-visited_folder root out_root reports folder before out0 out tally0 tally told =
-    visited_still (IsToldOfRoot root out_root reports) (WithoutList folder) (record { path = told_folder folder; judgement = Refused Listing } ∷ [])
-    before out0 out tally0 tally (λ past. refl) told
 
 -- what is no day among the records
 pub passed_other : (root out_root path : Path) (kind : FileKind) (before : List Step → Type 0) (out : Device) (tally : VerifyTally) → ¬ (IsDay path)
