@@ -40,6 +40,8 @@ pub struct SystemTree<'a, R: Files> {
     reason: Option<io::Error>,
     /// Whether a file may have both names of a rename.
     has_links: bool,
+    /// The folder that was made last, if it was there and stored then, with all that lead to it.
+    stored: Option<String>,
 }
 
 impl<'a, R: Files> SystemTree<'a, R> {
@@ -49,6 +51,7 @@ impl<'a, R: Files> SystemTree<'a, R> {
             alloc,
             reason: None,
             has_links: true,
+            stored: None,
         }
     }
 
@@ -59,6 +62,7 @@ impl<'a, R: Files> SystemTree<'a, R> {
             alloc,
             reason: None,
             has_links: false,
+            stored: None,
         }
     }
 
@@ -175,9 +179,12 @@ impl<'a, R: Files> SystemTree<'a, R> {
     }
 
     /// Makes a folder, unless there is one, or something else is in the way, as a link to a folder.
-    fn make_folder(&self, path: &str) -> io::Result<bool> {
+    fn make_folder(&mut self, path: &str) -> io::Result<bool> {
         match fs::create_dir(self.rt, path) {
-            Ok(()) => Ok(true),
+            Ok(()) => {
+                self.stored = None;
+                Ok(true)
+            }
             Err(error) if error.kind() == ErrorKind::AlreadyExists => {
                 let found = self.found(path)?;
                 Ok(matches!(found, Some(facts) if facts.kind == Kind::Folder))
@@ -187,7 +194,7 @@ impl<'a, R: Files> SystemTree<'a, R> {
     }
 
     /// Makes the folders below another one that lead to a folder, the highest first, unless something is in the way.
-    fn make_below(&self, top: &str, folder: &str) -> io::Result<bool> {
+    fn make_below(&mut self, top: &str, folder: &str) -> io::Result<bool> {
         for end in top.len()..folder.len() {
             if let Some((above, rest)) = folder.split_at_checked(end)
                 && top.len() < end
@@ -200,21 +207,35 @@ impl<'a, R: Files> SystemTree<'a, R> {
         self.make_folder(folder)
     }
 
-    /// The same, and all of them are stored, the lowest first.
-    fn make_stored(&self, top: &str, folder: &str) -> io::Result<bool> {
+    /// The same, and all of them are stored, the lowest first, unless they were there and stored before.
+    fn make_stored(&mut self, top: &str, folder: &str) -> io::Result<bool> {
         if !is_within(top, folder) {
             return Err(refusal("not below the folder"));
         }
         if top.len() < folder.len() && !self.make_below(top, folder)? {
             return Ok(false);
         }
+        if !self.is_stored(folder) {
+            self.store_all(top, folder)?;
+            self.stored = String::from_str(self.alloc, folder).ok();
+        }
+        Ok(true)
+    }
+
+    fn is_stored(&self, folder: &str) -> bool {
+        match &self.stored {
+            Some(stored) => stored.as_str() == folder,
+            None => false,
+        }
+    }
+
+    fn store_all(&self, top: &str, folder: &str) -> io::Result<()> {
         let mut at = folder;
         while top.len() < at.len() {
             self.store(at)?;
             at = folder_above(at);
         }
-        self.store(top)?;
-        Ok(true)
+        self.store(top)
     }
 
     fn store(&self, folder: &str) -> io::Result<()> {
@@ -437,6 +458,7 @@ impl<'a, R: Files> Tree for SystemTree<'a, R> {
     }
 
     fn remove_folder(&mut self, folder: &str) -> Result<bool, TreeFault> {
+        self.stored = None;
         match fs::remove_dir(self.rt, folder) {
             Ok(()) => Ok(true),
             Err(error) if error.kind() == ErrorKind::DirectoryNotEmpty => Ok(false),
