@@ -12,7 +12,7 @@ use crate::tasks::require_apart;
 use msr_devices::{DeviceFault, Sink};
 use msr_folders::{LockFile, WalkFound, is_gone, join};
 use msr_options::{Folders, Replacing};
-use msr_replace::{Replaced, replace};
+use msr_replace::replace;
 use msr_tree::SystemTree;
 use std::alloc::Global;
 use std::io;
@@ -126,10 +126,7 @@ where
     require_all_apart(rt, alloc, asked)?;
     prepare_folders(rt, alloc, asked)?;
     let tree = SystemTree::new(rt, alloc);
-    let Replaced {
-        tree,
-        failed,
-        found,
-    } = replace(rt, alloc, tree, asked, time_of_now(rt), output);
-    done_of_replacing(asked, found, failed, tree.reason())
+    let replaced = replace(rt, alloc, tree, asked, time_of_now(rt), output);
+    let why = replaced.tree.reason();
+    done_of_replacing(asked, replaced.found, replaced.failed, why)
 }

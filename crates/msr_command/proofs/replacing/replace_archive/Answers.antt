@@ -17,4 +17,4 @@ returns-in_err-prepare_folders g c =
     (inr c.in_err-prepare_folders.ensures))
 
 pub returns : goal.returns
-returns g c = replace_ended c.args.asked.now _ _ _ _ _ c.replace-failed.ensures.answer c.done_of_replacing.ensures
+returns g c = replace_ended c.args.asked.now _ _ _ _ _ c.replace-replaced.ensures.answer c.done_of_replacing.ensures
