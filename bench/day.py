@@ -55,22 +55,29 @@ def perf_counts():
 
 def by_callgrind(words, folder, **how):
     """The instructions of the user's code that a command runs, by callgrind, which leaves their places in the folder."""
-    words = ["valgrind", "--tool=callgrind", f"--callgrind-out-file={folder}/callgrind", *words]
-    return collected(words, r"Collected : (\d+)", **how)
+    found = with_calls(words, folder, **how)
+    return found and found[0]
+
+
+def with_calls(words, folder, **how):
+    """These instructions, and how often the command calls the system."""
+    callgrind = ["valgrind", "--tool=callgrind", "--collect-systime=yes", f"--callgrind-out-file={folder}/callgrind"]
+    return collected([*callgrind, *words], r"Collected : (\d+) (\d+)", **how)
 
 
 def collected(words, pattern, **how):
-    """The count that a command prints on standard error; None if it fails. How it is started is as of subprocess.run."""
+    """The counts that a command prints on standard error; None if it fails. How it is started is as of subprocess.run."""
     how = {"stdin": subprocess.DEVNULL, **how, "stdout": subprocess.DEVNULL, "stderr": subprocess.PIPE, "text": True}
     said = subprocess.run(words, **how)
     found = re.search(pattern, said.stderr, re.M)
-    return int(found[1]) if found and said.returncode == 0 else None
+    return [int(it) for it in found.groups()] if found and said.returncode == 0 else None
 
 
 def instructions(words, folder):
     """The instructions that a command runs, counted by perf, or else by callgrind; None if neither is there."""
     if perf_counts():
-        return collected(["perf", "stat", "-x,", "-e", "instructions:u", *words], r"^(\d+),")
+        found = collected(["perf", "stat", "-x,", "-e", "instructions:u", *words], r"^(\d+),")
+        return found and found[0]
     return by_callgrind(words, folder) if shutil.which("valgrind") else None
 
 

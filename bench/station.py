@@ -1,12 +1,13 @@
 """All samples and records that the scripts of bench make up, the same ones on every machine: nothing is chance.
 
-Samples of several kinds; records of them; and days of one channel at 100 samples a second as a station sends them, in
-which events die down over a swell under noise. Records are those of docs/PROFILE.md, big-endian.
+Samples of several kinds; records of them; days of one channel at 100 samples a second as a station sends them, in which
+events die down over a swell under noise; and an archive of small days. Records are those of docs/PROFILE.md, big-endian.
 """
 import array
 import collections
 import datetime
 import math
+import os
 import random
 import struct
 
@@ -39,6 +40,9 @@ DAYS = {
     "noise": Day(WHITE, SAMPLES // 5, INT32, 4096, 1008, 0, 512, 256),
     "pieces": Day(CALM, 20_000 * 112, STEIM2, 512, 112, 10, 512, 256),
 }
+# An archive of channels that sent six records each day, of which three are packed: a day costs what is done for each file.
+SMALL = Day(CALM, 600, STEIM2, 512, 100, 0, 512, 512)
+STATIONS, DAYS_EACH = 20, 100
 # How many differences a word of Steim-2 holds, of how many bits, most first; its code, and the bits before them.
 LAYOUTS = ((7, 4, 3, 2), (6, 5, 3, 1), (5, 6, 3, 0), (4, 8, 1, 0), (3, 10, 2, 3), (2, 15, 2, 2), (1, 30, 2, 1))
 MASK = (1 << 64) - 1
@@ -195,18 +199,43 @@ def write_steim2(path, samples, length=512, most=65535):
             start, number, before = start + count, number + 1, samples[start + count - 1]
 
 
+def areas_of(day, seed):
+    """The area of each of its records, how many samples that has, and how many frames hold words."""
+    before = None
+    for run in runs_of(day, seed):
+        if day.encoding == STEIM2:
+            area, count, frames = steim2(run, before, day.length)
+        else:
+            area, count, frames = integers(day.encoding, run), len(run), 0
+        if count < len(run):
+            raise ValueError(f"{len(run)} samples have no room in a record of {day.length} bytes")
+        yield area, count, frames
+        before = run[-1]
+
+
 def write(path, name, seed, parts=1):
     """Writes the day of that name, or the first of so many parts of it."""
-    day, before = DAYS[name], None
+    day = DAYS[name]
     form, day = Form(b"TEST 00BHZXX", RATE, day.encoding, day.length), day._replace(samples=day.samples // parts)
     with open(path, "wb") as out:
-        for place, run in enumerate(runs_of(day, next_of(seed))):
-            if day.encoding == STEIM2:
-                area, count, frames = steim2(run, before, day.length)
-            else:
-                area, count, frames = integers(day.encoding, run), len(run), 0
-            if count < len(run):
-                raise ValueError(f"{name}: {len(run)} samples have no room in a record")
+        for place, (area, count, frames) in enumerate(areas_of(day, next_of(seed))):
             clock = 10_000 // RATE * place * (day.each + day.gap)
             out.write(record(form, place + 1, clock, count, area, frames))
-            before = run[-1]
+
+
+def write_archive(root):
+    """Writes the archive. The samples of a day are those of all stations, and the files have one time of change, as what is
+    kept beside a report has its digits."""
+    stations = [f"S{number:03}" for number in range(STATIONS)]
+    for station in stations:
+        os.makedirs(f"{root}/2020/XX/{station}/BHZ.D")
+    for day in range(1, DAYS_EACH + 1):
+        areas = list(areas_of(SMALL, next_of(day)))
+        for station in stations:
+            form = Form(f"{station:5}00BHZXX".encode(), RATE, SMALL.encoding, SMALL.length)
+            path = f"{root}/2020/XX/{station}/BHZ.D/XX.{station}.00.BHZ.D.2020.{day:03}"
+            with open(path, "wb") as out:
+                for place, (area, count, frames) in enumerate(areas):
+                    clock = (day - 1) * 864_000_000 + 10_000 // RATE * place * SMALL.each
+                    out.write(record(form, place + 1, clock, count, area, frames))
+            os.utime(path, (1_600_000_000, 1_600_000_000))
