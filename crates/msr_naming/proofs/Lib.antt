@@ -1,3 +1,4 @@
+pub mod Changed
 pub mod Kills
 pub mod Names
 pub mod Order

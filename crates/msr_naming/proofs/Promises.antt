@@ -11,6 +11,7 @@ use Rattle.msr_naming.specs.declared.files.Name.TheVariants.{Records, RecordsPar
 use Rattle.msr_naming.specs.Naming.{AreDayNames, Performs, act_step}
 use Rattle.msr_naming.specs.Promise.{AreNamed, AreReady, GivesNames, HasOwn, HasReport, HaveOwnParts, IsFree, KeepsOwn, KeepsIfKilled, NamesStamps, OverNothing}
 use Rattle.msr_naming.proofs.Names.{no_records_left, no_stamp_left, not_renamed, ready_gone, ready_still, removed_settled}
+use Rattle.msr_naming.proofs.Changed.{only_named}
 use Rattle.msr_naming.proofs.Kills as kill
 use Rattle.msr_naming.proofs.Order as order
 use Rattle.msr_naming.proofs.Plan.{does_some}
@@ -90,12 +91,15 @@ module _ (files : DayFiles) where
     safe = λ is_own is_of are before has. does_some (HasOwn is_own is_of files) (order.fails is_own is_of files) (map (act_step files) new_acts) old new performs.some
         (order.naming_new is_own is_of files are before.0.records before.0.report before.0.own old before.1 before.0.ready);
     done = when_ok result (λ is. λ are free. record { named = λ r p ready. subst (λ (l : List Step). AreNamed files r p l) (sym is) (named_new are r p old free ready) }) performs.all;
+    changes = only_named files new_acts old new performs.some;
+    cause = performs.cause;
   }
 
   pub new_day_killed : (result : Result (Unit {0}) TreeFault) (old new : List Step) → Performs (map (act_step files) new_acts) result old new → KeepsIfKilled files (OverNothing files) result old new
   new_day_killed result old new performs = record {
     killed = λ is_own are before has. does_some (HasReport is_own files) (kill.fails is_own files) (map (act_step files) new_acts) old new performs.some
         (kill.naming_new is_own files are before.0.records before.0.report before.0.own old before.1 before.0.ready);
+    changes = only_named files new_acts old new performs.some;
     cause = performs.cause;
   }
 
@@ -105,12 +109,15 @@ module _ (files : DayFiles) where
     safe = λ is_own is_of are before has. does_some (HasOwn is_own is_of files) (order.fails is_own is_of files) (map (act_step files) day_acts) old new performs.some
         (order.naming is_own is_of files are before.records before.report before.own old has before.ready);
     done = when_ok result (λ is. λ are. record { named = λ r p ready. subst (λ (l : List Step). AreNamed files r p l) (sym is) (named_over are r p old ready) }) performs.all;
+    changes = only_named files day_acts old new performs.some;
+    cause = performs.cause;
   }
 
   pub day_killed : (result : Result (Unit {0}) TreeFault) (old new : List Step) → Performs (map (act_step files) day_acts) result old new → KeepsIfKilled files (HaveOwnParts files) result old new
   day_killed result old new performs = record {
     killed = λ is_own are before has. does_some (HasReport is_own files) (kill.fails is_own files) (map (act_step files) day_acts) old new performs.some
         (kill.naming is_own files are before.records before.report before.own old before.ready has);
+    changes = only_named files day_acts old new performs.some;
     cause = performs.cause;
   }
 
@@ -118,6 +125,7 @@ module _ (files : DayFiles) where
   unstored_killed result old new performs = record {
     killed = λ is_own are before has. does_some (HasReport is_own files) (kill.fails is_own files) (map (act_step files) unstored_acts) old new performs.some
         (kill.naming_unstored is_own files are before.records before.report before.own old before.ready has);
+    changes = only_named files unstored_acts old new performs.some;
     cause = performs.cause;
   }
 
@@ -126,11 +134,14 @@ module _ (files : DayFiles) where
   clear_keeps result old new performs = record {
     safe = λ is_own is_of are before has. does_some (HasOwn is_own is_of files) (order.fails is_own is_of files) (map (act_step files) clear_acts) old new performs.some (order.clearing is_own is_of files are old has);
     done = when_ok result (λ is. λ are. subst (λ (l : List Step). IsFree files l) (sym is) (cleared are old)) performs.all;
+    changes = only_named files clear_acts old new performs.some;
+    cause = performs.cause;
   }
 
   pub clear_killed : (result : Result (Unit {0}) TreeFault) (old new : List Step) → Performs (map (act_step files) clear_acts) result old new → KeepsIfKilled files (λ is_own past. Unit {0}) result old new
   clear_killed result old new performs = record {
     killed = λ is_own are before has. does_some (HasReport is_own files) (kill.fails is_own files) (map (act_step files) clear_acts) old new performs.some (kill.clearing is_own files are old has);
+    changes = only_named files clear_acts old new performs.some;
     cause = performs.cause;
   }
 

@@ -1,11 +1,11 @@
 -- What is promised of the files that are made of a day.
 use Rattle.std.specs.Prelude.{◌<◌, ◌≡◌, ℕ, Bool, true, List, ◌∷◌, ◌++◌, Option, None, Some, IfSome, IsSomeAnd, OnOk, IsErrOf, Result}
 use Rattle.std.specs.List.{AllByRecursion}
-use Rattle.msr_tree.specs.Steps.{AtEachMoment, IsReady, Leaves, MayLeave, Path, Step, failures, seen, stands_in}
+use Rattle.msr_tree.specs.Steps.{AtEachMoment, ChangesOnly, IsReady, Leaves, MayLeave, Path, Step, failures, seen, stands_in}
 use Rattle.msr_tree.specs.declared.tree.TreeFault.{TreeFault}
 use Rattle.msr_tree.specs.declared.tree.TreeFault.TheVariants.{Failed}
 use Rattle.msr_naming.specs.declared.files.DayFiles.{DayFiles}
-use Rattle.msr_naming.specs.Naming.{AreDayNames, IsOther}
+use Rattle.msr_naming.specs.Naming.{AreDayNames, IsOther, day_paths}
 
 -- Whatever the power leaves of a day when it is cut: records beside their own report, or beside none; a stamp beside the
 -- records and the report that it is of.
@@ -51,20 +51,23 @@ pub record GivesNames (files : DayFiles) (old new : List Step) : Type 0 where
 abbrev pub OverNothing : (files : DayFiles) → (is_own : (records report : List ℕ) → Bool) → List Step → Type 0
 OverNothing files is_own past = HaveOwnParts files is_own past × IsFree files past
 
--- A day that has its own before a call has it at each moment since, also if the power is cut then; and if the call succeeds,
--- this is done.
+-- A day that has its own before a call has it at each moment since, also if the power is cut then; if the call succeeds,
+-- this is done; no name that is not of the day leads elsewhere; and a failure is told only if a call has failed.
 pub record KeepsOwn (files : DayFiles) (before : (is_own : (records report : List ℕ) → Bool) → List Step → Type 0) (Done : (old new : List Step) → Type 0)
     (result : Result (Unit {0}) TreeFault) (old new : List Step) : Type 0 where
   pub safe : (is_own : (records report : List ℕ) → Bool) (is_of : (stamp records report : List ℕ) → Bool)
       → AreDayNames files → before is_own old → HasOwn is_own is_of files old → AtEachMoment (HasOwn is_own is_of files) old new
   pub done : OnOk result (AreDayNames files → Done old new)
+  pub changes : ChangesOnly (day_paths files) old new
+  pub cause : IsErrOf result Failed → failures old < failures new
 
--- Records that have their report before a call have it at each moment since, if the walk is killed then; and a failure is
--- told only if a call has failed.
+-- Records that have their report before a call have it at each moment since, if the walk is killed then; no name that is not
+-- of the day leads elsewhere; and a failure is told only if a call has failed.
 pub record KeepsIfKilled (files : DayFiles) (before : (is_own : (records report : List ℕ) → Bool) → List Step → Type 0)
     (result : Result (Unit {0}) TreeFault) (old new : List Step) : Type 0 where
   pub killed : (is_own : (records report : List ℕ) → Bool) → AreDayNames files → before is_own old → HasReport is_own files old
       → AtEachMoment (HasReport is_own files) old new
+  pub changes : ChangesOnly (day_paths files) old new
   pub cause : IsErrOf result Failed → failures old < failures new
 
 -- The stamp of a day is on the disk, beside its name, and the records and the report that it is of have theirs.
