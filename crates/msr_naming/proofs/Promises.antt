@@ -11,7 +11,7 @@ use Rattle.msr_naming.specs.declared.files.Name.TheVariants.{Records, RecordsPar
 use Rattle.msr_naming.specs.Naming.{AreDayNames, Performs, act_step}
 use Rattle.msr_naming.specs.Promise.{AreNamed, AreReady, GivesNames, HasOwn, HasReport, HaveOwnParts, IsFree, KeepsOwn, KeepsIfKilled, NamesStamps, OverNothing}
 use Rattle.msr_naming.proofs.Names.{no_records_left, no_stamp_left, not_renamed, ready_gone, ready_still, removed_settled}
-use Rattle.msr_naming.proofs.Changed.{only_named}
+use Rattle.msr_naming.proofs.Changed.{only_named, only_stamped}
 use Rattle.msr_naming.proofs.Kills as kill
 use Rattle.msr_naming.proofs.Order as order
 use Rattle.msr_naming.proofs.Plan.{does_some}
@@ -151,5 +151,6 @@ stamps_named out reports days result old new performs = record {
   safe = λ is_own is_of files s r p are stand one awaits whole has. does_some (HasOwn is_own is_of files) (order.fails is_own is_of files) (FolderStored out ∷ FolderStored reports ∷ map stamping days) old new performs.some
       (stamping_all is_own is_of files are out reports stand s r p whole days old one awaits has);
   done = when_ok result (λ is. λ files s are one ready. ap (λ (l : List Step). seen l files.stamp.path) is ∙ stamped files out reports s days old one ready) performs.all;
+  changes = only_stamped out reports days old new performs.some;
   cause = performs.cause;
 }

@@ -1,5 +1,5 @@
 -- What is promised of the files that are made of a day.
-use Rattle.std.specs.Prelude.{◌<◌, ◌≡◌, ℕ, Bool, true, List, ◌∷◌, ◌++◌, Option, None, Some, IfSome, IsSomeAnd, OnOk, IsErrOf, Result}
+use Rattle.std.specs.Prelude.{◌<◌, ◌≡◌, ℕ, Bool, true, List, [], ◌∷◌, ◌++◌, Option, None, Some, IfSome, IsSomeAnd, OnOk, IsErrOf, Result}
 use Rattle.std.specs.List.{AllByRecursion}
 use Rattle.msr_tree.specs.Steps.{AtEachMoment, ChangesOnly, IsReady, Leaves, MayLeave, Path, Step, failures, seen, stands_in}
 use Rattle.msr_tree.specs.declared.tree.TreeFault.{TreeFault}
@@ -92,7 +92,13 @@ pub record IsOneOf (files : DayFiles) (days : List DayFiles) : Type 0 where
   pub others_before : AreOthers files before
   pub others_after : AreOthers files after
 
--- The stamps of days get their names: each of these days that has its own before has it at each moment since.
+-- the names of the stamps of days, with those beside them
+abbrev pub stamp_paths : List DayFiles → List Path
+stamp_paths [] = []
+stamp_paths (files ∷ days) = files.stamp.path ∷ files.stamp.part ∷ stamp_paths days
+
+-- The stamps of days get their names, and no other name changes: each of these days that has its own before has it at each
+-- moment since.
 pub record NamesStamps (out reports : Path) (days : List DayFiles) (result : Result (Unit {0}) TreeFault) (old new : List Step) : Type 0 where
   pub safe : (is_own : (records report : List ℕ) → Bool) (is_of : (stamp records report : List ℕ) → Bool)
       (files : DayFiles) (stamp records report : List ℕ) → AreDayNames files → StandInFolders out reports files → IsOneOf files days
@@ -100,4 +106,5 @@ pub record NamesStamps (out reports : Path) (days : List DayFiles) (result : Res
       → HasOwn is_own is_of files old → AtEachMoment (HasOwn is_own is_of files) old new
   pub done : OnOk result ((files : DayFiles) (stamp : List ℕ) → AreDayNames files → IsOneOf files days
       → IsReady files.stamp.part stamp old → seen new files.stamp.path ≡ Some stamp)
+  pub changes : ChangesOnly (stamp_paths days) old new
   pub cause : IsErrOf result Failed → failures old < failures new

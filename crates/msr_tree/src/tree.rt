@@ -39,7 +39,7 @@ pub trait Tree {
     type Reader: Source + Drop;
 
     /// A file that is being made.
-    type Writer: Sink;
+    type Writer: Sink + Drop;
 
     /// The steps so far may be these, the last one first. A tree of which no steps are known may have none.
     ghost went: { Self → List Step → Type 0 };
