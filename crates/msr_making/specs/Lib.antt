@@ -1,0 +1,3 @@
+pub mod Day
+pub mod Faults
+pub mod Parts
