@@ -6,6 +6,8 @@ use Rattle.msr_tree.specs.declared.tree.TreeFault.TheVariants.{Memory}
 use Rattle.msr_making.specs.declared.fault.MakeFault.{MakeFault}
 use Rattle.msr_making.specs.declared.fault.MakeFault.TheVariants.{Call, Tool}
 use Rattle.msr_making.specs.declared.fault.Undone.{Undone}
+use Rattle.msr_naming.specs.Naming as naming
+use Rattle.msr_naming.specs.declared.naming.Stopped.{Stopped}
 
 -- what a call of the tree told
 abbrev pub told : {T : Type 0} → Result T Undone → Result T TreeFault
@@ -26,3 +28,7 @@ abbrev pub IfNotRepacked : {T : Type 0} → (ToolFault → Type 0) → Result T 
 IfNotRepacked P (Ok x) = Unit {0}
 IfNotRepacked P (Err (Call undone)) = Unit {0}
 IfNotRepacked P (Err (Tool fault)) = P fault
+
+-- what a call told by which a day's files were to get their names
+abbrev pub stopped_told : Result (Unit {0}) Stopped → Result (Unit {0}) TreeFault
+stopped_told result = naming.told result

@@ -1,3 +1,4 @@
 pub mod Day
 pub mod Faults
+pub mod Keeping
 pub mod Parts

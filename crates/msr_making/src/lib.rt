@@ -3,7 +3,9 @@
 
 mod day;
 mod fault;
+mod keeping;
 mod parts;
 
 pub use day::write_day;
+pub use keeping::keep_day;
 pub use fault::{MakeFault, Undone};
