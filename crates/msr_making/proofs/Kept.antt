@@ -40,7 +40,7 @@ module _ (files : DayFiles) (names : List Path) (none : AreNone files names) (ol
         (may_kept names files.records.path old new records none.records changes mr) (may_kept names files.report.path old new report none.report changes mp);
   }
 
-  free_kept : IsFree files old → IsFree files new
+  pub free_kept : IsFree files old → IsFree files new
   free_kept free = record {
     records = leaves_kept names files.records.path _ old new none.records changes free.records;
     report = leaves_kept names files.report.path _ old new none.report changes free.report;
@@ -53,10 +53,10 @@ own_each : (files : DayFiles) (names : List Path) → AreNone files names → (o
 own_each files names none old new changes is_own is_of has =
     each_by_changes (HasOwn is_own is_of files) names old (λ past so_far. own_kept files names none old past so_far is_own is_of has) new changes
 
-none_empty : (files : DayFiles) → AreNone files []
+pub none_empty : (files : DayFiles) → AreNone files []
 none_empty files = record { records = tt; report = tt; stamp = tt }
 
-none_parts : (files : DayFiles) → AreDayNames files → AreNone files (part_paths files)
+pub none_parts : (files : DayFiles) → AreDayNames files → AreNone files (part_paths files)
 none_parts files are = record {
   records = (are.apart Records RecordsPart refl, (are.apart Records ReportPart refl, tt));
   report = (are.apart report_name RecordsPart refl, (are.apart report_name ReportPart refl, tt));
@@ -64,7 +64,7 @@ none_parts files are = record {
 }
 
 -- parts are names of the day
-more_parts : (files : DayFiles) (name : Path) → IsNoneOf name (day_paths files) → IsNoneOf name (part_paths files)
+pub more_parts : (files : DayFiles) (name : Path) → IsNoneOf name (day_paths files) → IsNoneOf name (part_paths files)
 more_parts files name none = (none.1.0, (none.1.1.1.0, tt))
 
 module _ (files : DayFiles) (result : Result (Unit {0}) TreeFault) (old new : List Step) where

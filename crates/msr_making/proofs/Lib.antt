@@ -1,3 +1,4 @@
 pub mod Kept
+pub mod Killed
 pub mod Making
 pub mod Written

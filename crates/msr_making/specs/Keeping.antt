@@ -6,7 +6,7 @@ use Rattle.msr_tool.specs.Tasks.{IsReported}
 use Rattle.msr_tree.specs.Steps.{AtEachMoment, ChangesOnly, Path, Step, failures, seen}
 use Rattle.msr_tree.specs.declared.tree.TreeFault.TheVariants.{Failed}
 use Rattle.msr_naming.specs.Naming.{AreDayNames, day_paths}
-use Rattle.msr_naming.specs.Promise.{AreNamed, GivesNames, HasOwn, HaveOwnParts, IsFree}
+use Rattle.msr_naming.specs.Promise.{AreNamed, GivesNames, HasOwn, HasReport, HaveOwnParts, IsFree}
 use Rattle.msr_naming.specs.declared.files.DayFiles.{DayFiles}
 use Rattle.msr_making.specs.Day.{IfSeen, IsNotRepacked}
 use Rattle.msr_making.specs.Faults.{IfNotRepacked, call_told}
@@ -58,5 +58,12 @@ pub record KeepsDay (input : Path) (files : DayFiles) (choice : Choice) (is_free
       → AtEachMoment (HasOwn is_own is_of files) old new
   pub done : IfOk result (λ report. AreDayNames files → IsFreeIf is_free files old → IfSeen input old (λ bytes. IsKeptAs files choice bytes new report))
   pub refused : IfNotRepacked (λ fault. IfSeen input old (λ bytes. IsNotRepacked choice bytes fault)) result
+  pub changes : ChangesOnly (day_paths files) old new
+  pub cause : IsErrOf (call_told result) Failed → failures old < failures new
+
+-- Records that have their report before have it at each moment since, if the walk is killed then.
+pub record KeepsDayIfKilled (input : Path) (files : DayFiles) (choice : Choice) (is_free : Bool) (result : Result Report MakeFault) (old new : List Step) : Type 0 where
+  pub killed : (is_own : (records report : List ℕ) → Bool) → AreDayNames files → IsOwnOfFile input choice is_own old → IsFreeIf is_free files old
+      → HasReport is_own files old → AtEachMoment (HasReport is_own files) old new
   pub changes : ChangesOnly (day_paths files) old new
   pub cause : IsErrOf (call_told result) Failed → failures old < failures new

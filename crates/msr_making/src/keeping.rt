@@ -1,9 +1,9 @@
 //! What is made of a day's file is kept under the day's names.
 ghost use Rattle.std.specs.Prelude.{◌≡◌};
 ghost use Rattle.msr_tree.specs.Calls.{Goes};
-ghost use Rattle.msr_naming.specs.Promise.{KeepsOwn};
+ghost use Rattle.msr_naming.specs.Promise.{KeepsIfKilled, KeepsOwn};
 ghost use Rattle.msr_making.specs.Faults.{stopped_told, told};
-ghost use Rattle.msr_making.specs.Keeping.{KeepsDay, NamesIf, NamesSeenIf, OwnPartsIf, SeenPartsIf};
+ghost use Rattle.msr_making.specs.Keeping.{KeepsDay, KeepsDayIfKilled, NamesIf, NamesSeenIf, OwnPartsIf, SeenPartsIf};
 
 use crate::day::write_day;
 use crate::fault::{MakeFault, Undone};
@@ -38,8 +38,10 @@ fn on_side(answer: Result<(), Stopped>) -> Result<(), Undone>
 
 /// Records and report get their names, where nothing has these, or perhaps older files.
 fn name<T: Tree>(tree: &mut T, files: &DayFiles, is_free: bool) -> Result<(), Stopped>
-    ensures { Goes (T.went tree.old) (T.went tree.new)
+    ensures safe { Goes (T.went tree.old) (T.went tree.new)
         (KeepsOwn files.now (OwnPartsIf is_free files.now) (NamesIf is_free files.now) (stopped_told result)) }
+    ensures killed { Goes (T.went tree.old) (T.went tree.new)
+        (KeepsIfKilled files.now (OwnPartsIf is_free files.now) (stopped_told result)) }
 {
     if is_free {
         name_new_day(tree, files)
@@ -50,8 +52,10 @@ fn name<T: Tree>(tree: &mut T, files: &DayFiles, is_free: bool) -> Result<(), St
 
 /// The same, once they are on the disk.
 fn store_and_name<T: Tree>(tree: &mut T, files: &DayFiles, is_free: bool) -> Result<(), Undone>
-    ensures { Goes (T.went tree.old) (T.went tree.new)
+    ensures safe { Goes (T.went tree.old) (T.went tree.new)
         (KeepsOwn files.now (SeenPartsIf is_free files.now) (NamesSeenIf is_free files.now) (told result)) }
+    ensures killed { Goes (T.went tree.old) (T.went tree.new)
+        (KeepsIfKilled files.now (SeenPartsIf is_free files.now) (told result)) }
 {
     store(tree, files)?;
     on_side(name(tree, files, is_free))
@@ -67,7 +71,8 @@ pub fn keep_day<T: Tree>(
     is_free: bool,
     options: Options,
 ) -> Result<Report, MakeFault>
-    ensures { Goes (T.went tree.old) (T.went tree.new) (KeepsDay input.now files.now options is_free result) }
+    ensures safe { Goes (T.went tree.old) (T.went tree.new) (KeepsDay input.now files.now options is_free result) }
+    ensures killed { Goes (T.went tree.old) (T.went tree.new) (KeepsDayIfKilled input.now files.now options is_free result) }
 {
     let report = write_day(tree, alloc, input, files, options)?;
     store_and_name(tree, files, is_free)?;
