@@ -24,7 +24,7 @@ COMMANDS = {
     "check": ((), (2, 2)),
     "compare": (("--tolerance",), (2, 2)),
     "archive": (("--length", "--no-int24", "--tolerance", "--strict", "--below", *OF_DAYS), (3, 3)),
-    "verify": (("--below",), (3, 3)),
+    "verify": (("--quiet", "--json", "--below"), (3, 3)),
     "replace": (OF_ORIGINALS, (4, 4)),
 }
 # The options that have a value; of a number the least and the greatest.
@@ -33,7 +33,7 @@ WALKS = ("archive", "verify", "replace")
 LENGTHS = [2**exponent for exponent in range(8, 17)]
 HINT_OF_LENGTHS = b"hint: msrepack writes records of %d, %d, %d, %d, %d, %d, %d, %d or %d bytes\n" % tuple(LENGTHS)
 
-OF_TASK = "command names length kinds tolerance strict json below resume check only_smaller bytes"
+OF_TASK = "command names length kinds tolerance strict json quiet below resume check only_smaller bytes"
 Task = namedtuple("Task", f"{OF_TASK} aside undo older_than touch int24")
 Device = namedtuple("Device", "most fails")
 # What a run is given beside its words.
@@ -149,9 +149,10 @@ def read_words(words):
     kinds = model.WITHOUT_INT24 if "--no-int24" in chosen else model.KINDS
     flags = [option in chosen for option in OF_DAYS]
     tolerance, strict, json = chosen.get("--tolerance", 1000), "--strict" in chosen, "--json" in chosen
+    quiet = "--quiet" in chosen
     aside = names.pop() if command == "replace" else None
     of_originals = "--undo" in chosen, chosen.get("--older-than", 7), "--touch" in chosen, "--int24" in chosen
-    return Task(command, names, length, kinds, tolerance, strict, json, below, *flags, aside, *of_originals)
+    return Task(command, names, length, kinds, tolerance, strict, json, quiet, below, *flags, aside, *of_originals)
 
 
 # Files and streams.

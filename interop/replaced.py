@@ -63,9 +63,9 @@ class Replacement(Verification):
             return "same"
         return self.replaced(path, file, records) if word == "verified" else word
 
-    def told(self, word, path):
+    def told(self, word, path, why=None, reason=None):
         word, *sizes = word.split()
-        line = super().told(word, path)
+        line = super().told(word, path, why, reason)
         if word == "replaced":
             self.bytes = [sum(pair) for pair in zip(self.bytes, map(int, sizes))]
         return f"{line} bytes {' '.join(sizes)}" if sizes else line

@@ -113,6 +113,30 @@ def overlap(folders):
     return False
 
 
+def json_text(text):
+    """A text in a string of JSON: a quote or a backslash after a backslash, a control character by its number."""
+    return re.sub(r"[\x00-\x1f\x7f]", lambda found: f"\\u{ord(found[0]):04x}", re.sub(r'(["\\])', r"\\\1", text))
+
+
+def reason_of(why):
+    """Why a file cannot be opened, or a folder listed."""
+    return f"{why.strerror} (os error {why.errno})" if why.errno else str(why)
+
+
+def json_line(word, path, why, reason):
+    """The object of an entry. A refusal tells whose fault it is, and where it is, as far as its text says so."""
+    members = [f'"what":"{word}"', f'"path":"{json_text(path)}"']
+    if word == "refused":
+        side = re.match(r"(file|records|report): ", why)
+        members += [f'"side":"{side[1]}"'] if side else []
+        line, place = re.search(r"report: line (\d+)$", why), re.search(r"offset (\d+): (\d+) (\w+)( \d+)?$", why)
+        members += [f'"line":{line[1]}'] if line else []
+        members += [f'"offset":{place[1]}', f'"number":{place[2]}', f'"name":"{place[3]}"'] if place else []
+        members += [f'"value":{place[4].strip()}'] if place and place[4] else []
+    members += [f'"{name}":"{json_text(told)}"' for name, told in (("text", why), ("reason", reason)) if told]
+    return "{" + ",".join(members) + "}"
+
+
 def skipped(path):
     """Why a path is that of no day of waveform data."""
     fields = DAY_PATH.fullmatch(path)
@@ -158,7 +182,7 @@ class Walk:
             names = NAMES[odd.names]
             os.stat(top)
         else:
-            raise OSError
+            raise OSError("permission denied" if odd.names == "closed" else "other error")
         return [name.decode() for name in sorted(names)]
 
     def folder(self, path):
@@ -447,17 +471,23 @@ class Verification:
         self.sums = dict.fromkeys(self.SUMS, 0)
 
     def lines(self):
+        yield from filter(None, self.entries_told())
+        if self.task.json:
+            yield '{"what":"files",' + ",".join(f'"{word}":{count}' for word, count in self.sums.items()) + "}"
+        else:
+            yield " ".join(f"{word} {count}" for word, count in self.sums.items())
+
+    def entries_told(self):
         tops = self.task.below or [""]
         for top in tops:
-            for path, why in self.entries(self.root, top, "listing", "file: cannot open"):
-                yield self.refused(path, why) if why else self.entry(path)
+            for path, *why in self.entries(self.root, top, "listing", "file: cannot open"):
+                yield self.refused(path, *why) if why else self.entry(path)
         for top in tops:
-            for path, why in self.entries(self.out, top, "records: listing", None):
+            for path, *why in self.entries(self.out, top, "records: listing", None):
                 if why:
-                    yield self.refused(path, why)
+                    yield self.refused(path, *why)
                 elif not skipped(path) and self.is_not_there(f"{self.root}/{path}"):
                     yield self.told("orphan", path)
-        yield " ".join(f"{word} {count}" for word, count in self.sums.items())
 
     def is_to_be_looked_at(self):
         """What is neither verified nor skipped; the whole archive has to have a day."""
@@ -466,35 +496,44 @@ class Verification:
     def has_no_day(self):
         return not self.task.below and all(word == "skipped" or not count for word, count in self.sums.items())
 
-    def told(self, word, path):
+    def told(self, word, path, why=None, reason=None):
+        """The line of an entry, or None if it is left out."""
         self.sums["files" if word == "verified" else word] += 1
-        return f"{word} {in_one_line(path)}"
+        if self.task.quiet and word in ("verified", "skipped"):
+            return None
+        if self.task.json:
+            return json_line(word, path, why, reason)
+        return f"{word} {in_one_line(path)}" + (f": {why}" if why else "")
 
-    def refused(self, path, why):
-        return f"{self.told('refused', path)}: {why}"
+    def refused(self, path, why, reason=None):
+        return self.told("refused", path, why, reason)
 
     def entries(self, top, path, unlisted, gone):
-        """The paths of what is no folder of the walk; or of one that has no list, or of what is gone, and why."""
+        """The paths of what is no folder of the walk; or of one that has no list, or of what is gone, why it is told, and of
+        the first the reason."""
         place = f"{top}/{path}" if path else top
         if unlisted != "listing" and self.is_not_there(place):
             return
         try:
             names = Walk.names_in(place, self.odd)
-        except (OSError, UnicodeDecodeError):
-            yield path or ".", unlisted
+        except UnicodeDecodeError:
+            yield path or ".", unlisted, "invalid filename"
+            return
+        except OSError as why:
+            yield path or ".", unlisted, reason_of(why)
             return
         for name in names:
             below = f"{path}/{name}" if path else name
             place = f"{top}/{below}"
             try:
                 told = found(place) if below.count("/") < 4 else True
-            except OSError:
-                yield below, unlisted
+            except OSError as why:
+                yield below, unlisted, reason_of(why)
                 continue
             if told is not True and told and stat.S_ISDIR(told.st_mode):
                 yield from self.entries(top, below, unlisted, gone)
             elif told or os.path.lexists(place):
-                yield below, None
+                yield (below,)
             elif gone:
                 yield below, gone
 
@@ -510,11 +549,11 @@ class Verification:
     def entry(self, path):
         why = skipped(path)
         if why:
-            return f"{self.told('skipped', path)}: {why}"
+            return self.told("skipped", path, why)
         try:
             return self.told(self.found_of(*(f"{top}/{path}" for top in (self.root, self.out, self.reports))), path)
         except NotDone as why:
-            return self.refused(path, why)
+            return self.refused(path, *why.args)
 
     def found_of(self, file, records, report):
         """What is told of a day. All of its files are opened first; then the report is judged, and then the records, read
@@ -545,10 +584,10 @@ class Verification:
         """The bytes of a regular file; None if reading fails."""
         try:
             if not stat.S_ISREG(os.stat(path).st_mode):
-                raise OSError
+                raise OSError("not a regular file")
             file = os.open(path, os.O_RDONLY)
-        except OSError:
-            raise NotDone(f"{which}: cannot open") from None
+        except OSError as why:
+            raise NotDone(f"{which}: cannot open", reason_of(why)) from None
         return read_to_end(file)
 
     @staticmethod

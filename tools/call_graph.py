@@ -17,7 +17,7 @@ ROOT = os.path.dirname(os.path.dirname(os.path.abspath(__file__)))
 PROGRAM = "msr_program"
 # What is no name: comments, texts, characters.
 OPAQUE = re.compile(r"(?s)//[^\n]*|/\*.*?\*/|b?\"(?:\\.|[^\"\\])*\"|b?'(?:\\[^']+|[^'\\])'")
-CONTRACT = re.compile(r"(?s).*?(?=\n *\{|;\n| \{\n|\Z)")
+CONTRACT = re.compile(r"(?s).*?(?=\n *\{|;\n| \{\}?\n|\Z)")
 USE = re.compile(r"(?m)^(?:pub(?:\(crate\))? )?use ([^;]+);")
 DECLARED = re.compile(r"(?ms)^(?:pub(?:\(crate\))? )?(?:struct|enum|trait|type) (\w+).*?(?:^\}|;$)")
 FIELD = re.compile(r"(?m)^    (?:pub(?:\(crate\))? )?(\w+): (.*?),?$")

@@ -3,9 +3,10 @@
 A path is as the line has it, below ROOT, with a control character as `%` and its number. Bytes are None unless `archive`
 was asked for them.
 """
+import json
 import re
 from dataclasses import dataclass
-from typing import Callable, ClassVar, Dict, Optional, Tuple, Union
+from typing import Callable, ClassVar, Dict, Optional, Tuple, Union, cast
 
 from msrepack.errors import FAULT, refusal
 
@@ -137,7 +138,7 @@ class Refused:
     """A file or a folder that was refused, and why.
 
     `of` is `report`, `records` or `file` if `verify` tells of which the text is. `offset`, `number`, `name` and `value`
-    are those of a record that is refused, else None.
+    are those of a record that is refused, else None. `reason` is that of the system, if `verify` tells one.
 
     >>> refused = parse("refused 2020/XX/TEST/BHN.D/XX.TEST.00.BHN.D.2020.001: records: offset 512: 15 OtherEncoding 4")
     >>> refused.of, refused.offset, refused.number, refused.name, refused.value
@@ -147,6 +148,7 @@ class Refused:
     path: str
     text: str
     of: Optional[str] = None
+    reason: Optional[str] = None
 
     @property
     def offset(self) -> Optional[int]:
@@ -306,3 +308,23 @@ def parse(line: str) -> Line:
         if found:
             return make(*found.groups())
     raise ValueError(f"no line of archive or verify: {line.rstrip()}")
+
+
+def parse_object(text: str) -> VerifyLine:
+    """The line of `verify` that an object of `verify --json` tells.
+
+    >>> parse_object('{"what":"refused","path":"2020","side":"records","text":"records: listing"}')
+    Refused(path='2020', text='listing', of='records', reason=None)
+    """
+    members = json.loads(text)
+    what = members.pop("what")
+    if what == "files":
+        return VerifyTotals(**members)
+    path = re.sub("[\\x00-\\x1f\\x7f]", lambda found: f"%{ord(found[0]):02x}", members["path"])
+    if what == "skipped":
+        return Skipped(path, members["text"])
+    if what == "refused":
+        side = members.get("side")
+        told = members["text"][len(f"{side}: ") if side else 0 :]
+        return Refused(path, told, side, members.get("reason"))
+    return cast(VerifyLine, NAMED[what](path))

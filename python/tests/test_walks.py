@@ -191,6 +191,7 @@ class Verify(Walks):
             ("report", "cannot open", None), ("records", "the file itself", None), ("records", "listing", None),
         ]
         self.assertEqual(told, wanted)
+        self.assertEqual([line.reason for line in refused], [None] * 3 + ["not a regular file", None, "invalid filename"])
 
     def change(self, path, how):
         content = how(read(path))

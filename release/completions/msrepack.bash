@@ -8,7 +8,7 @@ _msrepack() {
         check) words='--help' ;;
         compare) words='--tolerance --help' ;;
         archive) words='--length --no-int24 --tolerance --strict --below --resume --check --only-smaller --bytes --help' ;;
-        verify) words='--below --help' ;;
+        verify) words='--quiet --json --below --help' ;;
         replace) words='--undo --below --only-smaller --older-than --touch --int24 --help' ;;
     esac
     if [ "$COMP_CWORD" -eq 1 ]; then

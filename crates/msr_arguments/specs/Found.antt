@@ -22,6 +22,7 @@ use Rattle.msr_options.specs.declared.task.Replacing.{Replacing}
 use Rattle.msr_options.specs.declared.task.Task.{Task}
 use Rattle.msr_options.specs.declared.task.Task.TheVariants.{Repack, List as Listing, Check, Compare, Archive, Verify, Replace, Feed}
 use Rattle.msr_options.specs.declared.task.Verifying.{Verifying}
+use Rattle.msr_options.specs.declared.telling.Telling.{Telling}
 
 -- the number of 32 bits that a text is in decimal digits, with or without a plus before them; `None` if there is no
 -- text, or it is no such number
@@ -39,7 +40,7 @@ abbrev pub IsKindsOf : (text : Option (List ℕ)) → (kinds : Kinds) → Type 0
 IsKindsOf None kinds = kinds ≡ All
 IsKindsOf (Some text) kinds = (text ≡ codes "true" → kinds ≡ WithoutInt24) × (text ≡ codes "false" → kinds ≡ All)
 
--- the form of a list, by the text of the flag that asks for JSON
+-- the form of lines, by the text of the flag that asks for JSON
 abbrev pub IsFormOf : (text : Option (List ℕ)) → (form : ListForm) → Type 0
 IsFormOf None form = form ≡ Words
 IsFormOf (Some text) form = (text ≡ codes "true" → form ≡ Json) × (text ≡ codes "false" → form ≡ Words)
@@ -105,10 +106,16 @@ pub record AsksArchive (found : Found) (asked : Archiving) : Type 0 where
   pub below : AsksBelow found (map (λ folder. folder.now) asked.below.items)
   pub days : AsksDays found asked.days
 
+-- lines are to be told as was found
+pub record AsksTelling (found : Found) (telling : Telling) : Type 0 where
+  pub quiet : IsFlagOf (one_text found (codes "quiet")) telling.quiet
+  pub form : IsFormOf (one_text found (codes "json")) telling.form
+
 -- the repack of an archive is to be verified as was found
 pub record AsksVerify (found : Found) (asked : Verifying) : Type 0 where
   pub folders : AsksFolders found asked.folders
   pub below : AsksBelow found (map (λ folder. folder.now) asked.below.items)
+  pub telling : AsksTelling found asked.telling
 
 -- the flags for originals are those that were found
 pub record AsksPlaces (found : Found) (asked : Replacing) : Type 0 where

@@ -256,8 +256,10 @@ Status 0 if all is verified or skipped, else 1, also if all of ROOT is walked an
 day of waveform data; 2 if the command line is wrong.",
     after: "Examples:
   msrepack verify sds packed reports > log.txt
-  msrepack verify --below 2020/XX sds packed reports | grep -v ^verified",
+  msrepack verify --quiet --below 2020/XX sds packed reports",
     arguments: &[
+        QUIET,
+        LINES_JSON,
         BELOW,
         ROOT,
         Argument::File("OUT", "The folder of the records"),
@@ -443,6 +445,24 @@ const JSON: Argument = Argument::Flag(
     "Print each line as an object of JSON (JSON Lines): times in ISO 8601, names without the
 spaces at their ends, why each segment began, and, if the one before it has the same
 name, how many microseconds after that one's next sample it begins",
+);
+
+const QUIET: Argument = Argument::Flag(
+    "quiet",
+    "Print only what is to be looked at, and the counts",
+    "Print only what is to be looked at, and the counts: the lines `verified` and `skipped`
+are left out. Counts and status are as without it",
+);
+
+const LINES_JSON: Argument = Argument::Flag(
+    "json",
+    "Print each line as an object of JSON",
+    "Print each line as an object of JSON (JSON Lines): `what`, its first word, and `path`,
+which is the name itself. A refusal and what is skipped have `text` too, what stands
+after the path in words, and before it `side`, that is file, records or report, with
+`offset`, `number`, `name` and `value` of a fault of a record, or `line` of one of the
+report, as far as there are these; last `reason`, the system's, if it gave one. The last
+object has the counts",
 );
 
 const STRICT: Argument = Argument::Flag(

@@ -2,7 +2,7 @@
 ghost use Rattle.std.specs.Prelude.{◌≡◌, ◌≢◌, ◌<◌, ◌≤◌, ◌↔◌, ℕ, length, codes, false, slice_get, Some, IfOk, IfErr, IfSome, IsSome, IsSomeAnd, IsOk, IsOkAnd, IsErrAnd, IsTrue, Ok, Err, Any, drop, map, option_map, true};
 ghost use Rattle.msr_kinds.specs.RecordLength.{IsRecordLength};
 ghost use Rattle.clap.specs.Words.{first_value, found_of, kind_of, one_text};
-ghost use Rattle.msr_arguments.specs.Found.{AsksArchive, AsksBelow, AsksCheck, AsksDays, AsksFolders, AsksOptions, AsksPlaces, AsksReplace, AsksTask, AsksVerify, EndsFor, EndsWith, IsBadLine, IsFlagOf, IsFormOf, IsKindsOf, IsLengthOf, IsNumberOf, IsToldByClap, IsWrong, length_in, line_fault_text, without_slash};
+ghost use Rattle.msr_arguments.specs.Found.{AsksArchive, AsksBelow, AsksCheck, AsksDays, AsksFolders, AsksOptions, AsksPlaces, AsksReplace, AsksTask, AsksTelling, AsksVerify, EndsFor, EndsWith, IsBadLine, IsFlagOf, IsFormOf, IsKindsOf, IsLengthOf, IsNumberOf, IsToldByClap, IsWrong, length_in, line_fault_text, without_slash};
 ghost use Rattle.msr_arguments.specs.Rules.{IsFoundFor, HasNeeded, HoldsDays, HoldsTolerance, folder_rules};
 ghost use Rattle.msr_options.specs.Asked.{AsksAlone, HasStatus, ask_help};
 ghost use Rattle.msr_options.specs.Tasks.{AreApart, AreBothStandard, HasTolerance, IsDefault, IsTolerance, KeepsInput, KeepsOriginals, Overlap, StandApart, verb_of, word_of};
@@ -13,7 +13,7 @@ use clap::error::ErrorKind;
 use msr_kinds::{Kinds, Length};
 use msr_options::{
     Archiving, Checking, Comparing, DayOptions, Ending, Feeding, Folders, ListForm, Listing,
-    NoTask, Options, Repacking, Replacing, Task, Verb, Verifying, overlap,
+    NoTask, Options, Repacking, Replacing, Task, Telling, Verb, Verifying, overlap,
 };
 use msr_sds::levels_below;
 use std::alloc::{AllocError, Global};
@@ -239,12 +239,22 @@ fn archiving_in<'a>(alloc: Global, found: &ArgMatches<'a>) -> Result<Task<'a>, L
     ensures kept { IfOk result (λ task. HasTolerance task × KeepsInput task) }
 {
     let days = days_in(found)?;
-    let Verifying { folders, below } = verifying_in(alloc, found)?;
+    let Verifying { folders, below, .. } = verifying_in(alloc, found)?;
     Ok(Task::Archive(Archiving {
         folders,
         below,
         days,
     }))
+}
+
+/// How lines are to be told, as clap found it.
+fn telling_in(found: &ArgMatches<'_>) -> Telling
+    ensures { AsksTelling (found_of found.now) result }
+{
+    Telling {
+        form: ListForm::asked(flag_in(found, "json")),
+        quiet: flag_in(found, "quiet"),
+    }
 }
 
 /// The archive that clap found, whose repack is to be verified.
@@ -261,7 +271,11 @@ fn verifying_in<'a>(alloc: Global, found: &ArgMatches<'a>) -> Result<Verifying<'
     if !folders.stand_apart() {
         return Err(LineFault::Overlap);
     }
-    Ok(Verifying { folders, below })
+    Ok(Verifying {
+        folders,
+        below,
+        telling: telling_in(found),
+    })
 }
 
 /// For how many days files have to be unchanged.
@@ -278,7 +292,7 @@ fn replacing_in<'a>(alloc: Global, found: &ArgMatches<'a>) -> Result<Task<'a>, L
     ensures asked { IfOk result (λ task. (verb_of task ≡ Verb.Replace) × AsksTask (found_of found.now) task) }
     ensures kept { IfOk result (λ task. HasTolerance task × KeepsInput task) }
 {
-    let Verifying { folders, below } = verifying_in(alloc, found)?;
+    let Verifying { folders, below, .. } = verifying_in(alloc, found)?;
     let aside = file_in(found, "ASIDE");
     if !folders.are_apart_from(aside) {
         return Err(LineFault::Overlap);

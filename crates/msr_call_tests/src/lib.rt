@@ -6,6 +6,8 @@
 #[cfg(test)]
 mod devices;
 #[cfg(test)]
+mod exchanging;
+#[cfg(test)]
 mod facts;
 #[cfg(test)]
 mod fixtures;

@@ -19,7 +19,8 @@ use Rattle.msr_walk.specs.Entries.{IsEntry, IsEntryLine}
 use Rattle.msr_walk.specs.Walk.{Walks, summary}
 use Rattle.msr_walk.specs.declared.folders.Walked.{Walked}
 use Rattle.msr_walk.proofs.EntriesTold.{none_told, stops_entries, walk_stops}
-use Rattle.msr_verify.specs.Entries.{IsJudgedEntry, IsJudgedEntryLine}
+use Rattle.msr_verify.specs.Entries.{IsJudgedEntry}
+use Rattle.msr_verify.specs.Lines.{IsToldLine}
 use Rattle.msr_verify.specs.Walk.{Verifies, judged_summary}
 use Rattle.msr_verify.proofs.EntriesFound.{none_told as none_found, stops_entries as stops_found, walk_stops as verifying_stops}
 use Rattle.msr_replace.specs.Entries.{IsExchangeEntry, IsExchangeEntryLine}
@@ -235,7 +236,7 @@ archive_unbegun asked out stop (inr refused) = rw refused (archive_stops asked o
     (walk_stops asked.days out out device_fault.Memory
     (stops_entries asked.days out out device_fault.Memory (none_told asked.days out))))
 
-pub verify_done : (asked : Verifying) (out0 out : Device) (found : WalkFound) → Verifies out0 out (Ok found) →
+pub verify_done : (asked : Verifying) (out0 out : Device) (found : WalkFound) → Verifies asked.telling out0 out (Ok found) →
     VerifiesArchive asked out0 out (Ok (done_of_verifying (is_whole (vec_len asked.below)) found))
 verify_done asked out0 out found does = record {
   printed = does.printed;
@@ -243,7 +244,7 @@ verify_done asked out0 out found does = record {
   ends = record { found = found; walk = does.ends; is = refl };
 }
 
-pub verify_stops : (asked : Verifying) (out0 out : Device) (why : ToolFault) → Verifies out0 out (Err why) →
+pub verify_stops : (asked : Verifying) (out0 out : Device) (why : ToolFault) → Verifies asked.telling out0 out (Err why) →
     VerifiesArchive asked out0 out (Err (Tool why))
 verify_stops asked out0 out why does = record { printed = does.printed; prints = does.prints; ends = inl does.ends }
 
@@ -252,8 +253,8 @@ pub verify_unbegun : (asked : Verifying) (out : Device) (stop : TaskFault) → I
 verify_unbegun asked out stop (inl overlap) = rw overlap
     (record { printed = []; prints = takes_none out; ends = inr (inl refl, refl) })
 verify_unbegun asked out stop (inr refused) = rw refused (verify_stops asked out out fault.Memory
-    (verifying_stops out out device_fault.Memory
-    (stops_found out out device_fault.Memory (none_found out))))
+    (verifying_stops asked.telling out out device_fault.Memory
+    (stops_found asked.telling out out device_fault.Memory (none_found asked.telling out))))
 
 -- the days of an archive were not replaced, nor was anything printed
 
@@ -368,7 +369,7 @@ task_unsettled (Archive asked) standard out0 out done does =
     }
 task_unsettled (Verify asked) standard out0 out done does =
     let P : List ℕ → Type 0 = λ text.
-    IsWalk IsJudgedEntry IsJudgedEntryLine judged_summary text does.ends.walk.0 in
+    IsWalk IsJudgedEntry (IsToldLine asked.telling) (judged_summary asked.telling.form) text does.ends.walk.0 in
     record {
       printed = does.printed;
       prints = does.prints;

@@ -261,8 +261,8 @@ pub record WalksArchive (asked : Archiving) (out0 out : Device) (result : Result
 
 abbrev pub VerifyEnds : Verifying → (printed : List ℕ) → Result Done TaskFault → Type 0
 VerifyEnds asked printed result =
-    Ends (IsEndOf (done_of_verifying (is_whole (vec_len asked.below))) (λ found. VerifyingEnds printed (Ok found)))
-    (λ stop. stop ≡ Overlap) (λ fault. VerifyingEnds printed (Err fault)) printed result
+    Ends (IsEndOf (done_of_verifying (is_whole (vec_len asked.below))) (λ found. VerifyingEnds asked.telling printed (Ok found)))
+    (λ stop. stop ≡ Overlap) (λ fault. VerifyingEnds asked.telling printed (Err fault)) printed result
 
 -- Verifying the repack of an archive, and what was printed.
 pub record VerifiesArchive (asked : Verifying) (out0 out : Device) (result : Result Done TaskFault) : Type 0 where

@@ -14,10 +14,10 @@ use msr_folders::{FileId, LockFile, folders_overlap, settle};
 use msr_options::{
     Archiving, Checking, Feeding, Folders, ListForm, Listing, Options, Repacking, Task, Verifying,
 };
+use msr_system::SystemTree;
 use msr_tool::{ToolFault, check_and_tell, feed_and_report, list_segments, repack_and_report};
-use msr_tree::SystemTree;
 use msr_verify::verify;
-use msr_walk::walk;
+use msr_walk::{SystemClaims, walk};
 use std::alloc::Global;
 use std::fs::OpenFile;
 use std::io::{self, Write};
@@ -296,9 +296,14 @@ where
     requires output { CanCountCall (O.device output.old) }
     ensures { WalksArchive asked.now (O.device output.old) (O.device output.new) result }
 {
+    if !asked.folders.stand_apart() {
+        return Err(TaskFault::Overlap);
+    }
     let Folders { root, out, reports } = asked.folders;
     require_apart(rt, alloc, root, out, reports)?;
-    let walked = walk(rt, alloc, asked, output)?;
+    let claims = SystemClaims::new(rt);
+    let mut tree = SystemTree::unlinked(rt, alloc);
+    let walked = walk(&mut tree, &claims, alloc, &*asked, output)?;
     Ok(Done::of_walk(walked.found, walked.unopened, asked.below.is_empty(), false))
 }
 

@@ -7,3 +7,4 @@ pub mod RowLemmas
 pub mod VisitLemmas
 pub mod WalkedLemmas
 pub mod WalkLemmas
+pub mod WithinLemmas

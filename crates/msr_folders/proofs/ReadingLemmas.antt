@@ -6,7 +6,7 @@ use Rattle.msr_tree.specs.Reads.{OnlyReads}
 use Rattle.msr_tree.specs.Steps.{Path, Step}
 use Rattle.msr_folders.specs.Entries.{IsSameWithin}
 use Rattle.msr_folders.specs.Visits.{StopsAt, TellsInPart, TellsThese}
-use Rattle.msr_folders.specs.Walks.{VisitLaws}
+use Rattle.msr_folders.specs.Walks.{HoldsListed, VisitLaws}
 use Rattle.msr_folders.proofs.VisitLemmas.{part_none, stops_more, these_more, these_none}
 
 -- who only reads leaves all as it stood
@@ -17,17 +17,21 @@ reads_same folder old new reads = record {
 }
 
 -- the laws of a visitor that tells entries, and only reads
-pub reading_laws : {V E T : Type 0} (is_entry : E → Type 0) (is_line : E → List ℕ → Type 0) (is_tally : List E → T → Type 0) (spared : V → Path) →
-    VisitLaws (λ visitor. TellsThese is_entry is_line is_tally)
-    (λ visitor out0 out. StopsAt (TellsInPart is_entry is_line out0 out) out0 out) (λ visitor. OnlyReads) spared
+pub reading_laws : {V E T : Type 0} (is_entry : E → Type 0) (is_line : V → E → List ℕ → Type 0) (is_tally : List E → T → Type 0) (spared : V → Path) →
+    VisitLaws (λ visitor. TellsThese is_entry (is_line visitor) is_tally)
+    (λ visitor out0 out. StopsAt (TellsInPart is_entry (is_line visitor) out0 out) out0 out) (λ visitor. OnlyReads) spared
 reading_laws is_entry is_line is_tally spared = record {
   calm = λ visitor lines out0 out tally0 tally these. these.told.calm;
-  none = λ visitor. these_none is_entry is_line is_tally;
-  more = λ visitor. these_more is_entry is_line is_tally;
-  refused = λ visitor out. (part_none is_entry is_line out, (calm_same out).steady);
-  later = λ visitor lines out0 out1 out tally0 tally1 fault these stopped. stops_more is_entry is_line is_tally out0 out1 out tally0 tally1 fault these.told stopped;
+  none = λ visitor. these_none is_entry (is_line visitor) is_tally;
+  more = λ visitor. these_more is_entry (is_line visitor) is_tally;
+  refused = λ visitor out. (part_none is_entry (is_line visitor) out, (calm_same out).steady);
+  later = λ visitor lines out0 out1 out tally0 tally1 fault these stopped. stops_more is_entry (is_line visitor) is_tally out0 out1 out tally0 tally1 fault these.told stopped;
   still = λ visitor. reads_none;
   onward = λ visitor. reads_then;
   unlisted = λ visitor. reads_unlisted;
   same = λ visitor. reads_same (spared visitor);
 }
+
+-- nothing is relied on between its visits
+pub none_holds : {V T : Type 0} → HoldsListed (λ (visitor : V) (tally : T) (past : List Step). Unit {0})
+none_holds = record { stays = λ visitor tally past place held. tt }

@@ -7,13 +7,15 @@ use Rattle.msr_sds.specs.Folders.{IsDepthBelow}
 use Rattle.msr_devices.specs.Device.{Device}
 use Rattle.msr_devices.specs.declared.fault.DeviceFault.{DeviceFault}
 use Rattle.msr_tree.specs.Calls.{Goes}
-use Rattle.msr_tree.specs.Listing.{IsListing, IsTold, has_folder, is_there, kind_now, listed, unlisted_after}
+use Rattle.msr_tree.specs.Listing.{IsListing, IsTold, ListsFolder, has_folder, is_there, kind_now, listed, unlisted_after}
 use Rattle.msr_tree.specs.Steps.{Failed, Path, Step, Unlisted}
 use Rattle.msr_tree.specs.declared.kind.FileKind.{FileKind}
+use Rattle.msr_tree.specs.declared.tree.TreeFault.{TreeFault}
+use Rattle.msr_tree.specs.declared.tree.TreeFault.TheVariants as tree_fault
 use Rattle.msr_tree.specs.declared.kind.FileKind.TheVariants.{Folder, Gone, Other}
 use Rattle.msr_folders.specs.Entries.{AreEntriesBelow, AreEntries, AreOfEntry, Entry, ForEach, IsSameWithin, Visit, WithoutList, unlisted_in}
 use Rattle.msr_folders.specs.Paths.{below, joined}
-use Rattle.msr_folders.specs.Walks.{IsSaidBetween, IsWalked, TellsVisit, TellsWalk, VisitDoes, VisitLaws}
+use Rattle.msr_folders.specs.Walks.{HoldsAt, HoldsListed, IsSaidBetween, IsWalked, TellsVisit, TellsWalk, VisitDoes, VisitLaws}
 use Rattle.msr_folders.proofs.EntryLemmas.{entries_same, entry_same, for_each_append, for_each_as, for_each_one, for_each_push, unlisted_append}
 
 -- one call, and then another
@@ -88,6 +90,23 @@ IsUnlisted place old new = (left : List Step) × (left ≡ Unlisted place ∷ ol
 
 without : (place : Path) (old new : List Step) → IsUnlisted place old new → new ≡ Failed ∷ Unlisted place ∷ old
 without place old new is = is.2 ∙ ap (λ l. Failed ∷ l) is.1
+
+-- what holds where a folder is listed, whatever is answered
+pub holds_listed : {V T N : Type 0} (holds : V → T → List Step → Type 0) (listed : HoldsListed holds) (visitor : V) (tally : T)
+    (place : Path) (names : N → List Path) (result : Result N TreeFault) (before after : List Step → Type 0)
+    → Goes before after (ListsFolder place names result) → HoldsAt before (holds visitor tally) → HoldsAt after (holds visitor tally)
+holds_listed {N = N} holds listed visitor tally place names result before after goes held new went =
+    let sooner = goes.from new went in
+    by result sooner.0 (held sooner.0 sooner.1) sooner.2
+  where
+    same : (old new : List Step) → new ≡ old → holds visitor tally old → holds visitor tally new
+    same old new is here = subst (λ l. holds visitor tally l) (sym is) here
+
+    by : (answer : Result N TreeFault) (old : List Step) → holds visitor tally old → ListsFolder place names answer old new → holds visitor tally new
+    by (Ok x) old here lists = same old new lists.0 here
+    by (Err tree_fault.Memory) old here lists = same old new lists here
+    by (Err tree_fault.Failed) old here lists =
+        same (Failed ∷ Unlisted place ∷ old) new (lists.2 ∙ ap (λ l. Failed ∷ l) lists.1) (listed.stays visitor tally old place here)
 
 pub on_ok_as : {A E : Type 0} {P Q : Type 0} (result : Result A E) → (P → Q) → OnOk result P → OnOk result Q
 on_ok_as (Ok x) so p = so p
@@ -236,6 +255,33 @@ module _ {V L T : Type 0} (tells : V → List L → (out0 out : Device) → (tal
       → Walk (SoFar root levels folder names names) before after out0 out tally0 tally → Walk (λ past. AreEntries past root levels folder) before after out0 out tally0 tally
   all_names levels folder names before after out0 out tally0 tally walk =
       walk_as _ _ before after out0 out tally0 tally (λ past visits are. inr (names, are.0, are.1)) walk
+
+  -- what is done at the end of a folder, of which nothing is told
+  walked_left : (Are : List Step → List Visit → Type 0) (visits : List Visit) (lines : List L) (old mid new : List Step)
+      → IsWalked (says visitor) (does visitor) root Are visits lines old mid → VisitDoes (does visitor) mid new
+      → IsWalked (says visitor) (does visitor) root Are visits lines old new
+  walked_left Are visits lines old mid new one two = record {
+    are = one.are;
+    says = for_each_as (IsSaidBetween (says visitor) (does visitor) old mid) (IsSaidBetween (says visitor) (does visitor) old new) visits lines
+        (said_between (says visitor) (does visitor) (laws.onward visitor) old old mid new (laws.still visitor old) two.does) one.says;
+    does = laws.onward visitor old mid new one.does two.does;
+    unlisted = two.lists_none ∙ one.unlisted;
+  }
+
+  pub walk_left : (Are : List Step → List Visit → Type 0) (before mid after : List Step → Type 0) (out0 out : Device) (tally0 tally1 tally : T)
+      → Walk Are before mid out0 out tally0 tally1 → ((at : Device) → tells visitor [] at at tally1 tally)
+      → Goes mid after (VisitDoes (does visitor)) → Walk Are before after out0 out tally0 tally
+  walk_left Are before mid after out0 out tally0 tally1 tally walk told goes = record {
+    visits = walk.visits;
+    lines = walk.lines;
+    told = subst (λ l. tells visitor l out0 out tally0 tally) (append-nil walk.lines) (laws.more visitor walk.lines [] out0 out out tally0 tally1 tally walk.told (told out));
+    goes = goes_then _ _ _ before mid after (λ old middle new first second. walked_left Are walk.visits walk.lines old middle new first second) walk.goes goes;
+  }
+
+  pub does_left : (Are : List Step → List Visit → Type 0) (before mid after : List Step → Type 0) (out0 out : Device) (tally0 tally1 : T)
+      → Walk Are before mid out0 out tally0 tally1 → Goes mid after (VisitDoes (does visitor)) → Goes before after (does visitor)
+  does_left Are before mid after out0 out tally0 tally1 walk goes =
+      goes_then _ _ _ before mid after (λ old middle new first second. laws.onward visitor old middle new first.does second.does) walk.goes goes
 
   -- before the first folder that is asked for
   pub no_folder_yet : (before : List Step → Type 0) (out : Device) (tally : T) → Walk (λ past. ForEach (AreEntriesBelow past root) []) before before out out tally tally

@@ -1,8 +1,10 @@
 pub mod Paths
 pub mod Days
 pub mod Entries
+pub mod Faults
 pub mod Found
 pub mod Named
 pub mod Totals
 pub mod Visits
 pub mod Walks
+pub mod Within

@@ -1,5 +1,5 @@
 -- The paths of files and folders.
-use Rattle.std.specs.Prelude.{ℕ, List, [], ◌∷◌, ◌++◌, cond, codes}
+use Rattle.std.specs.Prelude.{ℕ, Bool, List, [], ◌∷◌, ◌++◌, ◌==◌, ◌||◌, cond, codes}
 use Rattle.std.specs.Char.{encode_utf8, is_ascii_control}
 use Rattle.std.specs.List.{before_last, flat_map}
 use Rattle.std.specs.Str.{chars}
@@ -33,3 +33,21 @@ shown_letter letter = cond (is_ascii_control letter) (37 ∷ hex_text letter) (e
 -- a path as it is printed
 abbrev pub shown_path : List ℕ → List ℕ
 shown_path path = flat_map shown_letter (chars path)
+
+-- a character that stands in a string of JSON after a backslash: a quote or a backslash
+abbrev pub is_marked : ℕ → Bool
+is_marked letter = letter == 34 || letter == 92
+
+-- a character in a string of JSON: a control character as `\u00` and the two hexadecimal digits of its byte
+abbrev pub letter_json : ℕ → List ℕ
+letter_json letter = cond (is_marked letter) (92 ∷ encode_utf8 letter)
+    (cond (is_ascii_control letter) (codes "\\u00" ++ hex_text letter) (encode_utf8 letter))
+
+-- a text as the inner part of a string of JSON
+abbrev pub text_json : List ℕ → List ℕ
+text_json text = flat_map letter_json (chars text)
+
+-- the path of a folder as it is told
+abbrev pub told_folder : List ℕ → List ℕ
+told_folder [] = codes "."
+told_folder (f ∷ folder) = f ∷ folder

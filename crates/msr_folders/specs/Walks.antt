@@ -72,3 +72,12 @@ pub record VisitLaws {V L T : Type 0} (tells : V → List L → (out0 out : Devi
   pub onward : (visitor : V) (old mid new : List Step) → does visitor old mid → does visitor mid new → does visitor old new
   pub unlisted : (visitor : V) (past : List Step) (folder : Path) → does visitor past (Failed ∷ Unlisted folder ∷ past)
   pub same : (visitor : V) (old new : List Step) → does visitor old new → IsSameWithin (spared visitor) old new
+
+-- it holds whichever of these the steps so far are
+abbrev pub HoldsAt : (went Holds : List Step → Type 0) → Type 0
+HoldsAt went Holds = (past : List Step) → went past → Holds past
+
+-- What holds stays so where a folder gives no list.
+pub record HoldsListed {V T : Type 0} (holds : V → T → List Step → Type 0) : Type 0 where
+  pub stays : (visitor : V) (tally : T) (past : List Step) (place : Path) → holds visitor tally past
+      → holds visitor tally (Failed ∷ Unlisted place ∷ past)

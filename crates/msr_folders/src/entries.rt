@@ -1,12 +1,12 @@
 //! The walk through the folders of a tree, in the order of the names.
-ghost use Rattle.std.specs.Prelude.{◌≡◌, List, IfErr, OnOk};
+ghost use Rattle.std.specs.Prelude.{◌≡◌, List, [], IfErr, OnOk};
 ghost use Rattle.msr_devices.specs.Device.{CanCountCall, Device};
 ghost use Rattle.msr_devices.specs.declared.fault.DeviceFault.{DeviceFault};
 ghost use Rattle.msr_tree.specs.Calls.{Goes};
 ghost use Rattle.msr_tree.specs.Steps.{Path, Step};
 ghost use Rattle.msr_folders.specs.Entries.{AreEntries, AreEntriesOf, Entry, Visit, WithoutList};
 ghost use Rattle.msr_folders.specs.Paths.{joined};
-ghost use Rattle.msr_folders.specs.Walks.{TellsVisit, TellsWalk, VisitDoes, VisitLaws};
+ghost use Rattle.msr_folders.specs.Walks.{HoldsAt, HoldsListed, TellsVisit, TellsWalk, VisitDoes, VisitLaws};
 
 use crate::paths::{entry_path, join};
 use msr_devices::{DeviceFault, Sink};
@@ -38,6 +38,9 @@ pub trait EntryVisitor {
     /// What is done to the tree.
     ghost does: { Self → List Step → List Step → Type 0 };
 
+    /// What holds of what is counted and of the steps so far, before each visit and after it.
+    ghost holds: { Self → Self.Tally → List Step → Type 0 };
+
     /// The folder that is walked.
     ghost spared: { Self → Path };
 
@@ -54,11 +57,13 @@ pub trait EntryVisitor {
         out: &mut O,
         tally: &mut Self::Tally,
     ) -> Result<(), DeviceFault>
-        requires { CanCountCall (O.device out.old) }
+        requires count { CanCountCall (O.device out.old) }
+        requires holds { HoldsAt (T.went tree.old) (holds self.now tally.old) }
         ensures told { OnOk result (TellsVisit (tells self.now) (says self.now) (does self.now) (Entry path.now kind)
             (T.went tree.old) (T.went tree.new) (O.device out.old) (O.device out.new) tally.old tally.new) }
         ensures stops { IfErr result (stops self.now (O.device out.old) (O.device out.new)) }
-        ensures does { Goes (T.went tree.old) (T.went tree.new) (VisitDoes (does self.now)) };
+        ensures does { Goes (T.went tree.old) (T.went tree.new) (VisitDoes (does self.now)) }
+        ensures holds { HoldsAt (T.went tree.new) (holds self.now tally.new) };
 
     /// Handles a folder that has no list, and stands in that place.
     fn visit_unlisted<T: Tree, O: Sink>(
@@ -71,12 +76,23 @@ pub trait EntryVisitor {
     ) -> Result<(), DeviceFault>
         requires count { CanCountCall (O.device out.old) }
         requires place { place.now ≡ joined (spared self.now) folder.now }
+        requires holds { HoldsAt (T.went tree.old) (holds self.now tally.old) }
         ensures told { OnOk result (TellsVisit (tells self.now) (says self.now) (does self.now) (WithoutList folder.now)
             (T.went tree.old) (T.went tree.new) (O.device out.old) (O.device out.new) tally.old tally.new) }
         ensures stops { IfErr result (stops self.now (O.device out.old) (O.device out.new)) }
-        ensures does { Goes (T.went tree.old) (T.went tree.new) (VisitDoes (does self.now)) };
+        ensures does { Goes (T.went tree.old) (T.went tree.new) (VisitDoes (does self.now)) }
+        ensures holds { HoldsAt (T.went tree.new) (holds self.now tally.new) };
+
+    /// Ends with a folder whose entries were visited, and tells nothing.
+    fn leave_folder<T: Tree>(&self, tree: &mut T, tally: &mut Self::Tally)
+        requires { HoldsAt (T.went tree.old) (holds self.now tally.old) }
+        ensures told { (out : Device) → tells self.now [] out out tally.old tally.new }
+        ensures does { Goes (T.went tree.old) (T.went tree.new) (VisitDoes (does self.now)) }
+        ensures holds { HoldsAt (T.went tree.new) (holds self.now tally.new) };
 
     ghost laws: { VisitLaws tells stops does spared };
+
+    ghost listed: { HoldsListed holds };
 }
 
 /// A walk: memory, the folder that is walked, and what is done.
@@ -100,11 +116,13 @@ fn visit_folder<T: Tree, V: EntryVisitor, O: Sink>(
 ) -> Result<(), DeviceFault>
     requires count { CanCountCall (O.device out.old) }
     requires spared { V.spared walk.now.visitor.now ≡ walk.now.root.now }
+    requires holds { HoldsAt (T.went tree.old) (V.holds walk.now.visitor.now tally.old) }
     ensures told { OnOk result (TellsWalk (V.tells walk.now.visitor.now) (V.says walk.now.visitor.now)
         (V.does walk.now.visitor.now) walk.now.root.now (λ past. AreEntries past walk.now.root.now levels folder.now)
         (T.went tree.old) (T.went tree.new) (O.device out.old) (O.device out.new) tally.old tally.new) }
     ensures stops { IfErr result (V.stops walk.now.visitor.now (O.device out.old) (O.device out.new)) }
     ensures does { Goes (T.went tree.old) (T.went tree.new) (V.does walk.now.visitor.now) }
+    ensures holds { HoldsAt (T.went tree.new) (V.holds walk.now.visitor.now tally.new) }
 {
     let alloc = walk.alloc;
     let place = join(alloc, walk.root, folder)?;
@@ -131,6 +149,7 @@ fn visit_folder<T: Tree, V: EntryVisitor, O: Sink>(
                 .visit_entry(tree, &entered, path.as_str(), kind, out, tally)?;
         }
     }
+    walk.visitor.leave_folder(tree, tally);
     Ok(())
 }
 
@@ -143,11 +162,13 @@ pub fn visit_entries<T: Tree, V: EntryVisitor, O: Sink>(
 ) -> Result<(), DeviceFault>
     requires count { CanCountCall (O.device out.old) }
     requires spared { V.spared walk.now.visitor.now ≡ walk.now.root.now }
+    requires holds { HoldsAt (T.went tree.old) (V.holds walk.now.visitor.now tally.old) }
     ensures told { OnOk result (TellsWalk (V.tells walk.now.visitor.now) (V.says walk.now.visitor.now)
         (V.does walk.now.visitor.now) walk.now.root.now (λ past. AreEntriesOf past walk.now.root.now walk.now.below.now)
         (T.went tree.old) (T.went tree.new) (O.device out.old) (O.device out.new) tally.old tally.new) }
     ensures stops { IfErr result (V.stops walk.now.visitor.now (O.device out.old) (O.device out.new)) }
     ensures does { Goes (T.went tree.old) (T.went tree.new) (V.does walk.now.visitor.now) }
+    ensures holds { HoldsAt (T.went tree.new) (V.holds walk.now.visitor.now tally.new) }
 {
     if walk.below.is_empty() {
         return visit_folder(walk, tree, "", FOLDERS, out, tally);

@@ -1,8 +1,8 @@
-//! Files by their names: which file it is, opening it, and making it last.
+//! Files by their names: which file it is, and making it last.
 ghost use Rattle.std.specs.Prelude.{◌≡◌, IfErr};
 
 use msr_devices::DeviceFault;
-use std::fs::{File, Metadata, OpenFile};
+use std::fs::{Metadata, OpenFile};
 use std::io::ErrorKind;
 use std::os::unix::fs::MetadataExt;
 use std::rt::Files;
@@ -44,7 +44,7 @@ pub fn is_gone<R: Files>(rt: &R, path: &str) -> bool {
 
 /// What a look at a name tells, links followed.
 #[derive(Drop)]
-pub enum Look {
+pub(crate) enum Look {
     Found(Metadata),
     /// Nothing stands there, or a link that leads nowhere.
     Nothing(io::Error),
@@ -53,48 +53,13 @@ pub enum Look {
 }
 
 impl Look {
-    pub fn at<R: Files>(rt: &R, path: &str) -> Look {
+    pub(crate) fn at<R: Files>(rt: &R, path: &str) -> Look {
         match fs::metadata(rt, path) {
             Ok(metadata) => Look::Found(metadata),
             Err(error) if tells_none(error.kind()) => Look::Nothing(error),
             Err(error) => Look::Unknown(error),
         }
     }
-
-    /// What is told of a regular file.
-    pub fn regular(&self) -> Option<&Metadata> {
-        match self {
-            Look::Found(metadata) => metadata.is_file().then_some(metadata),
-            Look::Nothing(_) | Look::Unknown(_) => None,
-        }
-    }
-
-    /// Whether it is one file or folder with what the other look found, or the system does not tell. Nothing is none.
-    pub fn may_be(&self, other: &Look) -> bool {
-        match (self, other) {
-            (Look::Nothing(_), _) | (Look::Found(_), Look::Nothing(_)) => false,
-            (Look::Unknown(_), _) | (Look::Found(_), Look::Unknown(_)) => true,
-            (Look::Found(first), Look::Found(second)) => FileId::of(first) == FileId::of(second),
-        }
-    }
-
-    /// Opens what was found under that name to be read, if it is a regular file; else there is the system's reason, if it
-    /// gave one. Nothing else is opened, since opening a pipe waits for somebody who writes to it.
-    pub fn open<R: Files>(&self, rt: &R, path: &str) -> Result<R::File, Option<io::Error>> {
-        match self {
-            Look::Found(metadata) if metadata.is_file() => match File::open(rt, path) {
-                Ok(file) => Ok(file),
-                Err(error) => Err(Some(error)),
-            },
-            Look::Found(_) => Err(None),
-            Look::Nothing(error) | Look::Unknown(error) => Err(Some(*error)),
-        }
-    }
-}
-
-/// Opens a regular file to be read; else there is the system's reason, if it gave one.
-pub fn open_regular<R: Files>(rt: &R, path: &str) -> Result<R::File, Option<io::Error>> {
-    Look::at(rt, path).open(rt, path)
 }
 
 /// Waits until the system has stored what was written to a regular file: a disk that is full, or a file server that
@@ -110,7 +75,7 @@ pub fn settle<F: OpenFile>(file: &F) -> Result<(), DeviceFault>
 }
 
 /// The same of what is known to be a regular file.
-pub fn settle_regular<F: OpenFile>(file: &F) -> Result<(), DeviceFault>
+fn settle_regular<F: OpenFile>(file: &F) -> Result<(), DeviceFault>
     ensures { IfErr result (λ fault. fault ≡ DeviceFault.Failed) }
 {
     match file.sync_data() {

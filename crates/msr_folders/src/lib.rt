@@ -3,6 +3,7 @@
 #![tactic(auto)]
 
 mod entries;
+mod faults;
 mod files;
 mod found;
 mod lock;
@@ -13,10 +14,11 @@ mod totals;
 mod visitor;
 
 pub use entries::{EntryVisitor, EntryWalk, visit_entries};
-pub use files::{FileId, Look, is_gone, open_regular, settle, settle_regular};
+pub use faults::{ToldFault, fault_json};
+pub use files::{FileId, is_gone, settle};
 pub use found::WalkFound;
 pub use lock::{Lock, LockFile};
-pub use paths::{Shown, ended, folder_of, join, shown_path};
+pub use paths::{JsonText, Shown, ended, folder_of, join, shown_path};
 pub use places::{Place, folders_overlap, place_of};
 pub use stored::make_stored;
 pub use totals::{Total, Totals};

@@ -1,7 +1,7 @@
 //! The paths of folders and files.
 ghost use Rattle.std.specs.Prelude.{◌≡◌, IfOk};
 ghost use Rattle.std.specs.String.{string_bytes};
-ghost use Rattle.msr_folders.specs.Paths.{below, ended, folder_of, joined, shown_path};
+ghost use Rattle.msr_folders.specs.Paths.{below, ended, folder_of, is_marked, joined, shown_path};
 
 use std::alloc::{AllocError, Global};
 use std::fmt;
@@ -67,6 +67,40 @@ impl fmt::Display for Shown<'_> {
             if letter.is_ascii_control() {
                 let code = letter as u8;
                 write!(f, "%{code:02x}")?;
+            } else {
+                f.write_char(letter)?;
+            }
+        }
+        Ok(())
+    }
+}
+
+/// Whether a character stands in a string of JSON after a backslash.
+fn is_marked(letter: char) -> bool
+    ensures { result ≡ is_marked letter }
+{
+    letter == '"' || letter == '\\'
+}
+
+/// A text as the inner part of a string of JSON.
+#[derive(Clone, Copy, Debug)]
+pub struct JsonText<'a> {
+    pub text: &'a str,
+}
+
+impl fmt::Display for JsonText<'_> {
+    ghost use Rattle.std.specs.Prelude.{Some};
+    ghost use Rattle.msr_folders.specs.Paths.{text_json};
+
+    ghost output = { λ shown. Some (text_json shown.text.now) };
+
+    fn fmt<W: fmt::Write>(&self, f: &mut fmt::Formatter<W>) -> fmt::Result {
+        for letter in self.text.chars() {
+            if is_marked(letter) {
+                write!(f, "\\{letter}")?;
+            } else if letter.is_ascii_control() {
+                let code = letter as u8;
+                write!(f, "\\u00{code:02x}")?;
             } else {
                 f.write_char(letter)?;
             }

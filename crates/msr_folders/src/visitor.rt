@@ -7,7 +7,8 @@ ghost use Rattle.msr_folders.specs.Visits.{VisitorLaws};
 use crate::paths::{entry_path, join};
 use msr_devices::{DeviceFault, Sink};
 use msr_sds::{FOLDERS, levels_below};
-use msr_tree::{FileKind, SystemTree, Tree, TreeFault};
+use msr_system::SystemTree;
+use msr_tree::{FileKind, Tree, TreeFault};
 use std::alloc::Global;
 use std::rt::Files;
 

@@ -15,15 +15,15 @@ module _ (is_own : (records report : List ℕ) → Bool) (files : DayFiles) wher
   abbrev Beside : Option (List ℕ) → Option (List ℕ) → Type 0
   Beside records report = IfSome records (λ r. IsSomeAnd report (λ p. is_own r p ≡ true))
 
-  none : (past : List Step) → seen past files.records.path ≡ None → K past
+  pub none : (past : List Step) → seen past files.records.path ≡ None → K past
   none past is = record { report = subst (λ x. Beside x (seen past files.report.path)) (sym is) tt }
 
-  both : (past : List Step) (r p : List ℕ) → is_own r p ≡ true → seen past files.records.path ≡ Some r → seen past files.report.path ≡ Some p → K past
+  pub both : (past : List Step) (r p : List ℕ) → is_own r p ≡ true → seen past files.records.path ≡ Some r → seen past files.report.path ≡ Some p → K past
   both past r p owns rs ps =
       let all : Beside (Some r) (Some p) = owns in
       record { report = subst (λ x. Beside x (seen past files.report.path)) (sym rs) (subst (λ x. Beside (Some r) x) (sym ps) all) }
 
-  alone : (step : Step) (past : List Step) → touches step files.records.path ≡ false → touches step files.report.path ≡ false → K past → K (step ∷ past)
+  pub alone : (step : Step) (past : List Step) → touches step files.records.path ≡ false → touches step files.report.path ≡ false → K past → K (step ∷ past)
   alone step past r p has =
       record {
         report = subst (λ x. Beside x (seen (step ∷ past) files.report.path)) (sym (seen_still step past files.records.path r))
@@ -34,7 +34,7 @@ module _ (is_own : (records report : List ℕ) → Bool) (files : DayFiles) wher
   fails past has = alone Failed past refl refl has
 
   module _ (are : AreDayNames files) where
-    unseen : (past : List Step) → seen (Removed files.records.path ∷ past) files.records.path ≡ None
+    pub unseen : (past : List Step) → seen (Removed files.records.path ∷ past) files.records.path ≡ None
     unseen past = ap (λ found. option_map (λ file. file.bytes) found) (removed_leads files.records.path past)
 
     pub gone : (old : List Step) → K old → Throughout K old (FolderStored (folder_above files.records.path) ∷ Removed files.records.path ∷ FolderStored (folder_above files.report.path) ∷ Removed files.stamp.path ∷ [])

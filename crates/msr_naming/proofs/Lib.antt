@@ -1,3 +1,5 @@
+pub mod Changed
+pub mod FallingBack
 pub mod Kills
 pub mod Names
 pub mod Order

@@ -8,9 +8,11 @@ use Rattle.msr_naming.specs.declared.files.DayFiles.{DayFiles}
 use Rattle.msr_naming.specs.declared.naming.Act.{Act}
 use Rattle.msr_naming.specs.declared.naming.Act.TheVariants.{Remove, Store, Rename}
 use Rattle.msr_naming.specs.declared.files.Name.TheVariants.{Records, RecordsPart, Report, ReportPart, Stamp}
+use Rattle.msr_naming.specs.Following.{unstored_acts}
 use Rattle.msr_naming.specs.Naming.{AreDayNames, Performs, act_step}
 use Rattle.msr_naming.specs.Promise.{AreNamed, AreReady, GivesNames, HasOwn, HasReport, HaveOwnParts, IsFree, KeepsOwn, KeepsIfKilled, NamesStamps, OverNothing}
 use Rattle.msr_naming.proofs.Names.{no_records_left, no_stamp_left, not_renamed, ready_gone, ready_still, removed_settled}
+use Rattle.msr_naming.proofs.Changed.{only_named, only_stamped}
 use Rattle.msr_naming.proofs.Kills as kill
 use Rattle.msr_naming.proofs.Order as order
 use Rattle.msr_naming.proofs.Plan.{does_some}
@@ -22,9 +24,6 @@ new_acts = Rename ReportPart Report ∷ Rename RecordsPart Records ∷ []
 abbrev pub day_acts : List Act
 day_acts = Remove Stamp ∷ Store Report ∷ Remove Records ∷ Store Records ∷ Rename ReportPart Report ∷ Store Report ∷ Rename RecordsPart Records ∷ []
 
-abbrev pub unstored_acts : List Act
-unstored_acts = Remove Stamp ∷ Remove Records ∷ Rename ReportPart Report ∷ Rename RecordsPart Records ∷ []
-
 abbrev pub clear_acts : List Act
 clear_acts = Remove Stamp ∷ Store Report ∷ Remove Records ∷ Store Records ∷ Remove Report ∷ Store Report ∷ []
 
@@ -35,13 +34,13 @@ when_ok (Err why) so is = tt
 module _ (files : DayFiles) where
   -- where report and records get their names, with a step between that touches no name
   module _ (are : AreDayNames files) (r p : List ℕ) where
-    abbrev one : Step
+    abbrev pub one : Step
     one = Renamed files.report.part files.report.path
 
-    abbrev two : Step
+    abbrev pub two : Step
     two = Renamed files.records.part files.records.path
 
-    report_named : (past : List Step) → AreReady files r p past → AreReady files r p past × IsReady files.report.path p (one ∷ past) × IsReady files.records.part r (one ∷ past)
+    pub report_named : (past : List Step) → AreReady files r p past → AreReady files r p past × IsReady files.report.path p (one ∷ past) × IsReady files.records.part r (one ∷ past)
     report_named past ready = (
       ready,
       ready_renamed files.report.part files.report.path p past ready.report_is,
@@ -61,7 +60,7 @@ module _ (files : DayFiles) where
     named_new : (past : List Step) → IsFree files past → AreReady files r p past → AreNamed files r p (two ∷ one ∷ past)
     named_new past free ready = let named = report_named past ready in records_named (one ∷ past) named.1 named.2 (unstamped_then past free.stamp)
 
-    abbrev gone : List Step → List Step
+    abbrev pub gone : List Step → List Step
     gone old = FolderStored (folder_above files.records.path) ∷ Removed files.records.path ∷ FolderStored (folder_above files.report.path) ∷ Removed files.stamp.path ∷ old
 
     named_over : (old : List Step) → AreReady files r p old → AreNamed files r p (two ∷ FolderStored (folder_above files.report.path) ∷ one ∷ gone old)
@@ -90,12 +89,15 @@ module _ (files : DayFiles) where
     safe = λ is_own is_of are before has. does_some (HasOwn is_own is_of files) (order.fails is_own is_of files) (map (act_step files) new_acts) old new performs.some
         (order.naming_new is_own is_of files are before.0.records before.0.report before.0.own old before.1 before.0.ready);
     done = when_ok result (λ is. λ are free. record { named = λ r p ready. subst (λ (l : List Step). AreNamed files r p l) (sym is) (named_new are r p old free ready) }) performs.all;
+    changes = only_named files new_acts old new performs.some;
+    cause = performs.cause;
   }
 
   pub new_day_killed : (result : Result (Unit {0}) TreeFault) (old new : List Step) → Performs (map (act_step files) new_acts) result old new → KeepsIfKilled files (OverNothing files) result old new
   new_day_killed result old new performs = record {
     killed = λ is_own are before has. does_some (HasReport is_own files) (kill.fails is_own files) (map (act_step files) new_acts) old new performs.some
         (kill.naming_new is_own files are before.0.records before.0.report before.0.own old before.1 before.0.ready);
+    changes = only_named files new_acts old new performs.some;
     cause = performs.cause;
   }
 
@@ -105,19 +107,15 @@ module _ (files : DayFiles) where
     safe = λ is_own is_of are before has. does_some (HasOwn is_own is_of files) (order.fails is_own is_of files) (map (act_step files) day_acts) old new performs.some
         (order.naming is_own is_of files are before.records before.report before.own old has before.ready);
     done = when_ok result (λ is. λ are. record { named = λ r p ready. subst (λ (l : List Step). AreNamed files r p l) (sym is) (named_over are r p old ready) }) performs.all;
+    changes = only_named files day_acts old new performs.some;
+    cause = performs.cause;
   }
 
   pub day_killed : (result : Result (Unit {0}) TreeFault) (old new : List Step) → Performs (map (act_step files) day_acts) result old new → KeepsIfKilled files (HaveOwnParts files) result old new
   day_killed result old new performs = record {
     killed = λ is_own are before has. does_some (HasReport is_own files) (kill.fails is_own files) (map (act_step files) day_acts) old new performs.some
         (kill.naming is_own files are before.records before.report before.own old before.ready has);
-    cause = performs.cause;
-  }
-
-  pub unstored_killed : (result : Result (Unit {0}) TreeFault) (old new : List Step) → Performs (map (act_step files) unstored_acts) result old new → KeepsIfKilled files (HaveOwnParts files) result old new
-  unstored_killed result old new performs = record {
-    killed = λ is_own are before has. does_some (HasReport is_own files) (kill.fails is_own files) (map (act_step files) unstored_acts) old new performs.some
-        (kill.naming_unstored is_own files are before.records before.report before.own old before.ready has);
+    changes = only_named files day_acts old new performs.some;
     cause = performs.cause;
   }
 
@@ -126,11 +124,14 @@ module _ (files : DayFiles) where
   clear_keeps result old new performs = record {
     safe = λ is_own is_of are before has. does_some (HasOwn is_own is_of files) (order.fails is_own is_of files) (map (act_step files) clear_acts) old new performs.some (order.clearing is_own is_of files are old has);
     done = when_ok result (λ is. λ are. subst (λ (l : List Step). IsFree files l) (sym is) (cleared are old)) performs.all;
+    changes = only_named files clear_acts old new performs.some;
+    cause = performs.cause;
   }
 
   pub clear_killed : (result : Result (Unit {0}) TreeFault) (old new : List Step) → Performs (map (act_step files) clear_acts) result old new → KeepsIfKilled files (λ is_own past. Unit {0}) result old new
   clear_killed result old new performs = record {
     killed = λ is_own are before has. does_some (HasReport is_own files) (kill.fails is_own files) (map (act_step files) clear_acts) old new performs.some (kill.clearing is_own files are old has);
+    changes = only_named files clear_acts old new performs.some;
     cause = performs.cause;
   }
 
@@ -140,5 +141,6 @@ stamps_named out reports days result old new performs = record {
   safe = λ is_own is_of files s r p are stand one awaits whole has. does_some (HasOwn is_own is_of files) (order.fails is_own is_of files) (FolderStored out ∷ FolderStored reports ∷ map stamping days) old new performs.some
       (stamping_all is_own is_of files are out reports stand s r p whole days old one awaits has);
   done = when_ok result (λ is. λ files s are one ready. ap (λ (l : List Step). seen l files.stamp.path) is ∙ stamped files out reports s days old one ready) performs.all;
+  changes = only_stamped out reports days old new performs.some;
   cause = performs.cause;
 }

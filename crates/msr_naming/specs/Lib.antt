@@ -1,4 +1,5 @@
 pub mod Comes
+pub mod Following
 pub mod Files
 pub mod Naming
 pub mod Promise

@@ -1,5 +1,5 @@
 -- The names of a day's files, and the steps by which they are given.
-use Rattle.std.specs.Prelude.{◌<◌, ◌≡◌, ◌≤◌, ◌⊎◌, ◌==◌, ℕ, Bool, true, false, List, ◌∷◌, ◌++◌, length, reverse, take, bytes_eq, Result, Ok, Err, OnOk, IsErrOf}
+use Rattle.std.specs.Prelude.{◌<◌, ◌≡◌, ◌≤◌, ◌⊎◌, ◌==◌, ℕ, Bool, true, false, List, [], ◌∷◌, ◌++◌, length, reverse, take, bytes_eq, Result, Ok, Err, OnOk, IsErrOf}
 use Rattle.msr_tree.specs.Steps.{Failed, FolderStored, Path, Removed, Renamed, Step, failures, folder_above, stands_in}
 use Rattle.msr_tree.specs.declared.tree.TreeFault.{TreeFault}
 use Rattle.msr_tree.specs.declared.tree.TreeFault.TheVariants as fault
@@ -28,6 +28,10 @@ name_number StampPart = 5
 
 abbrev pub is_name : Name → Name → Bool
 is_name one other = name_number one == name_number other
+
+-- the names of a day, with those beside them
+abbrev pub day_paths : DayFiles → List Path
+day_paths files = files.records.path ∷ files.records.part ∷ files.report.path ∷ files.report.part ∷ files.stamp.path ∷ files.stamp.part ∷ []
 
 -- No two names of a day are the same, and the stamp stands in the report's folder.
 pub record AreDayNames (files : DayFiles) : Type 0 where

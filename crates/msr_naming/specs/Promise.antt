@@ -1,11 +1,13 @@
 -- What is promised of the files that are made of a day.
-use Rattle.std.specs.Prelude.{◌<◌, ◌≡◌, ℕ, Bool, true, List, ◌∷◌, ◌++◌, Option, None, Some, IfSome, IsSomeAnd, OnOk, IsErrOf, Result}
+use Rattle.std.specs.Prelude.{◌<◌, ◌≡◌, ℕ, Bool, true, false, List, [], ◌∷◌, ◌++◌, Option, None, Some, IfSome, IsSomeAnd, OnOk, IsErrOf, Result}
 use Rattle.std.specs.List.{AllByRecursion}
+use Rattle.msr_tree.specs.Folders.{ChangesFiles}
 use Rattle.msr_tree.specs.Steps.{AtEachMoment, IsReady, Leaves, MayLeave, Path, Step, failures, seen, stands_in}
 use Rattle.msr_tree.specs.declared.tree.TreeFault.{TreeFault}
 use Rattle.msr_tree.specs.declared.tree.TreeFault.TheVariants.{Failed}
 use Rattle.msr_naming.specs.declared.files.DayFiles.{DayFiles}
-use Rattle.msr_naming.specs.Naming.{AreDayNames, IsOther}
+use Rattle.msr_naming.specs.Naming.{AreDayNames, IsOther, day_paths, told}
+use Rattle.msr_naming.specs.declared.fallback.Naming.{Naming}
 
 -- Whatever the power leaves of a day when it is cut: records beside their own report, or beside none; a stamp beside the
 -- records and the report that it is of.
@@ -51,20 +53,23 @@ pub record GivesNames (files : DayFiles) (old new : List Step) : Type 0 where
 abbrev pub OverNothing : (files : DayFiles) → (is_own : (records report : List ℕ) → Bool) → List Step → Type 0
 OverNothing files is_own past = HaveOwnParts files is_own past × IsFree files past
 
--- A day that has its own before a call has it at each moment since, also if the power is cut then; and if the call succeeds,
--- this is done.
+-- A day that has its own before a call has it at each moment since, also if the power is cut then; if the call succeeds,
+-- this is done; no name that is not of the day leads elsewhere; and a failure is told only if a call has failed.
 pub record KeepsOwn (files : DayFiles) (before : (is_own : (records report : List ℕ) → Bool) → List Step → Type 0) (Done : (old new : List Step) → Type 0)
     (result : Result (Unit {0}) TreeFault) (old new : List Step) : Type 0 where
   pub safe : (is_own : (records report : List ℕ) → Bool) (is_of : (stamp records report : List ℕ) → Bool)
       → AreDayNames files → before is_own old → HasOwn is_own is_of files old → AtEachMoment (HasOwn is_own is_of files) old new
   pub done : OnOk result (AreDayNames files → Done old new)
+  pub changes : ChangesFiles (day_paths files) old new
+  pub cause : IsErrOf result Failed → failures old < failures new
 
--- Records that have their report before a call have it at each moment since, if the walk is killed then; and a failure is
--- told only if a call has failed.
+-- Records that have their report before a call have it at each moment since, if the walk is killed then; no name that is not
+-- of the day leads elsewhere; and a failure is told only if a call has failed.
 pub record KeepsIfKilled (files : DayFiles) (before : (is_own : (records report : List ℕ) → Bool) → List Step → Type 0)
     (result : Result (Unit {0}) TreeFault) (old new : List Step) : Type 0 where
   pub killed : (is_own : (records report : List ℕ) → Bool) → AreDayNames files → before is_own old → HasReport is_own files old
       → AtEachMoment (HasReport is_own files) old new
+  pub changes : ChangesFiles (day_paths files) old new
   pub cause : IsErrOf result Failed → failures old < failures new
 
 -- The stamp of a day is on the disk, beside its name, and the records and the report that it is of have theirs.
@@ -89,7 +94,13 @@ pub record IsOneOf (files : DayFiles) (days : List DayFiles) : Type 0 where
   pub others_before : AreOthers files before
   pub others_after : AreOthers files after
 
--- The stamps of days get their names: each of these days that has its own before has it at each moment since.
+-- the names of the stamps of days, with those beside them
+abbrev pub stamp_paths : List DayFiles → List Path
+stamp_paths [] = []
+stamp_paths (files ∷ days) = files.stamp.path ∷ files.stamp.part ∷ stamp_paths days
+
+-- The stamps of days get their names, and no other name changes: each of these days that has its own before has it at each
+-- moment since.
 pub record NamesStamps (out reports : Path) (days : List DayFiles) (result : Result (Unit {0}) TreeFault) (old new : List Step) : Type 0 where
   pub safe : (is_own : (records report : List ℕ) → Bool) (is_of : (stamp records report : List ℕ) → Bool)
       (files : DayFiles) (stamp records report : List ℕ) → AreDayNames files → StandInFolders out reports files → IsOneOf files days
@@ -97,4 +108,44 @@ pub record NamesStamps (out reports : Path) (days : List DayFiles) (result : Res
       → HasOwn is_own is_of files old → AtEachMoment (HasOwn is_own is_of files) old new
   pub done : OnOk result ((files : DayFiles) (stamp : List ℕ) → AreDayNames files → IsOneOf files days
       → IsReady files.stamp.part stamp old → seen new files.stamp.path ≡ Some stamp)
+  pub changes : ChangesFiles (stamp_paths days) old new
   pub cause : IsErrOf result Failed → failures old < failures new
+
+-- where it is told that nothing is left of the day, nothing is
+abbrev pub IsFreeIf : Bool → DayFiles → List Step → Type 0
+IsFreeIf is_free files past = is_free ≡ true → IsFree files past
+
+-- what was beside the names of records and report is seen under them
+abbrev pub SeesNames : DayFiles → (old new : List Step) → Type 0
+SeesNames files old new = (records report : List ℕ) → AreReady files records report old
+    → (seen new files.records.path ≡ Some records) × (seen new files.report.path ≡ Some report)
+
+-- nothing is seen under the names of a day
+abbrev pub SeesNone : DayFiles → List Step → Type 0
+SeesNone files past = (seen past files.records.path ≡ None) × (seen past files.report.path ≡ None) × (seen past files.stamp.path ≡ None)
+
+-- Records and report get their names. If the day has its own before, it has it at each moment since: whatever a crash leaves
+-- then, if each folder was stored; and in any case if the walk is killed then.
+pub record NamesDay (files : DayFiles) (is_free : Bool) (naming : Naming) (old new : List Step) : Type 0 where
+  pub safe : naming.is_stored ≡ true → (is_own : (records report : List ℕ) → Bool) (is_of : (stamp records report : List ℕ) → Bool)
+      → AreDayNames files → HaveOwnParts files is_own old → IsFreeIf is_free files old
+      → HasOwn is_own is_of files old → AtEachMoment (HasOwn is_own is_of files) old new
+  pub killed : (is_own : (records report : List ℕ) → Bool) → AreDayNames files → HaveOwnParts files is_own old → IsFreeIf is_free files old
+      → HasReport is_own files old → AtEachMoment (HasReport is_own files) old new
+  pub sees : OnOk (told naming.answer) (AreDayNames files → SeesNames files old new)
+  pub gives : OnOk (told naming.answer) (naming.is_stored ≡ true → AreDayNames files → IsFreeIf is_free files old → GivesNames files old new)
+  pub changes : ChangesFiles (day_paths files) old new
+  pub cause : IsErrOf (told naming.answer) Failed → failures old < failures new
+  pub unstored : naming.is_stored ≡ false → failures old < failures new
+
+-- The same of a day whose files go.
+pub record ClearsDay (files : DayFiles) (naming : Naming) (old new : List Step) : Type 0 where
+  pub safe : naming.is_stored ≡ true → (is_own : (records report : List ℕ) → Bool) (is_of : (stamp records report : List ℕ) → Bool)
+      → AreDayNames files → HasOwn is_own is_of files old → AtEachMoment (HasOwn is_own is_of files) old new
+  pub killed : (is_own : (records report : List ℕ) → Bool) → AreDayNames files
+      → HasReport is_own files old → AtEachMoment (HasReport is_own files) old new
+  pub sees : OnOk (told naming.answer) (AreDayNames files → SeesNone files new)
+  pub gone : OnOk (told naming.answer) (naming.is_stored ≡ true → AreDayNames files → IsFree files new)
+  pub changes : ChangesFiles (day_paths files) old new
+  pub cause : IsErrOf (told naming.answer) Failed → failures old < failures new
+  pub unstored : naming.is_stored ≡ false → failures old < failures new

@@ -3,12 +3,11 @@
 #![tactic(auto)]
 
 mod batch;
+mod fallback;
 mod files;
 mod naming;
 
 pub use batch::{Waiting, name_stamps};
+pub use fallback::{Naming, clear_files, name_files};
 pub use files::{DayFiles, Name, NewName};
-pub use naming::{
-    Act, Stopped, clear_day, name_day, name_new_day, name_unstored_day, perform,
-    records_without_a_report,
-};
+pub use naming::{Act, Stopped, perform, records_without_a_report};

@@ -4,7 +4,6 @@ ghost use Rattle.msr_tree.specs.Calls.{DoesStep, Goes};
 ghost use Rattle.msr_tree.specs.Steps.{MayLeave};
 ghost use Rattle.msr_naming.specs.Comes.{as_they_come, records_name, report_name};
 ghost use Rattle.msr_naming.specs.Naming.{Performs, act_step, told};
-ghost use Rattle.msr_naming.specs.Promise.{GivesNames, HaveOwnParts, IsFree, KeepsOwn, KeepsIfKilled, OverNothing};
 
 use crate::files::{DayFiles, Name};
 use msr_tree::{Tree, TreeFault, folder_above};
@@ -23,66 +22,6 @@ pub enum Act {
 pub struct Stopped {
     pub act: Act,
     pub fault: TreeFault,
-}
-
-/// Where nothing stands under the names of a day, and no crash would leave anything there: its report and its records get
-/// their names.
-pub fn name_new_day<T: Tree>(tree: &mut T, files: &DayFiles) -> Result<(), Stopped>
-    ensures safe { Goes (T.went tree.old) (T.went tree.new) (KeepsOwn files.now (OverNothing files.now) (λ old new. IsFree files.now old → GivesNames files.now old new) (told result)) }
-    ensures killed { Goes (T.went tree.old) (T.went tree.new) (KeepsIfKilled files.now (OverNothing files.now) (told result)) }
-{
-    let anew = [
-        Act::Rename(Name::ReportPart, Name::Report),
-        Act::Rename(Name::RecordsPart, Name::Records),
-    ];
-    perform(tree, files, &anew)
-}
-
-/// The same where older files may stand. The old stamp and the old records go before, and each is on the disk before the
-/// next begins.
-pub fn name_day<T: Tree>(tree: &mut T, files: &DayFiles) -> Result<(), Stopped>
-    ensures safe { Goes (T.went tree.old) (T.went tree.new) (KeepsOwn files.now (HaveOwnParts files.now) (GivesNames files.now) (told result)) }
-    ensures killed { Goes (T.went tree.old) (T.went tree.new) (KeepsIfKilled files.now (HaveOwnParts files.now) (told result)) }
-{
-    let over = [
-        Act::Remove(Name::Stamp),
-        Act::Store(Name::Report),
-        Act::Remove(Name::Records),
-        Act::Store(Name::Records),
-        Act::Rename(Name::ReportPart, Name::Report),
-        Act::Store(Name::Report),
-        Act::Rename(Name::RecordsPart, Name::Records),
-    ];
-    perform(tree, files, &over)
-}
-
-/// The same on a file system that cannot store a folder: right for kills.
-pub fn name_unstored_day<T: Tree>(tree: &mut T, files: &DayFiles) -> Result<(), Stopped>
-    ensures { Goes (T.went tree.old) (T.went tree.new) (KeepsIfKilled files.now (HaveOwnParts files.now) (told result)) }
-{
-    let unstored = [
-        Act::Remove(Name::Stamp),
-        Act::Remove(Name::Records),
-        Act::Rename(Name::ReportPart, Name::Report),
-        Act::Rename(Name::RecordsPart, Name::Records),
-    ];
-    perform(tree, files, &unstored)
-}
-
-/// What stands under the names of a day goes, in the same order.
-pub fn clear_day<T: Tree>(tree: &mut T, files: &DayFiles) -> Result<(), Stopped>
-    ensures safe { Goes (T.went tree.old) (T.went tree.new) (KeepsOwn files.now (λ _ _. Unit {0}) (λ _ new. IsFree files.now new) (told result)) }
-    ensures killed { Goes (T.went tree.old) (T.went tree.new) (KeepsIfKilled files.now (λ _ _. Unit {0}) (told result)) }
-{
-    let gone = [
-        Act::Remove(Name::Stamp),
-        Act::Store(Name::Report),
-        Act::Remove(Name::Records),
-        Act::Store(Name::Records),
-        Act::Remove(Name::Report),
-        Act::Store(Name::Report),
-    ];
-    perform(tree, files, &gone)
 }
 
 /// Does what is to be done in order, up to what fails first.

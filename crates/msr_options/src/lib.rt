@@ -7,6 +7,7 @@ mod files;
 mod hint;
 mod options;
 mod task;
+mod telling;
 
 pub use days::DayOptions;
 pub use errors::{Errors, complain, write_complaint};
@@ -17,3 +18,4 @@ pub use task::{
     Archiving, Checking, Comparing, Ending, Feeding, Folders, ListForm, Listing, NoTask, Repacking,
     Replacing, Task, Verb, Verifying, overlap,
 };
+pub use telling::Telling;

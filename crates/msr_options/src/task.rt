@@ -4,6 +4,7 @@ ghost use Rattle.msr_options.specs.Tasks.{IsBelow, Overlap};
 
 use crate::days::DayOptions;
 use crate::options::Options;
+use crate::telling::Telling;
 use std::alloc::AllocError;
 
 /// A file to be repacked.
@@ -24,7 +25,7 @@ pub struct Feeding<'a> {
     pub report: &'a str,
 }
 
-/// In which form segments are listed: in lines of words, or in lines of JSON.
+/// In which form segments are listed, or the lines of a walk are told: in words, or in JSON.
 #[derive(Clone, Copy, Debug, PartialEq, Eq)]
 pub enum ListForm {
     Words,
@@ -34,7 +35,7 @@ pub enum ListForm {
 impl ListForm {
     ghost use Rattle.std.specs.Prelude.{◌≡◌, false, true};
 
-    /// The form of a list that is asked for in JSON, or not.
+    /// The form of lines that are asked for in JSON, or not.
     pub fn asked(in_json: bool) -> ListForm
         ensures json { in_json ≡ true → result ≡ ListForm.Json }
         ensures words { in_json ≡ false → result ≡ ListForm.Words }
@@ -138,6 +139,7 @@ pub struct Verifying<'a> {
     pub folders: Folders<'a>,
     /// The paths, from the archive's folder, of the folders that are walked; none for the whole archive.
     pub below: Vec<&'a str>,
+    pub telling: Telling,
 }
 
 /// An archive whose originals are to change places with their records.

@@ -18,8 +18,8 @@ use Rattle.msr_replace.specs.Restored.{refusal_of}
 use Rattle.msr_replace.specs.Judging.{HaveLengths, IsOpenedDay, JudgesReplaceable, JudgesKinds, JudgesMissing, JudgesSeen, JudgesWhole, LackInt24, ShowsItself, TellsKinds, verified_of}
 use Rattle.msr_replace.specs.Kinds.{LacksInt24}
 use Rattle.msr_replace.specs.Looks.{AreOfNames, AreWhole, AsksYoung, IsSeenDay, RefusesByNames, SortsAs, is_of_names}
-use Rattle.msr_replace.specs.Names.{Names, all, path_at}
-use Rattle.msr_replace.specs.Promise.{AreKept, KeepsAll, KeepsBoth, Says}
+use Rattle.msr_exchange.specs.Names.{Names, all, path_at}
+use Rattle.msr_exchange.specs.Promise.{AreKept, KeepsAll, KeepsBoth, Says}
 use Rattle.msr_replace.specs.declared.answers.DayAnswer.{DayAnswer}
 use Rattle.msr_replace.specs.declared.answers.DayAnswer.TheVariants as answer
 use Rattle.msr_replace.specs.declared.answers.DayRefusal.{DayRefusal}
@@ -28,18 +28,18 @@ use Rattle.msr_replace.specs.declared.day.Judged.{Judged}
 use Rattle.msr_replace.specs.declared.day.Judged.TheVariants as judged
 use Rattle.msr_replace.specs.declared.looks.Looked.{Looked}
 use Rattle.msr_replace.specs.declared.looks.Sorted.TheVariants as sorted
-use Rattle.msr_replace.specs.declared.moves.Hindrance.TheVariants as hindrance
-use Rattle.msr_replace.specs.declared.names.Place.TheVariants.{Day, Original, Records}
-use Rattle.msr_replace.specs.declared.preparing.Verified.{Verified}
-use Rattle.msr_replace.specs.declared.told.Refusal.{Refusal}
-use Rattle.msr_replace.specs.declared.told.Refusal.TheVariants as refusal
-use Rattle.msr_replace.specs.declared.told.Told.{Told}
-use Rattle.msr_replace.specs.declared.told.Told.TheVariants as told
+use Rattle.msr_exchange.specs.declared.moves.Hindrance.TheVariants as hindrance
+use Rattle.msr_exchange.specs.declared.names.Place.TheVariants.{Day, Original, Records}
+use Rattle.msr_exchange.specs.declared.preparing.Verified.{Verified}
+use Rattle.msr_exchange.specs.declared.told.Refusal.{Refusal}
+use Rattle.msr_exchange.specs.declared.told.Refusal.TheVariants as refusal
+use Rattle.msr_exchange.specs.declared.told.Told.{Told}
+use Rattle.msr_exchange.specs.declared.told.Told.TheVariants as told
 use Rattle.msr_replace.specs.declared.verifying.Opened.{Opened}
 use Rattle.msr_replace.specs.declared.verifying.Opened.TheVariants as opened
-use Rattle.msr_replace.specs.declared.work.DayWork.{DayWork}
-use Rattle.msr_replace.proofs.Alone.{alone_moments, alone_then}
-use Rattle.msr_replace.proofs.Phases.{quiet_moments}
+use Rattle.msr_exchange.specs.declared.work.DayWork.{DayWork}
+use Rattle.msr_exchange.proofs.Alone.{alone_moments, alone_then}
+use Rattle.msr_exchange.proofs.Phases.{quiet_moments}
 
 -- What is seen after nothing was changed was seen before.
 module _ (p r : List Step) (changes : ChangesOnly [] p r) where

@@ -1,14 +1,8 @@
-pub mod Alone
-pub mod Back
 pub mod Counted
 pub mod LinesTold
 pub mod Judged
 pub mod KindLemmas
-pub mod Making
-pub mod Moved
-pub mod NameLemmas
 pub mod Opening
-pub mod Phases
 pub mod Quiet
 pub mod Reading
 pub mod Restored

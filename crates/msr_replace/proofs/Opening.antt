@@ -15,13 +15,13 @@ use Rattle.msr_verify.specs.declared.judging.VerifyFault.{VerifyFault}
 use Rattle.msr_replace.specs.Answers.{HaveInt24, IsFoundDay, IsRefusedFor}
 use Rattle.msr_replace.specs.Judging.{FindsOpen, IsLeastIf, IsOpenedDay, IsOpenedBeside, IsOpenedBy, IsOwnLeast, LackInt24, LeastOf, ReadsName, ShowsItself, ShowsItselfBy, TellsKinds, kinds_refusal, opened_as_found}
 use Rattle.msr_replace.specs.Kinds.{HoldsInt24, LacksInt24, TellsInt24}
-use Rattle.msr_replace.specs.Names.{Names}
+use Rattle.msr_exchange.specs.Names.{Names}
 use Rattle.msr_replace.specs.declared.answers.DayAnswer.TheVariants.{Refused}
 use Rattle.msr_replace.specs.declared.answers.DayRefusal.{DayRefusal}
 use Rattle.msr_replace.specs.declared.answers.DayRefusal.TheVariants as said
 use Rattle.msr_replace.specs.declared.verifying.Opened.{Opened}
 use Rattle.msr_replace.specs.declared.verifying.Opened.TheVariants as opened
-use Rattle.msr_replace.specs.declared.work.DayWork.{DayWork}
+use Rattle.msr_exchange.specs.declared.work.DayWork.{DayWork}
 use Rattle.msr_replace.proofs.Judged.{found_sooner, told_after, told_sooner, told_then}
 use Rattle.msr_replace.proofs.Reading.{found_by, left_is, least_by, reads_later, reads_of}
 

@@ -6,7 +6,7 @@ use Rattle.msr_tree.specs.Steps.{ChangesOnly, IsNoneOf, Path, Step}
 use Rattle.msr_tree.specs.declared.tree.TreeFault.{TreeFault}
 use Rattle.msr_tree.proofs.Acting.{acts_tells, giving, goes_as, stopped_as, stopping, then_given, told_as}
 use Rattle.msr_tree.proofs.Changes.{changes_more, changes_none, changes_then}
-use Rattle.msr_replace.specs.Moves.{Anything}
+use Rattle.msr_exchange.specs.Moves.{Anything}
 
 pub quiet_none : (names : List Path) (one : List Step → Type 0) → Goes one one (ChangesOnly names)
 quiet_none names one = record { from = λ new went. (new, went, changes_none names new) }

@@ -13,7 +13,7 @@ use Rattle.msr_verify.specs.declared.judging.Finding.{Finding}
 use Rattle.msr_verify.specs.declared.judging.VerifyFault.{VerifyFault}
 use Rattle.msr_replace.specs.Answers.{IsFoundDay}
 use Rattle.msr_replace.specs.Judging.{FindsOpen, IsOwnLeast, LeastOf, ReadsName}
-use Rattle.msr_replace.specs.Names.{Names}
+use Rattle.msr_exchange.specs.Names.{Names}
 
 pub reads_later : (path : Path) (device : Device) (p q : List Step) → ChangesOnly [] p q → ReadsName path device p → ReadsName path device q
 reads_later path device p q changes reads = record { bytes = reads.bytes; is_seen = seen_kept [] path p q tt changes ∙ reads.is_seen; gives = reads.gives }

@@ -6,17 +6,17 @@ use Rattle.msr_tree.specs.declared.tree.TreeFault.{TreeFault}
 use Rattle.msr_tree.specs.declared.tree.TreeFault.TheVariants as fault
 use Rattle.msr_tree.proofs.Acting.{giving, goes_as, stopping}
 use Rattle.msr_tree.proofs.Changes.{changes_none}
-use Rattle.msr_replace.specs.Names.{Names, all}
-use Rattle.msr_replace.specs.Promise.{AreKept, HasItsPlace, Restores, Says}
+use Rattle.msr_exchange.specs.Names.{Names, all}
+use Rattle.msr_exchange.specs.Promise.{AreKept, HasItsPlace, Restores, Says}
 use Rattle.msr_replace.specs.Restored.{RestoresDay, restored_of}
 use Rattle.msr_replace.specs.declared.answers.DayRestored.{DayRestored}
 use Rattle.msr_replace.specs.declared.answers.DayRestored.TheVariants as restored
-use Rattle.msr_replace.specs.declared.names.Place.TheVariants.{Original, Records}
-use Rattle.msr_replace.specs.declared.told.Told.{Told}
-use Rattle.msr_replace.specs.declared.told.Told.TheVariants as told
-use Rattle.msr_replace.proofs.Alone.{alone_moments}
-use Rattle.msr_replace.proofs.Back.{waits_moments}
-use Rattle.msr_replace.proofs.Phases.{quiet_moments}
+use Rattle.msr_exchange.specs.declared.names.Place.TheVariants.{Original, Records}
+use Rattle.msr_exchange.specs.declared.told.Told.{Told}
+use Rattle.msr_exchange.specs.declared.told.Told.TheVariants as told
+use Rattle.msr_exchange.proofs.Alone.{alone_moments}
+use Rattle.msr_exchange.proofs.Back.{waits_moments}
+use Rattle.msr_exchange.proofs.Phases.{quiet_moments}
 
 module _ (names : Names) where
   abbrev Back : (a b : List ℕ) → List Step → Type 0

@@ -1,5 +1,5 @@
 -- What is told of a day, and what it says of the files under its names.
-use Rattle.std.specs.Prelude.{◌<◌, ◌≤◌, ◌≡◌, ◌⊎◌, ℕ, Bool, true, List, length, Option, None, Some, Result, Ok, Err, IfOk, IsErrOf, IsSome}
+use Rattle.std.specs.Prelude.{◌<◌, ◌≤◌, ◌≡◌, ◌⊎◌, ℕ, Bool, true, List, length, Option, None, Some, Result, Ok, Err, IfOk, IsErrOf, IsSome, ◌++◌, codes}
 use Rattle.msr_tree.specs.Steps.{AtEachMoment, ChangesOnly, Leaves, Path, Step, failures, now, seen}
 use Rattle.msr_tree.specs.declared.tree.TreeFault.{TreeFault}
 use Rattle.msr_tree.specs.declared.tree.TreeFault.TheVariants.{Failed}
@@ -8,18 +8,22 @@ use Rattle.msr_verify.specs.declared.judging.Finding.{Finding}
 use Rattle.msr_verify.specs.declared.judging.Finding.TheVariants as finding
 use Rattle.msr_verify.specs.declared.judging.VerifyFault.{VerifyFault}
 use Rattle.msr_replace.specs.Kinds.{HoldsInt24, LacksInt24}
-use Rattle.msr_replace.specs.Names.{Names, all, path_at}
+use Rattle.msr_exchange.specs.Names.{Names, all, path_at, path_below}
 use Rattle.msr_replace.specs.Restored.{refusal_of}
-use Rattle.msr_replace.specs.Promise.{AreKept, HaveChanged, KeepsBoth, LeavesAlone}
+use Rattle.msr_exchange.specs.Promise.{AreKept, HaveChanged, KeepsBoth, LeavesAlone}
 use Rattle.msr_replace.specs.declared.answers.DayAnswer.{DayAnswer}
 use Rattle.msr_replace.specs.declared.answers.DayAnswer.TheVariants.{Replaced, Same, Young, Larger, Changed, Missing, NotShown, Differs, Refused}
 use Rattle.msr_replace.specs.declared.answers.DayRefusal.{DayRefusal}
 use Rattle.msr_replace.specs.declared.answers.DayRefusal.TheVariants as said
-use Rattle.msr_replace.specs.declared.names.Place.TheVariants.{Original, Records}
-use Rattle.msr_replace.specs.declared.preparing.Verified.{Verified}
-use Rattle.msr_replace.specs.declared.told.Told.{Told}
-use Rattle.msr_replace.specs.declared.told.Told.TheVariants as told
-use Rattle.msr_replace.specs.declared.work.DayWork.{DayWork}
+use Rattle.msr_exchange.specs.declared.names.Place.TheVariants.{Original, Records}
+use Rattle.msr_exchange.specs.declared.preparing.Verified.{Verified}
+use Rattle.msr_exchange.specs.declared.told.Told.{Told}
+use Rattle.msr_exchange.specs.declared.told.Told.TheVariants as told
+use Rattle.msr_exchange.specs.declared.work.DayWork.{DayWork}
+
+-- the name of a day's report
+abbrev pub report_in : DayWork → (path : List ℕ) → Path
+report_in work path = path_below work.reports.now (path ++ codes ".txt")
 
 -- The three files of a day have these bytes.
 pub record HaveBytes (names : Names) (report : Path) (file records text : List ℕ) (past : List Step) : Type 0 where

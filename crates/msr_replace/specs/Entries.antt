@@ -2,8 +2,7 @@
 use Rattle.std.specs.Prelude.{◌≡◌, ◌==◌, ℕ, ⊤, Bool, true, false, List, [], ◌∷◌, ◌++◌, slice_index, Option, None, Some, String}
 use Rattle.std.specs.List.{AllByRecursion, count_by, sum_by}
 use Rattle.std.specs.String.{string_bytes}
-use Rattle.msr_folders.specs.Days.{IsNoDay}
-use Rattle.msr_verify.specs.Entries.{IsDay}
+use Rattle.msr_folders.specs.Days.{IsDay, IsNoDay}
 use Rattle.msr_folders.specs.Totals.{saturated}
 use Rattle.msr_replace.specs.Lines.{IsExchangeLine, after_of, before_of, exchange_word}
 use Rattle.msr_replace.specs.Words.{is_unwell, is_well, word_number}

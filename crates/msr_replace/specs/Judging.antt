@@ -15,7 +15,7 @@ use Rattle.msr_replace.specs.Answers.{IsFoundDay, IsRefusedFor, IsToldDay, IsVer
 use Rattle.msr_replace.specs.Looks.{IsSeenDay, SortsAs}
 use Rattle.msr_replace.specs.declared.looks.Looked.{Looked}
 use Rattle.msr_replace.specs.declared.looks.Sorted.TheVariants.{Missing}
-use Rattle.msr_replace.specs.Names.{Names}
+use Rattle.msr_exchange.specs.Names.{Names}
 use Rattle.msr_replace.specs.Kinds.{LacksInt24}
 use Rattle.msr_replace.specs.declared.answers.DayRefusal.{DayRefusal}
 use Rattle.msr_replace.specs.declared.answers.DayAnswer.{DayAnswer}
@@ -23,10 +23,10 @@ use Rattle.msr_replace.specs.declared.answers.DayAnswer.TheVariants.{Larger, Not
 use Rattle.msr_replace.specs.declared.answers.DayRefusal.TheVariants.{Fault, Int24, RecordsUnopened}
 use Rattle.msr_replace.specs.declared.day.Judged.{Judged}
 use Rattle.msr_replace.specs.declared.day.Judged.TheVariants as judged
-use Rattle.msr_replace.specs.declared.preparing.Verified.{Verified}
+use Rattle.msr_exchange.specs.declared.preparing.Verified.{Verified}
 use Rattle.msr_replace.specs.declared.verifying.Opened.{Opened}
 use Rattle.msr_replace.specs.declared.verifying.Opened.TheVariants as opened
-use Rattle.msr_replace.specs.declared.work.DayWork.{DayWork}
+use Rattle.msr_exchange.specs.declared.work.DayWork.{DayWork}
 
 -- a file that is opened has the bytes of its name
 abbrev pub FindsOpen : Path → {T : Type 0} → (T → Device) → (old new : List Step) → Option T → Type 0

@@ -4,12 +4,7 @@ pub mod Answers
 pub mod Judging
 pub mod Kinds
 pub mod Looks
-pub mod Moves
-pub mod Names
-pub mod Phases
-pub mod Promise
 pub mod Restored
 pub mod Sums
 pub mod Walk
 pub mod Words
-pub mod Work

@@ -4,13 +4,13 @@ use Rattle.msr_tree.specs.Calls.{Looks}
 use Rattle.msr_tree.specs.Steps.{Path, Step}
 use Rattle.msr_tree.specs.declared.facts.Facts.{Facts}
 use Rattle.msr_tree.specs.declared.facts.Kind.TheVariants.{Regular}
-use Rattle.msr_replace.specs.Names.{Names}
+use Rattle.msr_exchange.specs.Names.{Names}
 use Rattle.msr_replace.specs.declared.answers.DayRefusal.{DayRefusal}
 use Rattle.msr_replace.specs.declared.answers.DayRefusal.TheVariants.{Fault, Int24}
 use Rattle.msr_replace.specs.declared.looks.Looked.{Looked}
 use Rattle.msr_replace.specs.declared.looks.Sorted.{Sorted}
 use Rattle.msr_replace.specs.declared.looks.Sorted.TheVariants.{Missing, Refused, Whole}
-use Rattle.msr_replace.specs.declared.work.DayWork.{DayWork}
+use Rattle.msr_exchange.specs.declared.work.DayWork.{DayWork}
 
 -- this stands under the names of a day
 pub record IsSeenDay (names : Names) (report : Path) (old new : List Step) (looked : Looked) : Type 0 where

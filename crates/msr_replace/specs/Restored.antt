@@ -3,18 +3,18 @@ use Rattle.std.specs.Prelude.{◌<◌, ◌≡◌, ℕ, List, None, Some, Result,
 use Rattle.msr_tree.specs.Steps.{AtEachMoment, ChangesOnly, Leaves, Step, failures, now}
 use Rattle.msr_tree.specs.declared.tree.TreeFault.{TreeFault}
 use Rattle.msr_tree.specs.declared.tree.TreeFault.TheVariants.{Failed}
-use Rattle.msr_replace.specs.Names.{Names, all}
-use Rattle.msr_replace.specs.Promise.{AreKept, IsUnderEither, KeepsBoth, LeavesAlone}
+use Rattle.msr_exchange.specs.Names.{Names, all}
+use Rattle.msr_exchange.specs.Promise.{AreKept, IsUnderEither, KeepsBoth, LeavesAlone}
 use Rattle.msr_replace.specs.declared.answers.DayRefusal.{DayRefusal}
 use Rattle.msr_replace.specs.declared.answers.DayRefusal.TheVariants as said
 use Rattle.msr_replace.specs.declared.answers.DayRestored.{DayRestored}
 use Rattle.msr_replace.specs.declared.answers.DayRestored.TheVariants as restored
-use Rattle.msr_replace.specs.declared.moves.Hindrance.TheVariants as hindrance
-use Rattle.msr_replace.specs.declared.names.Place.TheVariants.{Original, Records}
-use Rattle.msr_replace.specs.declared.told.Refusal.{Refusal}
-use Rattle.msr_replace.specs.declared.told.Refusal.TheVariants as refusal
-use Rattle.msr_replace.specs.declared.told.Told.{Told}
-use Rattle.msr_replace.specs.declared.told.Told.TheVariants as told
+use Rattle.msr_exchange.specs.declared.moves.Hindrance.TheVariants as hindrance
+use Rattle.msr_exchange.specs.declared.names.Place.TheVariants.{Original, Records}
+use Rattle.msr_exchange.specs.declared.told.Refusal.{Refusal}
+use Rattle.msr_exchange.specs.declared.told.Refusal.TheVariants as refusal
+use Rattle.msr_exchange.specs.declared.told.Told.{Told}
+use Rattle.msr_exchange.specs.declared.told.Told.TheVariants as told
 
 -- why a day is refused
 abbrev pub refusal_of : Refusal → DayRefusal

@@ -1,24 +1,21 @@
 //! A day by its path.
-ghost use Rattle.std.specs.Prelude.{◌≡◌, []};
+ghost use Rattle.std.specs.Prelude.{◌≡◌, [], IfOk, string_bytes};
 ghost use Rattle.msr_sds.specs.SdsPath.{ReadsAsDay, SdsPath};
 ghost use Rattle.msr_tree.specs.Acts.{Acts};
 ghost use Rattle.msr_tree.specs.Calls.{Goes};
-ghost use Rattle.msr_replace.specs.Answers.{Replaces, replaced_of};
-ghost use Rattle.msr_replace.specs.Restored.{RestoresDay, restored_of};
+ghost use Rattle.msr_replace.specs.Answers.{Replaces, report_in};
+ghost use Rattle.msr_replace.specs.Restored.{RestoresDay};
 ghost use Rattle.msr_replace.specs.Judging.{JudgesReplaceable, JudgesKinds, JudgesMissing, JudgesSeen, JudgesWhole, verified_of};
-ghost use Rattle.msr_replace.specs.Names.{AreNames};
-ghost use Rattle.msr_replace.specs.Work.{AreThreeFolders, names_in, report_in};
+ghost use Rattle.msr_exchange.specs.Names.{AreNames};
+ghost use Rattle.msr_exchange.specs.Work.{AreThreeFolders, names_in};
 
 use crate::answers::{DayAnswer, DayRestored};
-use crate::exchange::replace_day;
 use crate::looks::{Looked, Sorted, is_young, look_at_day, odd_day, sort};
-use crate::names::DayNames;
-use crate::preparing::Verified;
-use crate::restore::restore_day;
-use crate::told::Told;
+use crate::told::{replaced_of, restored_of};
 use crate::verifying::{Opened, look_for_int24, shows_itself, verify_files};
-use crate::work::DayWork;
+use msr_exchange::{DayNames, DayWork, Verified, replace_day, restore_day};
 use msr_tree::{Facts, Tree, TreeFault};
+use std::alloc::AllocError;
 
 /// What is known of a day before anything is done.
 #[derive(Clone, Copy)]
@@ -156,31 +153,6 @@ fn judge<T: Tree>(
     judge_sorted(tree, work, names, path, report, &looked)
 }
 
-/// What is told of a day whose files were to change places.
-fn replaced_of(told: Told, verified: &Verified) -> DayAnswer
-    ensures { result ≡ replaced_of told verified.now }
-{
-    match told {
-        Told::Done => DayAnswer::Replaced {
-            before: verified.file.bytes,
-            after: verified.records.bytes,
-        },
-        Told::Same => DayAnswer::Same,
-        Told::Changed => DayAnswer::Changed,
-        Told::Refused(refusal) => DayAnswer::Refused(refusal.told()),
-    }
-}
-
-fn restored_of(told: Told) -> DayRestored
-    ensures { result ≡ restored_of told }
-{
-    match told {
-        Told::Done | Told::Same => DayRestored::Restored,
-        Told::Changed => DayRestored::Changed,
-        Told::Refused(refusal) => DayRestored::Refused(refusal.told()),
-    }
-}
-
 fn replace_named<T: Tree>(
     tree: &mut T,
     work: &DayWork<'_>,
@@ -200,6 +172,14 @@ fn replace_named<T: Tree>(
     }
 }
 
+/// The path of a day's report.
+fn report_of(work: &DayWork<'_>, path: &str) -> Result<String, AllocError>
+    ensures { IfOk result (λ report. string_bytes report ≡ report_in work.now path.now) }
+{
+    let reports = work.reports;
+    format!(in work.alloc; "{reports}/{path}.txt")
+}
+
 /// Verifies the day with this path from ROOT, and gives its records the place of its file, which is set aside.
 pub fn replace_path<T: Tree>(
     tree: &mut T,
@@ -212,7 +192,7 @@ pub fn replace_path<T: Tree>(
         (Replaces work.now (names_in work.now path.now) (report_in work.now path.now) result) }
 {
     let names = DayNames::new(work, path)?;
-    let report = work.report(path)?;
+    let report = report_of(work, path)?;
     replace_named(tree, work, &names, path, report.as_str())
 }
 

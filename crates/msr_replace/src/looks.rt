@@ -3,12 +3,11 @@ ghost use Rattle.std.specs.Prelude.{◌≡◌, []};
 ghost use Rattle.msr_tree.specs.Acts.{Acts};
 ghost use Rattle.msr_tree.specs.Calls.{Goes};
 ghost use Rattle.msr_replace.specs.Looks.{AsksYoung, IsSeenDay, RefusesByNames, SortsAs};
-ghost use Rattle.msr_replace.specs.Moves.{Anything};
+ghost use Rattle.msr_exchange.specs.Moves.{Anything};
 
 use crate::answers::DayRefusal;
-use crate::names::{DayNames, Place};
 use crate::ways::odd_way;
-use crate::work::DayWork;
+use msr_exchange::{DayNames, DayWork, Place};
 use msr_tree::{Facts, Kind, Time, Tree, TreeFault};
 
 /// What stands under the names of a day's file, its records and its report.

@@ -1,8 +1,8 @@
 //! What the walk of a replace needs.
-ghost use Rattle.msr_replace.specs.Work.{AreThreeFolders};
+ghost use Rattle.msr_exchange.specs.Work.{AreThreeFolders};
 
 use crate::lines::EntryRefusal;
-use crate::work::DayWork;
+use msr_exchange::DayWork;
 use std::marker::PhantomData;
 use std::rt::Files;
 

@@ -1,68 +1,46 @@
-//! What became of a day.
-ghost use Rattle.std.specs.Prelude.{◌≢◌};
-ghost use Rattle.msr_replace.specs.declared.told.Told.TheVariants.{Done, Same};
+//! What is told of a day whose files were to change places.
+ghost use Rattle.std.specs.Prelude.{◌≡◌};
+ghost use Rattle.msr_replace.specs.Answers.{replaced_of};
+ghost use Rattle.msr_replace.specs.Restored.{refusal_of, restored_of};
 
-use crate::answers::DayRefusal;
-use crate::moves::Hindrance;
+use crate::answers::{DayAnswer, DayRefusal, DayRestored};
+use msr_exchange::{Hindrance, Refusal, Told, Verified};
 
-/// Why a day is refused: the name that cannot be given, and what is in the way.
-#[derive(Clone, Copy, Debug, PartialEq, Eq)]
-pub enum Refusal {
-    /// The one in ROOT.
-    Day(Hindrance),
-    /// The original's in ASIDE.
-    Aside(Hindrance),
-    /// The records' in OUT.
-    Records(Hindrance),
-}
-
-impl Refusal {
-    ghost use Rattle.std.specs.Prelude.{◌≡◌};
-    ghost use Rattle.msr_replace.specs.Restored.{refusal_of};
-
-    /// What is told of it.
-    pub(crate) fn told(self) -> DayRefusal
-        ensures { result ≡ refusal_of self }
-    {
-        match self {
-            Refusal::Day(Hindrance::Dress) | Refusal::Records(Hindrance::Dress) =>
-                DayRefusal::Dress,
-            Refusal::Day(Hindrance::Link | Hindrance::Taken) => DayRefusal::Link,
-            Refusal::Aside(Hindrance::Link) => DayRefusal::AsideLink,
-            Refusal::Aside(Hindrance::Taken) => DayRefusal::AsideTaken,
-            Refusal::Aside(Hindrance::Dress) => DayRefusal::AsideDress,
-            Refusal::Records(Hindrance::Link) => DayRefusal::RecordsLink,
-            Refusal::Records(Hindrance::Taken) => DayRefusal::RecordsTaken,
-        }
+fn refusal_of(refusal: Refusal) -> DayRefusal
+    ensures { result ≡ refusal_of refusal }
+{
+    match refusal {
+        Refusal::Day(Hindrance::Dress) | Refusal::Records(Hindrance::Dress) => DayRefusal::Dress,
+        Refusal::Day(Hindrance::Link | Hindrance::Taken) => DayRefusal::Link,
+        Refusal::Aside(Hindrance::Link) => DayRefusal::AsideLink,
+        Refusal::Aside(Hindrance::Taken) => DayRefusal::AsideTaken,
+        Refusal::Aside(Hindrance::Dress) => DayRefusal::AsideDress,
+        Refusal::Records(Hindrance::Link) => DayRefusal::RecordsLink,
+        Refusal::Records(Hindrance::Taken) => DayRefusal::RecordsTaken,
     }
 }
 
-/// What became of a day.
-#[derive(Clone, Copy, Debug, PartialEq, Eq)]
-pub enum Told {
-    Done,
-    /// ROOT has the other file's bytes already.
-    Same,
-    /// A file was changed meanwhile; the day's has its place.
-    Changed,
-    Refused(Refusal),
+/// What is told of a day whose files were to change places.
+pub(crate) fn replaced_of(told: Told, verified: &Verified) -> DayAnswer
+    ensures { result ≡ replaced_of told verified.now }
+{
+    match told {
+        Told::Done => DayAnswer::Replaced {
+            before: verified.file.bytes,
+            after: verified.records.bytes,
+        },
+        Told::Same => DayAnswer::Same,
+        Told::Changed => DayAnswer::Changed,
+        Told::Refused(refusal) => DayAnswer::Refused(refusal_of(refusal)),
+    }
 }
 
-/// Why a day is given up whose original has its place.
-#[derive(Clone, Copy, PartialEq, Eq)]
-pub(crate) enum GivenUp {
-    Changed,
-    Undressed,
-}
-
-impl GivenUp {
-    pub(crate) fn told(self) -> Told
-        ensures done { result ≢ Done }
-        ensures same { result ≢ Same }
-    {
-        match self {
-            GivenUp::Changed => Told::Changed,
-            GivenUp::Undressed => Told::Refused(Refusal::Day(Hindrance::Dress)),
-        }
+pub(crate) fn restored_of(told: Told) -> DayRestored
+    ensures { result ≡ restored_of told }
+{
+    match told {
+        Told::Done | Told::Same => DayRestored::Restored,
+        Told::Changed => DayRestored::Changed,
+        Told::Refused(refusal) => DayRestored::Refused(refusal_of(refusal)),
     }
 }

@@ -8,9 +8,8 @@ ghost use Rattle.msr_replace.specs.Judging.{FindsOpen, IsLeastBy, IsLeastIf, IsO
 
 use crate::answers::{DayAnswer, DayRefusal};
 use crate::kinds::has_int24;
-use crate::names::{DayNames, Place};
-use crate::work::DayWork;
 use msr_devices::Source;
+use msr_exchange::{DayNames, DayWork, Place};
 use msr_input::ReadFault;
 use msr_report::Report;
 use msr_report_reader::read_report;

@@ -4,10 +4,10 @@ ghost use Rattle.std.specs.Prelude.{◌≡◌, ◌↔◌, ◌++◌, ◌∷◌, [
 ghost use Rattle.msr_devices.specs.Device.{CanCountCall, HasFailed};
 ghost use Rattle.msr_folders.proofs.VisitLemmas.{visitor_laws};
 ghost use Rattle.msr_options.specs.Tasks.{AreApartFrom, StandApart};
-ghost use Rattle.msr_verify.specs.Entries.{IsDay};
+ghost use Rattle.msr_folders.specs.Days.{IsDay};
 ghost use Rattle.msr_replace.specs.Entries.{ExchangeEntry, IsExchangeEntry, IsExchangeEntryLine, IsGoing, IsExchangeOf, IsExchangeTally, entry_of, has_failed};
 ghost use Rattle.msr_replace.specs.Walk.{HasCome, Prints, ReplacesDays, StopsTellingExchanges, TellsExchanges};
-ghost use Rattle.msr_replace.specs.Work.{AreThreeFolders};
+ghost use Rattle.msr_exchange.specs.Work.{AreThreeFolders};
 
 use crate::day::{replace_path, restore_path};
 use crate::lines::{EntryRefusal, Outcome};
@@ -15,8 +15,8 @@ use crate::progress::Progress;
 use crate::replacer::{Course, Replacer};
 use crate::tally::Tally;
 use crate::ways::{begin_folder, end_folder};
-use crate::work::DayWork;
 use msr_devices::{DeviceFault, Sink, write_all};
+use msr_exchange::DayWork;
 use msr_folders::{FolderWalk, Lock, LockFile, Visitor, WalkFound, is_gone, join, visit_folders};
 use msr_options::Replacing;
 use msr_sds::SdsName;

@@ -4,12 +4,11 @@ ghost use Rattle.msr_tree.specs.Acts.{Acts};
 ghost use Rattle.msr_tree.specs.Calls.{Goes};
 ghost use Rattle.msr_tree.specs.Steps.{ChangesOnly};
 ghost use Rattle.msr_replace.specs.Looks.{AreOfNames, RefusesByNames};
-ghost use Rattle.msr_replace.specs.Moves.{Anything};
-ghost use Rattle.msr_replace.specs.Work.{parts_in};
+ghost use Rattle.msr_exchange.specs.Moves.{Anything};
+ghost use Rattle.msr_exchange.specs.Work.{parts_in};
 
 use crate::answers::DayRefusal;
-use crate::folders::clear_parts;
-use crate::work::DayWork;
+use msr_exchange::{DayWork, clear_parts};
 use msr_folders::{folder_of, join};
 use msr_tree::{Kind, Tree, TreeFault};
 use std::alloc::Global;

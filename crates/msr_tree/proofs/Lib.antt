@@ -2,9 +2,10 @@ pub mod Acting
 pub mod Changes
 pub mod Crash
 pub mod Deeds
+pub mod Filing
 pub mod FolderLemmas
+pub mod Folders
 pub mod Moments
 pub mod Names
 pub mod PathLemmas
 pub mod Reading
-pub mod Unknown

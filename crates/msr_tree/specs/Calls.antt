@@ -1,7 +1,7 @@
 -- What one call does.
 use Rattle.std.specs.Prelude.{◌<◌, IsErrOf, ◌≡◌, ◌≢◌, ◌⊎◌, ℕ, Bool, true, false, List, [], ◌∷◌, ◌++◌, Option, None, Some, Result, Ok, Err, IsSome, IsSomeAnd, length}
 use Rattle.msr_devices.specs.Device.{Device, unused}
-use Rattle.msr_tree.specs.Steps.{Failed, File, FolderMade, FolderStored, Linked, Made, Path, Renamed, Step, failures, now, seen}
+use Rattle.msr_tree.specs.Steps.{Failed, File, FileStored, FolderMade, FolderStored, Linked, Made, Path, Renamed, Step, failures, now, seen}
 use Rattle.msr_tree.specs.declared.tree.TreeFault.{TreeFault}
 use Rattle.msr_tree.specs.declared.tree.TreeFault.TheVariants as fault
 use Rattle.msr_tree.specs.declared.facts.Facts.{Facts}
@@ -105,3 +105,11 @@ Begins path device (Err why) old new = Stops why (PerhapsDone (Made path []) old
 abbrev pub Finishes : {T : Type 0} → Path → Device → Result T TreeFault → (old new : List Step) → Type 0
 Finishes path device (Ok x) old new = (bytes : List ℕ) × (device.bytes ≡ Some bytes) × (new ≡ Made path bytes ∷ old)
 Finishes path device (Err why) old new = Stops why (λ left. (bytes : List ℕ) × PerhapsDone (Made path bytes) old left) old new
+
+-- the same, and then it is stored
+abbrev pub PerhapsStored : Path → (old left : List Step) → Type 0
+PerhapsStored path old left = (bytes : List ℕ) × (PerhapsDone (Made path bytes) old left ⊎ (left ≡ FileStored path ∷ Made path bytes ∷ old))
+
+abbrev pub FinishesStored : {T : Type 0} → Path → Device → Result T TreeFault → (old new : List Step) → Type 0
+FinishesStored path device (Ok x) old new = (bytes : List ℕ) × (device.bytes ≡ Some bytes) × (new ≡ FileStored path ∷ Made path bytes ∷ old)
+FinishesStored path device (Err why) old new = Stops why (PerhapsStored path old) old new

@@ -1,5 +1,6 @@
 pub mod Acts
 pub mod Calls
+pub mod Folders
 pub mod Listing
 pub mod Memory
 pub mod Reads

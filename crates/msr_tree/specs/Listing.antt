@@ -1,7 +1,7 @@
 -- What stands in a folder, and what a listing of it is.
-use Rattle.std.specs.Prelude.{◌≡◌, ◌≢◌, ◌<◌, ◌⊎◌, ◌||◌, ℕ, Bool, true, false, List, [], ◌∷◌, ◌++◌, get_or, if◌then◌else◌, bytes_eq, is_some, length, map, Result, Ok, Err, String, string_bytes}
+use Rattle.std.specs.Prelude.{◌≡◌, ◌≢◌, ◌<◌, ◌⊎◌, ◌||◌, ◌&&◌, ◌==◌, ℕ, Bool, true, false, List, [], ◌∷◌, ◌++◌, get_or, if◌then◌else◌, bytes_eq, is_some, length, map, Result, Ok, Err, String, string_bytes}
 use Rattle.std.specs.Cmp.Lexicographic.{slice_cmp}
-use Rattle.std.specs.List.{Contains}
+use Rattle.std.specs.List.{Contains, starts_with}
 use Rattle.std.specs.List.Sorted.{IsStrictlySortedBy}
 use Rattle.std.specs.Ordering.{nat_cmp}
 use Rattle.msr_tree.specs.Calls.{Stops}
@@ -9,6 +9,11 @@ use Rattle.msr_tree.specs.Steps.{FolderMade, Path, Step, Unlisted, now}
 use Rattle.msr_tree.specs.declared.kind.FileKind.{FileKind}
 use Rattle.msr_tree.specs.declared.kind.FileKind.TheVariants.{Folder, Gone, Other}
 use Rattle.msr_tree.specs.declared.tree.TreeFault.{TreeFault}
+
+-- whether a path is a folder's own, or leads through it
+abbrev pub is_within : (folder path : Path) → Bool
+is_within folder path =
+    starts_with (λ x y. x == y) path folder && ((length path == length folder) || (get_or path (length folder) 0 == 47))
 
 -- whether a folder was made there
 abbrev pub has_folder : List Step → Path → Bool

@@ -6,12 +6,11 @@ mod kind;
 pub(crate) mod memory;
 mod order;
 mod paths;
-mod system;
 mod tree;
 
 pub use facts::{Facts, Kind, Rights, Time};
 pub use kind::FileKind;
 pub use memory::{Choices, Ending, Failure, MemoryReader, MemoryTree, MemoryWriter};
-pub use paths::folder_above;
-pub use system::{SystemTree, SystemWriter};
+pub use order::in_order;
+pub use paths::{folder_above, is_within};
 pub use tree::{Tree, TreeFault};

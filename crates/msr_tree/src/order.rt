@@ -7,7 +7,7 @@ ghost use Rattle.std.specs.Ordering.{nat_cmp};
 ghost use Rattle.msr_tree.specs.Listing.{listed};
 
 /// Puts names in the order of their bytes, each once.
-pub(crate) fn in_order(names: &mut Vec<String>)
+pub fn in_order(names: &mut Vec<String>)
     ensures ascend { IsStrictlySortedBy (slice_cmp nat_cmp) (listed names.new.items) }
     ensures same { (name : List ℕ) → Contains (listed names.new.items) name ↔ Contains (listed names.old.items) name }
 {

@@ -1,5 +1,6 @@
 //! The folders of paths.
 ghost use Rattle.std.specs.Prelude.{◌≡◌};
+ghost use Rattle.msr_tree.specs.Listing.{is_within};
 ghost use Rattle.msr_tree.specs.Steps.{folder_above};
 
 /// The folder of a path, empty if it has no slash.
@@ -13,9 +14,9 @@ pub fn folder_above(path: &str) -> &str
 }
 
 /// Whether a path is a folder's own, or leads through it.
-pub(crate) fn is_within(folder: &str, path: &str) -> bool {
-    match path.strip_prefix(folder) {
-        Some(rest) => rest.is_empty() || rest.starts_with('/'),
-        None => false,
-    }
+pub fn is_within(folder: &str, path: &str) -> bool
+    ensures { result ≡ is_within folder.now path.now }
+{
+    let (folder, path) = (folder.as_bytes(), path.as_bytes());
+    path.starts_with(folder) && (path.len() == folder.len() || path[folder.len()] == b'/')
 }

@@ -4,7 +4,7 @@ ghost use Rattle.std.specs.Cmp.Lexicographic.{slice_cmp};
 ghost use Rattle.std.specs.List.Sorted.{IsStrictlySortedBy};
 ghost use Rattle.std.specs.Ordering.{nat_cmp};
 ghost use Rattle.msr_devices.specs.Device.{CanCountCall};
-ghost use Rattle.msr_tree.specs.Calls.{Begins, Copies, DoesStep, Finishes, Goes, IsSameAs, Looks, MakesFolders, Opens, RenamesNew, Tells, TellsOneFile};
+ghost use Rattle.msr_tree.specs.Calls.{Begins, Copies, DoesStep, Finishes, FinishesStored, Goes, IsSameAs, Looks, MakesFolders, Opens, RenamesNew, Tells, TellsOneFile};
 ghost use Rattle.msr_tree.specs.Listing.{IsTold, ListsFolder, is_there, listed};
 ghost use Rattle.msr_tree.specs.Steps.{FileStored, FolderStored, Removed, Renamed, Step};
 ghost use Rattle.msr_tree.specs.declared.tree.TreeFault.TheVariants.{Memory};
@@ -13,6 +13,8 @@ use crate::facts::{Facts, Time};
 use crate::kind::FileKind;
 use msr_devices::{Sink, Source};
 use std::alloc::AllocError;
+use std::io;
+use std::io::ErrorKind;
 use thiserror::Error;
 
 /// Why a call has not done what it was to do.
@@ -33,19 +35,35 @@ impl From<AllocError> for TreeFault {
     }
 }
 
+impl From<io::Error> for TreeFault {
+    fn from(error: io::Error) -> TreeFault {
+        match error.kind() {
+            ErrorKind::OutOfMemory => TreeFault::Memory,
+            _ => TreeFault::Failed,
+        }
+    }
+}
+
 /// The names of a file system. Nobody else changes what they lead to. A call that fails has done its step or not.
 pub trait Tree {
     /// An open file to be read.
     type Reader: Source + Drop;
 
     /// A file that is being made.
-    type Writer: Sink;
+    type Writer: Sink + Drop;
 
     /// The steps so far may be these, the last one first. A tree of which no steps are known may have none.
     ghost went: { Self → List Step → Type 0 };
 
+    /// Why a call failed the last time that one did, if the system gave a reason. Of `kind` none is kept.
+    fn reason(&self) -> Option<io::Error>;
+
     /// What stands under a name, links not followed.
     fn look(&mut self, path: &str) -> Result<Option<Facts>, TreeFault>
+        ensures { Goes (went self.old) (went self.new) (Tells (Looks path.now) result) };
+
+    /// What stands under a name, links followed. One that leads nowhere is nothing.
+    fn look_through(&mut self, path: &str) -> Result<Option<Facts>, TreeFault>
         ensures { Goes (went self.old) (went self.new) (Tells (Looks path.now) result) };
 
     /// The names of what stands in a folder, in the order of their bytes, each once. A folder that goes away meanwhile has
@@ -73,6 +91,12 @@ pub trait Tree {
             (Tells (λ past reader. Opens path.now past (Self.Reader.device reader)) result) }
         ensures count { IfOk result (λ reader. CanCountCall (Self.Reader.device reader)) };
 
+    /// Opens what a look found under that name, links followed, to be read from its start, if it is a regular file.
+    fn open_found(&mut self, path: &str, facts: &Facts) -> Result<Self::Reader, TreeFault>
+        ensures went { Goes (went self.old) (went self.new)
+            (Tells (λ past reader. Opens path.now past (Self.Reader.device reader)) result) }
+        ensures count { IfOk result (λ reader. CanCountCall (Self.Reader.device reader)) };
+
     /// Opens a regular file to be read from its start.
     fn open(&mut self, path: &str) -> Result<Self::Reader, TreeFault>
         ensures went { Goes (went self.old) (went self.new)
@@ -88,6 +112,10 @@ pub trait Tree {
     /// Ends the making of the file of that name: it has the bytes that its writer took.
     fn finish(&mut self, path: &str, writer: Self::Writer) -> Result<(), TreeFault>
         ensures { Goes (went self.old) (went self.new) (Finishes path.now (Self.Writer.device writer) result) };
+
+    /// The same, and waits until they are on the disk.
+    fn finish_stored(&mut self, path: &str, writer: Self::Writer) -> Result<(), TreeFault>
+        ensures { Goes (went self.old) (went self.new) (FinishesStored path.now (Self.Writer.device writer) result) };
 
     /// Whether two regular files have the same bytes.
     fn is_same(&mut self, one: &str, other: &str) -> Result<bool, TreeFault>

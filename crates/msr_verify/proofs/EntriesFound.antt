@@ -17,36 +17,41 @@ use Rattle.msr_tool.specs.declared.fault.ToolFault.TheVariants.{Write}
 use Rattle.msr_verify.specs.declared.judgement.Judgement.{Judgement}
 use Rattle.msr_verify.specs.declared.judgement.Judgement.TheVariants.{Refused, Skipped}
 use Rattle.msr_verify.specs.declared.judgement.Refusal.TheVariants.{FileUnopened, Listing, RecordsListing}
-use Rattle.msr_verify.specs.Entries.{IsDay, IsJudgedEntry, IsJudgedEntryLine, IsJudgementOf, IsJudgementOfDay, IsVerifyTally, JudgedEntry}
-use Rattle.msr_verify.specs.Walk.{StopsTellingJudged, TellsJudged, TellsVerified, Verifies, judged_line, judged_summary}
+use Rattle.msr_folders.specs.Days.{IsDay}
+use Rattle.msr_verify.specs.Entries.{IsJudgedEntry, IsJudgementOf, IsJudgementOfDay, IsVerifyTally, JudgedEntry}
+use Rattle.msr_options.specs.declared.task.ListForm.{ListForm}
+use Rattle.msr_options.specs.declared.task.ListForm.TheVariants.{Words, Json}
+use Rattle.msr_options.specs.declared.telling.Telling.{Telling}
+use Rattle.msr_verify.specs.Lines.{IsToldLine}
+use Rattle.msr_verify.specs.Walk.{StopsTellingJudged, TellsJudged, TellsVerified, Verifies, judged_summary, judged_end}
 use Rattle.msr_verify.specs.declared.tally.VerifyTally.{VerifyTally}
 
 -- nothing was printed
-pub none_told : (out : Device) → StopsTellingJudged out out Memory
-none_told out = (part_none IsJudgedEntry IsJudgedEntryLine out, (calm_same out).steady)
+pub none_told : (telling : Telling) (out : Device) → StopsTellingJudged telling out out Memory
+none_told telling out = (part_none IsJudgedEntry (IsToldLine telling) out, (calm_same out).steady)
 
-pub stops_more : (out0 out1 out : Device) (tally0 tally1 : VerifyTally) (fault : DeviceFault) →
-    TellsJudged out0 out1 tally0 tally1 → StopsTellingJudged out1 out fault → StopsTellingJudged out0 out fault
-stops_more out0 out1 out tally0 tally1 fault first second =
-    visits.stops_more IsJudgedEntry IsJudgedEntryLine IsVerifyTally out0 out1 out tally0 tally1 fault first second
+pub stops_more : (telling : Telling) (out0 out1 out : Device) (tally0 tally1 : VerifyTally) (fault : DeviceFault) →
+    TellsJudged telling out0 out1 tally0 tally1 → StopsTellingJudged telling out1 out fault → StopsTellingJudged telling out0 out fault
+stops_more telling out0 out1 out tally0 tally1 fault first second =
+    visits.stops_more IsJudgedEntry (IsToldLine telling) IsVerifyTally out0 out1 out tally0 tally1 fault first second
 
 -- a prefix of the text of a walk was printed
-abbrev pub WalksInPart : Device → Device → Type 0
-WalksInPart out0 out = walks.WalksInPart IsJudgedEntry IsJudgedEntryLine judged_summary out0 out
+abbrev pub WalksInPart : Telling → Device → Device → Type 0
+WalksInPart telling out0 out = walks.WalksInPart IsJudgedEntry (IsToldLine telling) (judged_summary telling.form) out0 out
 
-pub stops_entries : (out0 out : Device) (fault : DeviceFault) → StopsTellingJudged out0 out fault
-    → StopsAt (WalksInPart out0 out) out0 out fault
-stops_entries = walks.stops_entries IsJudgedEntry IsJudgedEntryLine judged_summary
+pub stops_entries : (telling : Telling) (out0 out : Device) (fault : DeviceFault) → StopsTellingJudged telling out0 out fault
+    → StopsAt (WalksInPart telling out0 out) out0 out fault
+stops_entries telling = walks.stops_entries IsJudgedEntry (IsToldLine telling) (judged_summary telling.form)
 
-pub stops_summary : (out0 out1 out : Device) (tally0 tally : VerifyTally) (fault : DeviceFault)
-    (told : TellsJudged out0 out1 tally0 tally) → StopsPrefix out1 out (judged_summary told.entries) fault
-    → StopsAt (WalksInPart out0 out) out0 out fault
-stops_summary = walks.stops_summary IsJudgedEntry IsJudgedEntryLine judged_summary IsVerifyTally
+pub stops_summary : (telling : Telling) (out0 out1 out : Device) (tally0 tally : VerifyTally) (fault : DeviceFault)
+    (told : TellsJudged telling out0 out1 tally0 tally) → StopsPrefix out1 out (judged_summary telling.form told.entries) fault
+    → StopsAt (WalksInPart telling out0 out) out0 out fault
+stops_summary telling = walks.stops_summary IsJudgedEntry (IsToldLine telling) (judged_summary telling.form) IsVerifyTally
 
-pub walk_stops : (out0 out : Device) (fault : DeviceFault)
-    → StopsAt (WalksInPart out0 out) out0 out fault → Verifies out0 out (Err (fault_of_writing fault))
-walk_stops out0 out Failed h = record { printed = h.0.printed; prints = h.0.prints; ends = h.0.walk }
-walk_stops out0 out Memory h = record { printed = h.0.printed; prints = h.0.prints; ends = h.0.walk }
+pub walk_stops : (telling : Telling) (out0 out : Device) (fault : DeviceFault)
+    → StopsAt (WalksInPart telling out0 out) out0 out fault → Verifies telling out0 out (Err (fault_of_writing fault))
+walk_stops telling out0 out Failed h = record { printed = h.0.printed; prints = h.0.prints; ends = h.0.walk }
+walk_stops telling out0 out Memory h = record { printed = h.0.printed; prints = h.0.prints; ends = h.0.walk }
 
 -- the sink failed if that is told
 pub stop_tells : (Part : Type 0) (out0 out : Device) (fault : DeviceFault) → StopsAt Part out0 out fault
@@ -59,13 +64,13 @@ pub tells_end : (entries : List JudgedEntry) (tally : VerifyTally) (found : Walk
     → Finds tally.unverified tally.verified found → TellsVerified entries found
 tells_end entries tally found counts finds = rw (counts.unverified, counts.verified) at finds
 
-pub walk_ends : (out0 out1 out : Device) (tally0 tally : VerifyTally) (found : WalkFound) →
-    (told : TellsJudged out0 out1 tally0 tally) → Takes out1 out (judged_summary told.entries)
+pub walk_ends : (telling : Telling) (out0 out1 out : Device) (tally0 tally : VerifyTally) (found : WalkFound) →
+    (told : TellsJudged telling out0 out1 tally0 tally) → Takes out1 out (judged_summary telling.form told.entries)
     → TellsVerified told.entries found →
-    Verifies out0 out (Ok found)
-walk_ends out0 out1 out tally0 tally found told prints end = record {
-  printed = told.lines ++ judged_summary told.entries;
-  prints = takes_append out0 out1 out told.lines (judged_summary told.entries) told.prints prints;
+    Verifies telling out0 out (Ok found)
+walk_ends telling out0 out1 out tally0 tally found told prints end = record {
+  printed = told.lines ++ judged_summary telling.form told.entries;
+  prints = takes_append out0 out1 out told.lines (judged_summary telling.form told.entries) told.prints prints;
   ends = (
     told.entries,
     record {
@@ -79,9 +84,11 @@ walk_ends out0 out1 out tally0 tally found told prints end = record {
 }
 
 -- the last line, from the counts of the entries
-pub summary_is : (entries : List JudgedEntry) (tally : VerifyTally) → IsVerifyTally entries tally
-    → judged_line tally ≡ judged_summary entries
-summary_is entries tally h =
+pub summary_is : (form : ListForm) (entries : List JudgedEntry) (tally : VerifyTally) → IsVerifyTally entries tally
+    → judged_end form tally ≡ judged_summary form entries
+summary_is Words entries tally h =
+    rw (h.verified, h.skipped, h.refused, h.missing, h.not_shown, h.differ, h.orphans) refl
+summary_is Json entries tally h =
     rw (h.verified, h.skipped, h.refused, h.missing, h.not_shown, h.differ, h.orphans) refl
 
 -- a prefix of a text

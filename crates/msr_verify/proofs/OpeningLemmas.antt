@@ -4,7 +4,7 @@ use Rattle.msr_devices.specs.Device.{Device, HasLeft}
 use Rattle.msr_devices.specs.declared.fault.DeviceFault.{DeviceFault}
 use Rattle.msr_folders.proofs.WalkedLemmas.{goes_so, goes_then}
 use Rattle.msr_tree.proofs.Reading.{look_reads, looks_none, looks_then, reads_none, tells_looks, there_read}
-use Rattle.msr_tree.specs.Calls.{AreOneFile, Goes, Opens, Stops, Tells, TellsOneFile}
+use Rattle.msr_tree.specs.Calls.{Goes, Opens, Stops, Tells, TellsOneFile}
 use Rattle.msr_tree.specs.Listing.{is_there}
 use Rattle.msr_tree.specs.Reads.{OnlyLooks}
 use Rattle.msr_tree.specs.Steps.{Failed, Path, Step, failures, seen}

@@ -16,8 +16,9 @@ use Rattle.msr_tree.proofs.Reading.{failures_read, now_read, reads_then, there_r
 use Rattle.msr_tree.specs.Listing.{unlisted_after}
 use Rattle.msr_tree.specs.Reads.{OnlyReads}
 use Rattle.msr_tree.specs.Steps.{Path, Step, failures, seen}
-use Rattle.msr_verify.specs.Entries.{IsJudgedEntry, IsJudgedEntryLine, IsVerifyTally, JudgedEntry}
+use Rattle.msr_verify.specs.Entries.{IsJudgedEntry, IsVerifyTally, JudgedEntry}
 use Rattle.msr_verify.specs.Files.{AnswerThere, DayPlaces, IsArchiveVerified, IsJudgementThere, IsToldOfOut, IsToldOfRoot, day_places}
+use Rattle.msr_verify.specs.Lines.{IsToldLine}
 use Rattle.msr_verify.specs.Walk.{TellsArchive, TellsEntries, TellsVerified, VerifiesTree, judged_summary}
 use Rattle.msr_verify.specs.declared.judging.Finding.{Finding}
 use Rattle.msr_verify.specs.declared.judging.VerifyFault.{VerifyFault}
@@ -119,31 +120,31 @@ both_told archive visits records entries orphans old mid new one two =
     }
 
 pub archive_told : (archive : Verifying) (before mid after : List Step → Type 0) (out0 out1 out : Device) (tally0 tally1 tally : VerifyTally)
-    → TellsWalk TellsEntries (IsToldOfRoot archive.folders.root.now archive.folders.out.now archive.folders.reports.now) OnlyReads archive.folders.root.now
+    → TellsWalk (TellsEntries archive.telling) (IsToldOfRoot archive.folders.root.now archive.folders.out.now archive.folders.reports.now) OnlyReads archive.folders.root.now
     (λ past. AreEntriesOf past archive.folders.root.now archive.below.items) before mid out0 out1 tally0 tally1
-    → TellsWalk TellsEntries (IsToldOfOut archive.folders.root.now archive.folders.out.now) OnlyReads archive.folders.out.now
+    → TellsWalk (TellsEntries archive.telling) (IsToldOfOut archive.folders.root.now archive.folders.out.now) OnlyReads archive.folders.out.now
     (λ past. AreEntriesOf past archive.folders.out.now archive.below.items) mid after out1 out tally1 tally
     → TellsArchive archive before after out0 out tally0 tally
 archive_told archive before mid after out0 out1 out tally0 tally1 tally one two = record {
   entries = one.lines;
   orphans = two.lines;
-  these = these_more IsJudgedEntry IsJudgedEntryLine IsVerifyTally one.lines two.lines out0 out1 out tally0 tally1 tally one.told two.told;
+  these = these_more IsJudgedEntry (IsToldLine archive.telling) IsVerifyTally one.lines two.lines out0 out1 out tally0 tally1 tally one.told two.told;
   goes = goes_then _ _ _ before mid after (λ old middle new first second. both_told archive one.visits two.visits one.lines two.lines old middle new first second) one.goes two.goes;
 }
 
 -- and what a walk to its end printed
 pub tree_ends : (archive : Verifying) (before after : List Step → Type 0) (out0 out1 out : Device) (tally0 tally : VerifyTally) (found : WalkFound)
-    → (told : TellsArchive archive before after out0 out1 tally0 tally) → Takes out1 out (judged_summary told.these.told.entries)
+    → (told : TellsArchive archive before after out0 out1 tally0 tally) → Takes out1 out (judged_summary archive.telling.form told.these.told.entries)
     → TellsVerified told.these.told.entries found → VerifiesTree archive before after out0 out found
 tree_ends archive before after out0 out1 out tally0 tally found told prints end =
     let these = told.these.told in
-    let printed : List ℕ = these.lines ++ judged_summary these.entries in
+    let printed : List ℕ = these.lines ++ judged_summary archive.telling.form these.entries in
     record {
       entries = told.entries;
       orphans = told.orphans;
       printed = printed;
-      prints = takes_append out0 out1 out these.lines (judged_summary these.entries) these.prints prints;
-      text = subst (λ entries. IsWalk IsJudgedEntry IsJudgedEntryLine judged_summary printed entries) told.these.are
+      prints = takes_append out0 out1 out these.lines (judged_summary archive.telling.form these.entries) these.prints prints;
+      text = subst (λ entries. IsWalk IsJudgedEntry (IsToldLine archive.telling) (judged_summary archive.telling.form) printed entries) told.these.are
           (record { lines = these.lines; are_entries = these.are_entries; are_lines = these.are_lines; whole = refl });
       tells = subst (λ entries. TellsVerified entries found) told.these.are end;
       goes = told.goes;

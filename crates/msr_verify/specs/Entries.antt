@@ -1,11 +1,8 @@
 -- The entries of a walk: what was found of each, its line, and what they sum up to.
-use Rattle.std.specs.Prelude.{◌≡◌, ℕ, ⊤, Bool, true, false, List, ◌++◌, codes, Result, Ok, Err}
+use Rattle.std.specs.Prelude.{◌≡◌, ℕ, ⊤, Bool, true, false, List, Result, Ok, Err}
 use Rattle.std.specs.List.{count_by}
-use Rattle.msr_sds.specs.SdsPath.{SdsPath, ReadsAsDay}
 use Rattle.msr_folders.specs.Totals.{saturated}
-use Rattle.msr_folders.specs.Days.{IsNoDay}
-use Rattle.msr_folders.specs.Paths.{shown_path}
-use Rattle.msr_folders.specs.Visits.{IsLineWithReason}
+use Rattle.msr_folders.specs.Days.{IsDay, IsNoDay}
 use Rattle.msr_verify.specs.Day.{DayAnswers}
 use Rattle.msr_verify.specs.declared.judging.Finding.{Finding}
 use Rattle.msr_verify.specs.declared.judging.Finding.TheVariants as finding
@@ -46,10 +43,6 @@ IsJudgementOfDay (Refused RecordsListing) = ⊥
 IsJudgementOfDay (Skipped fault) = ⊥
 IsJudgementOfDay _ = ⊤
 
--- the path is that of a day of waveform data
-abbrev pub IsDay : List ℕ → Type 0
-IsDay path = (name : SdsPath) × ReadsAsDay path name
-
 -- The entry is a day, with this judgement.
 pub record IsFoundOfDay (path : List ℕ) (judgement : Judgement) : Type 0 where
   pub day : IsDay path
@@ -65,19 +58,6 @@ IsJudgementOf path judgement = IsFoundOfDay path judgement
 
 abbrev pub IsJudgedEntry : JudgedEntry → Type 0
 IsJudgedEntry entry = IsJudgementOf entry.path entry.judgement
-
--- The line of an entry. The texts of faults are shown by tests.
-abbrev pub IsJudgementLine : List ℕ → Judgement → List ℕ → Type 0
-IsJudgementLine path Verified line = line ≡ codes "verified " ++ (shown_path path ++ codes "\n")
-IsJudgementLine path Missing line = line ≡ codes "missing " ++ (shown_path path ++ codes "\n")
-IsJudgementLine path NotShown line = line ≡ codes "notshown " ++ (shown_path path ++ codes "\n")
-IsJudgementLine path Differs line = line ≡ codes "differs " ++ (shown_path path ++ codes "\n")
-IsJudgementLine path Orphan line = line ≡ codes "orphan " ++ (shown_path path ++ codes "\n")
-IsJudgementLine path (Skipped fault) line = IsLineWithReason (codes "skipped ") (shown_path path) line
-IsJudgementLine path (Refused refusal) line = IsLineWithReason (codes "refused ") (shown_path path) line
-
-abbrev pub IsJudgedEntryLine : JudgedEntry → List ℕ → Type 0
-IsJudgedEntryLine entry line = IsJudgementLine entry.path entry.judgement line
 
 abbrev pub is_verified : Judgement → Bool
 is_verified Verified = true

@@ -9,11 +9,11 @@ use Rattle.msr_tree.specs.Steps.{Path, Step, failures, seen}
 use Rattle.msr_tree.specs.declared.kind.FileKind.{FileKind}
 use Rattle.msr_tree.specs.declared.kind.FileKind.TheVariants.{Gone}
 use Rattle.msr_sds.specs.declared.SdsFault.{SdsFault}
-use Rattle.msr_folders.specs.Days.{IsNoDay}
+use Rattle.msr_folders.specs.Days.{IsDay, IsNoDay}
 use Rattle.msr_folders.specs.Entries.{AreEntriesOf, Entry, ForEach, Visit, WithoutList, unlisted_in}
-use Rattle.msr_folders.specs.Paths.{ended, joined}
+use Rattle.msr_folders.specs.Paths.{ended, joined, told_folder}
 use Rattle.msr_verify.specs.Day.{DayAnswers}
-use Rattle.msr_verify.specs.Entries.{IsDay, JudgedEntry}
+use Rattle.msr_verify.specs.Entries.{JudgedEntry}
 use Rattle.msr_verify.specs.declared.judging.Finding.{Finding}
 use Rattle.msr_verify.specs.declared.judging.Finding.TheVariants as finding
 use Rattle.msr_verify.specs.declared.judging.VerifyFault.{VerifyFault}
@@ -75,11 +75,6 @@ other_judgement kind fault = Skipped fault
 pub record IsToldOfEntry (places : DayPlaces) (path : Path) (kind : FileKind) (judgement : Judgement) (old new : List Step) : Type 0 where
   pub day : IsDay path → IsJudgementThere places judgement old new
   pub other : (¬ (IsDay path)) → (fault : SdsFault) × IsNoDay path fault × (judgement ≡ other_judgement kind fault)
-
--- the path of a folder as it is told
-abbrev pub told_folder : Path → Path
-told_folder [] = codes "."
-told_folder (f ∷ folder) = f ∷ folder
 
 -- the one entry that is told of a visit of the archive
 abbrev pub IsToldOfRoot : (root out reports : Path) → (old new : List Step) → Visit → List JudgedEntry → Type 0

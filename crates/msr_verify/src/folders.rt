@@ -26,11 +26,11 @@ fn walk_archive<T: Tree, O: Sink>(
     tally: &mut VerifyTally,
 ) -> Result<(), DeviceFault>
     requires { CanCountCall (O.device out.old) }
-    ensures told { OnOk result (TellsWalk TellsEntries
+    ensures told { OnOk result (TellsWalk (TellsEntries archive.now.telling)
         (IsToldOfRoot archive.now.folders.root.now archive.now.folders.out.now archive.now.folders.reports.now) OnlyReads
         archive.now.folders.root.now (λ past. AreEntriesOf past archive.now.folders.root.now archive.now.below.items)
         (T.went tree.old) (T.went tree.new) (O.device out.old) (O.device out.new) tally.old tally.new) }
-    ensures stops { IfErr result (StopsTellingJudged (O.device out.old) (O.device out.new)) }
+    ensures stops { IfErr result (StopsTellingJudged archive.now.telling (O.device out.old) (O.device out.new)) }
     ensures reads { Goes (T.went tree.old) (T.went tree.new) OnlyReads }
 {
     let walk = EntryWalk {
@@ -40,6 +40,7 @@ fn walk_archive<T: Tree, O: Sink>(
         visitor: &Judging {
             alloc,
             folders: archive.folders,
+            telling: archive.telling,
         },
     };
     visit_entries(&walk, tree, out, tally)
@@ -54,11 +55,11 @@ fn walk_records<T: Tree, O: Sink>(
     tally: &mut VerifyTally,
 ) -> Result<(), DeviceFault>
     requires { CanCountCall (O.device out.old) }
-    ensures told { OnOk result (TellsWalk TellsEntries
+    ensures told { OnOk result (TellsWalk (TellsEntries archive.now.telling)
         (IsToldOfOut archive.now.folders.root.now archive.now.folders.out.now) OnlyReads
         archive.now.folders.out.now (λ past. AreEntriesOf past archive.now.folders.out.now archive.now.below.items)
         (T.went tree.old) (T.went tree.new) (O.device out.old) (O.device out.new) tally.old tally.new) }
-    ensures stops { IfErr result (StopsTellingJudged (O.device out.old) (O.device out.new)) }
+    ensures stops { IfErr result (StopsTellingJudged archive.now.telling (O.device out.old) (O.device out.new)) }
     ensures reads { Goes (T.went tree.old) (T.went tree.new) OnlyReads }
 {
     let walk = EntryWalk {
@@ -68,6 +69,7 @@ fn walk_records<T: Tree, O: Sink>(
         visitor: &Searching {
             alloc,
             folders: archive.folders,
+            telling: archive.telling,
         },
     };
     visit_entries(&walk, tree, out, tally)
@@ -84,7 +86,7 @@ fn walk_both<T: Tree, O: Sink>(
     requires { CanCountCall (O.device out.old) }
     ensures told { OnOk result (TellsArchive archive.now (T.went tree.old) (T.went tree.new)
         (O.device out.old) (O.device out.new) tally.old tally.new) }
-    ensures stops { IfErr result (StopsTellingJudged (O.device out.old) (O.device out.new)) }
+    ensures stops { IfErr result (StopsTellingJudged archive.now.telling (O.device out.old) (O.device out.new)) }
     ensures reads { Goes (T.went tree.old) (T.went tree.new) OnlyReads }
 {
     walk_archive(tree, alloc, archive, out, tally)?;
@@ -100,7 +102,7 @@ pub fn verify<T: Tree, O: Sink>(
     out: &mut O,
 ) -> Result<WalkFound, ToolFault>
     requires { CanCountCall (O.device out.old) }
-    ensures answer { Verifies (O.device out.old) (O.device out.new) result }
+    ensures answer { Verifies archive.now.telling (O.device out.old) (O.device out.new) result }
 
     // A failure of the sink is answered as such, and nothing else is.
     ensures write { IsErrOf result ToolFault.Write ↔ HasFailed (O.device out.old) (O.device out.new) }
@@ -114,6 +116,6 @@ pub fn verify<T: Tree, O: Sink>(
 {
     let mut tally = VerifyTally::new();
     walk_both(tree, alloc, archive, out, &mut tally)?;
-    tally.write(alloc, out)?;
+    tally.write(alloc, archive.telling.form, out)?;
     Ok(WalkFound::of(tally.unverified, tally.verified))
 }

@@ -1,38 +1,113 @@
 //! What is found of an entry of a folder, and its line.
-ghost use Rattle.std.specs.Prelude.{◌≡◌, IfOk};
+ghost use Rattle.std.specs.Prelude.{◌≡◌, ◌↔◌, IfOk, IsTrue};
 ghost use Rattle.std.specs.String.{string_bytes};
-ghost use Rattle.msr_verify.specs.Entries.{IsJudgementLine, judgement_of};
+ghost use Rattle.msr_verify.specs.Entries.{is_unverified, judgement_of};
+ghost use Rattle.msr_verify.specs.Lines.{IsJudgementJson, IsJudgementLine, IsOfSystem, IsReasonJson, IsReasonMember, IsToldLine, place_json, refusal_json, side_json, skip_text, what_text, why_json, why_text, words_line};
 
 use crate::judging::{Finding, VerifyFault};
-use msr_folders::shown_path;
+use msr_folders::{JsonText, Shown, fault_json};
+use msr_input::ReadFault;
+use msr_options::{ListForm, Telling};
 use msr_sds::SdsFault;
 use std::alloc::{AllocError, Global};
-use thiserror::Error;
+use std::{fmt, io};
 
 /// Why a day or a folder is refused.
-#[derive(Clone, Copy, Debug, Error)]
+#[derive(Clone, Copy, Debug)]
 pub(crate) enum Refusal {
     /// The day's own file is no regular file, or could not be opened, or was gone when it was looked at.
-    #[error("file: cannot open")]
     FileUnopened,
     /// Its records are no regular file, or could not be opened.
-    #[error("records: cannot open")]
     RecordsUnopened,
     /// Its report is no regular file, or could not be opened.
-    #[error("report: cannot open")]
     ReportUnopened,
     /// The records may be the day's own file under another name.
-    #[error("records: the file itself")]
     SameFile,
     /// A folder of the archive could not be listed, or has a name that is not UTF-8.
-    #[error("listing")]
     Listing,
     /// A folder of the records could not be listed, or has a name that is not UTF-8.
-    #[error("records: listing")]
     RecordsListing,
     /// One of the files of the day is at fault.
-    #[error("{0}")]
     Day(VerifyFault),
+}
+
+impl fmt::Display for Refusal {
+    ghost use Rattle.std.specs.Prelude.{Some};
+    ghost use Rattle.msr_verify.specs.Lines.{refusal_text};
+
+    ghost output = { λ refusal. Some (refusal_text refusal) };
+
+    fn fmt<W: fmt::Write>(&self, f: &mut fmt::Formatter<W>) -> fmt::Result {
+        let text = match self {
+            Refusal::FileUnopened => "file: cannot open",
+            Refusal::RecordsUnopened => "records: cannot open",
+            Refusal::ReportUnopened => "report: cannot open",
+            Refusal::SameFile => "records: the file itself",
+            Refusal::Listing => "listing",
+            Refusal::RecordsListing => "records: listing",
+            Refusal::Day(fault) => return write!(f, "{fault}"),
+        };
+        f.write_str(text)
+    }
+}
+
+impl Refusal {
+    /// The member that tells whose fault it is.
+    fn side_json<'a>(self) -> &'a str
+        ensures { result.now ≡ side_json self }
+    {
+        match self {
+            Refusal::Listing => "",
+            Refusal::FileUnopened | Refusal::Day(VerifyFault::File(_)) => ",\"side\":\"file\"",
+            Refusal::RecordsUnopened
+            | Refusal::SameFile
+            | Refusal::RecordsListing
+            | Refusal::Day(VerifyFault::Records(_)) => ",\"side\":\"records\"",
+            Refusal::ReportUnopened
+            | Refusal::Day(
+                VerifyFault::ReportLine(_) | VerifyFault::ReportRead | VerifyFault::ReportMemory,
+            ) => ",\"side\":\"report\"",
+        }
+    }
+
+    /// Those that tell where a file is at fault, and what is there.
+    fn place_json(self, alloc: Global) -> Result<String, AllocError>
+        ensures { IfOk result (λ text. string_bytes text ≡ place_json self) }
+    {
+        match self {
+            Refusal::Day(VerifyFault::File(ReadFault::Input(found))) => fault_json(alloc, found),
+            Refusal::Day(VerifyFault::Records(ReadFault::Input(found))) => fault_json(alloc, found),
+            Refusal::Day(VerifyFault::ReportLine(line)) => format!(in alloc; ",\"line\":{line}"),
+            _ => Ok(String::new(alloc)),
+        }
+    }
+
+    /// Whether a call of the system has failed.
+    fn is_of_system(self) -> bool
+        ensures { IsTrue result ↔ IsOfSystem (Judgement.Refused self) }
+    {
+        match self {
+            Refusal::FileUnopened
+            | Refusal::RecordsUnopened
+            | Refusal::ReportUnopened
+            | Refusal::Listing
+            | Refusal::RecordsListing => true,
+            Refusal::SameFile | Refusal::Day(_) => false,
+        }
+    }
+
+    /// The members that tell it.
+    fn json(self, alloc: Global) -> Result<String, AllocError>
+        ensures { IfOk result (λ text. string_bytes text ≡ refusal_json self) }
+    {
+        let side = self.side_json();
+        let place = self.place_json(alloc)?;
+        let text = self.to_string(alloc)?;
+        let text = JsonText {
+            text: text.as_str(),
+        };
+        format!(in alloc; "{side}{place},\"text\":\"{text}\"")
+    }
 }
 
 /// What was found of an entry.
@@ -64,27 +139,154 @@ pub(crate) fn judgement_of(answer: Result<Finding, VerifyFault>) -> Judgement
     }
 }
 
+/// The member of JSON that tells why a call of the system failed.
+fn reason_json(alloc: Global, reason: io::Error) -> Result<String, AllocError>
+    ensures { IfOk result (λ text. IsReasonMember (string_bytes text)) }
+{
+    let text = reason.to_string(alloc)?;
+    let text = JsonText {
+        text: text.as_str(),
+    };
+    format!(in alloc; ",\"reason\":\"{text}\"")
+}
+
+/// Why an entry is skipped.
+fn skip_text<'a>(fault: SdsFault) -> &'a str
+    ensures { result.now ≡ skip_text fault }
+{
+    match fault {
+        SdsFault::NotSds => "not an SDS path",
+        SdsFault::NotWaveform => "not waveform data",
+        SdsFault::BadDay => "bad day",
+    }
+}
+
 impl Judgement {
-    /// The line that tells it of the entry with this path.
-    pub(crate) fn line(self, alloc: Global, path: &str) -> Result<String, AllocError>
-        ensures { IfOk result (λ line. IsJudgementLine path.now self (string_bytes line)) }
+    /// The first word of its line.
+    fn what<'a>(self) -> &'a str
+        ensures { result.now ≡ what_text self }
     {
-        let path = shown_path(alloc, path)?;
-        let word = match self {
-            Judgement::Verified => "verified ",
-            Judgement::Missing => "missing ",
-            Judgement::NotShown => "notshown ",
-            Judgement::Differs => "differs ",
-            Judgement::Orphan => "orphan ",
+        match self {
+            Judgement::Verified => "verified",
+            Judgement::Missing => "missing",
+            Judgement::NotShown => "notshown",
+            Judgement::Differs => "differs",
+            Judgement::Refused(_) => "refused",
+            Judgement::Skipped(_) => "skipped",
+            Judgement::Orphan => "orphan",
+        }
+    }
+
+    /// What stands after the path.
+    fn why(self, alloc: Global) -> Result<String, AllocError>
+        ensures { IfOk result (λ text. string_bytes text ≡ why_text self) }
+    {
+        match self {
+            Judgement::Refused(refusal) => format!(in alloc; ": {refusal}"),
+            Judgement::Skipped(fault) => format!(in alloc; ": {}", skip_text(fault)),
+            _ => Ok(String::new(alloc)),
+        }
+    }
+
+    /// The line in words.
+    fn words(self, alloc: Global, path: &str) -> Result<String, AllocError>
+        ensures { IfOk result (λ line. string_bytes line ≡ words_line path.now self) }
+    {
+        let what = self.what();
+        let why = self.why(alloc)?;
+        let shown = Shown { path };
+        format!(in alloc; "{what} {shown}{why}\n")
+    }
+
+    /// The members of JSON that tell why.
+    fn why_json(self, alloc: Global) -> Result<String, AllocError>
+        ensures { IfOk result (λ text. string_bytes text ≡ why_json self) }
+    {
+        match self {
+            Judgement::Refused(refusal) => refusal.json(alloc),
             Judgement::Skipped(fault) => {
-                let why = fault.to_string(alloc)?;
-                return format!(in alloc; "skipped {path}: {why}\n");
+                let text = JsonText {
+                    text: skip_text(fault),
+                };
+                format!(in alloc; ",\"text\":\"{text}\"")
             }
-            Judgement::Refused(refusal) => {
-                let why = refusal.to_string(alloc)?;
-                return format!(in alloc; "refused {path}: {why}\n");
-            }
-        };
-        format!(in alloc; "{word}{path}\n")
+            _ => Ok(String::new(alloc)),
+        }
+    }
+
+    /// Whether a call of the system has failed.
+    fn is_of_system(self) -> bool
+        ensures { IsTrue result ↔ IsOfSystem self }
+    {
+        match self {
+            Judgement::Refused(refusal) => refusal.is_of_system(),
+            _ => false,
+        }
+    }
+
+    /// The member of JSON that tells the system's reason, if a call has failed and there is one.
+    fn reason_json(self, alloc: Global, reason: Option<io::Error>) -> Result<String, AllocError>
+        ensures { IfOk result (λ text. IsReasonJson self (string_bytes text)) }
+    {
+        match reason {
+            Some(reason) if self.is_of_system() => reason_json(alloc, reason),
+            _ => Ok(String::new(alloc)),
+        }
+    }
+
+    /// The line in JSON.
+    fn json(
+        self,
+        alloc: Global,
+        path: &str,
+        reason: Option<io::Error>,
+    ) -> Result<String, AllocError>
+        ensures { IfOk result (λ line. IsJudgementJson path.now self (string_bytes line)) }
+    {
+        let what = self.what();
+        let why = self.why_json(alloc)?;
+        let reason = self.reason_json(alloc, reason)?;
+        let shown = JsonText { text: path };
+        format!(in alloc; "{{\"what\":\"{what}\",\"path\":\"{shown}\"{why}{reason}}}\n")
+    }
+
+    /// The line that tells it of the entry with this path.
+    fn line(
+        self,
+        alloc: Global,
+        form: ListForm,
+        path: &str,
+        reason: Option<io::Error>,
+    ) -> Result<String, AllocError>
+        ensures { IfOk result (λ line. IsJudgementLine form path.now self (string_bytes line)) }
+    {
+        match form {
+            ListForm::Words => self.words(alloc, path),
+            ListForm::Json => self.json(alloc, path, reason),
+        }
+    }
+
+    /// Whether it is to be looked at.
+    fn is_unverified(self) -> bool
+        ensures { result ≡ is_unverified self }
+    {
+        !matches!(self, Judgement::Verified | Judgement::Skipped(_))
+    }
+
+    /// What is printed of the entry with this path: its line, or nothing if it is left out.
+    pub(crate) fn told(
+        self,
+        alloc: Global,
+        telling: Telling,
+        path: &str,
+        reason: Option<io::Error>,
+    ) -> Result<String, AllocError>
+        ensures { IfOk result (λ line.
+            IsToldLine telling (record { path = path.now; judgement = self }) (string_bytes line)) }
+    {
+        if telling.quiet && !self.is_unverified() {
+            return Ok(String::new(alloc));
+        }
+        self.line(alloc, telling.form, path, reason)
     }
 }

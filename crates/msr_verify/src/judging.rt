@@ -5,11 +5,13 @@ ghost use Rattle.msr_verify.specs.Day.{VerifiesDay, finding_of, verify_fault_of_
 
 use msr_compare::{CompareFault, Comparison};
 use msr_devices::Source;
+use msr_folders::ToldFault;
 use msr_input::ReadFault;
 use msr_report_reader::{ReportFault, read_report};
 use msr_verdict::verify_beside;
 use std::alloc::Global;
-use thiserror::Error;
+use std::error::Error;
+use std::fmt;
 
 /// What the three files of a day show.
 #[derive(Clone, Copy, Debug, PartialEq, Eq)]
@@ -23,24 +25,44 @@ pub enum Finding {
 }
 
 /// Which of the three files is at fault, and its fault.
-#[derive(Clone, Copy, Debug, PartialEq, Eq, Error)]
+#[derive(Clone, Copy, Debug, PartialEq, Eq)]
 pub enum VerifyFault {
     /// The day's own file.
-    #[error("file: {0}")]
     File(ReadFault),
     /// The records.
-    #[error("records: {0}")]
     Records(ReadFault),
     /// This line of the report, from 1, is the first at fault.
-    #[error("report: line {0}")]
     ReportLine(u64),
     /// The source of the report failed.
-    #[error("report: read fault")]
     ReportRead,
     /// Memory was refused while the report was read.
-    #[error("report: out of memory")]
     ReportMemory,
 }
+
+impl fmt::Display for VerifyFault {
+    ghost use Rattle.std.specs.Prelude.{Some};
+    ghost use Rattle.msr_verify.specs.Lines.{verify_fault_text};
+
+    ghost output = { λ fault. Some (verify_fault_text fault) };
+
+    fn fmt<W: fmt::Write>(&self, f: &mut fmt::Formatter<W>) -> fmt::Result {
+        match self {
+            VerifyFault::File(fault) => {
+                let told = ToldFault { fault: *fault };
+                write!(f, "file: {told}")
+            }
+            VerifyFault::Records(fault) => {
+                let told = ToldFault { fault: *fault };
+                write!(f, "records: {told}")
+            }
+            VerifyFault::ReportLine(line) => write!(f, "report: line {line}"),
+            VerifyFault::ReportRead => f.write_str("report: read fault"),
+            VerifyFault::ReportMemory => f.write_str("report: out of memory"),
+        }
+    }
+}
+
+impl Error for VerifyFault {}
 
 fn report_fault(fault: ReportFault) -> VerifyFault
     ensures { result ≡ verify_fault_of_report fault }

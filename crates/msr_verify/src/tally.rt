@@ -4,10 +4,11 @@ ghost use Rattle.std.specs.String.{string_bytes};
 ghost use Rattle.msr_devices.specs.Device.{CanCountCall, IsCalm, Takes};
 ghost use Rattle.msr_folders.specs.Visits.{StopsPrefix};
 ghost use Rattle.msr_verify.specs.Entries.{IsVerifyTally, JudgedEntry};
-ghost use Rattle.msr_verify.specs.Walk.{judged_line, others_told};
+ghost use Rattle.msr_verify.specs.Walk.{judged_json, judged_line, judged_end, others_json, others_told};
 
 use crate::judgement::Judgement;
 use msr_devices::{DeviceFault, Sink, write_all};
+use msr_options::ListForm;
 use std::alloc::{AllocError, Global};
 
 /// How many entries had each judgement, and how many were neither verified nor skipped.
@@ -63,8 +64,8 @@ impl VerifyTally {
         format!(in alloc; " missing {missing} notshown {unshown} differs {differ} orphan {orphans}")
     }
 
-    /// The last line.
-    fn line(self, alloc: Global) -> Result<String, AllocError>
+    /// The last line in words.
+    fn words(self, alloc: Global) -> Result<String, AllocError>
         ensures { IfOk result (λ line. string_bytes line ≡ judged_line self) }
     {
         let (files, skipped, refused) = (self.verified, self.skipped, self.refused);
@@ -72,14 +73,51 @@ impl VerifyTally {
         format!(in alloc; "files {files} skipped {skipped} refused {refused}{others}\n")
     }
 
-    /// Writes the last line.
-    pub(crate) fn write<O: Sink>(self, alloc: Global, out: &mut O) -> Result<(), DeviceFault>
-        requires { CanCountCall (O.device out.old) }
-        ensures all { OnOk result (Takes (O.device out.old) (O.device out.new) (judged_line self)) }
-        ensures calm { OnOk result (IsCalm (O.device out.old) (O.device out.new)) }
-        ensures stops { IfErr result (StopsPrefix (O.device out.old) (O.device out.new) (judged_line self)) }
+    /// The last members of the last line in JSON.
+    fn others_json(self, alloc: Global) -> Result<String, AllocError>
+        ensures { IfOk result (λ text. string_bytes text ≡ others_json self) }
     {
-        let line = self.line(alloc)?;
+        let (missing, unshown) = (self.missing, self.not_shown);
+        let (differ, orphans) = (self.differ, self.orphans);
+        format!(in alloc;
+            ",\"missing\":{missing},\"notshown\":{unshown},\"differs\":{differ},\"orphan\":{orphans}"
+        )
+    }
+
+    /// The last line in JSON.
+    fn json(self, alloc: Global) -> Result<String, AllocError>
+        ensures { IfOk result (λ line. string_bytes line ≡ judged_json self) }
+    {
+        let (files, skipped, refused) = (self.verified, self.skipped, self.refused);
+        let others = self.others_json(alloc)?;
+        format!(in alloc;
+            "{{\"what\":\"files\",\"files\":{files},\"skipped\":{skipped},\"refused\":{refused}{others}}}\n"
+        )
+    }
+
+    /// The last line.
+    fn line(self, alloc: Global, form: ListForm) -> Result<String, AllocError>
+        ensures { IfOk result (λ line. string_bytes line ≡ judged_end form self) }
+    {
+        match form {
+            ListForm::Words => self.words(alloc),
+            ListForm::Json => self.json(alloc),
+        }
+    }
+
+    /// Writes the last line.
+    pub(crate) fn write<O: Sink>(
+        self,
+        alloc: Global,
+        form: ListForm,
+        out: &mut O,
+    ) -> Result<(), DeviceFault>
+        requires { CanCountCall (O.device out.old) }
+        ensures all { OnOk result (Takes (O.device out.old) (O.device out.new) (judged_end form self)) }
+        ensures calm { OnOk result (IsCalm (O.device out.old) (O.device out.new)) }
+        ensures stops { IfErr result (StopsPrefix (O.device out.old) (O.device out.new) (judged_end form self)) }
+    {
+        let line = self.line(alloc, form)?;
         write_all(out, line.as_bytes())?;
         Ok(())
     }

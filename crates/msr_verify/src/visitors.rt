@@ -1,11 +1,13 @@
 //! What is told of an entry of the archive, and of one of its records.
 ghost use Rattle.std.specs.Prelude.{◌≡◌, ◌∷◌, [], IfErr, OnOk};
 ghost use Rattle.msr_devices.specs.Device.{CanCountCall};
-ghost use Rattle.msr_folders.proofs.ReadingLemmas.{reading_laws};
+ghost use Rattle.msr_folders.proofs.ReadingLemmas.{none_holds, reading_laws};
 ghost use Rattle.msr_sds.specs.declared.SdsFault.{SdsFault};
 ghost use Rattle.msr_tree.specs.Reads.{OnlyReads};
-ghost use Rattle.msr_verify.specs.Entries.{IsJudgedEntry, IsJudgedEntryLine, IsJudgementOf, IsVerifyTally, JudgedEntry};
-ghost use Rattle.msr_verify.specs.Files.{IsToldOfOut, IsToldOfRoot, other_judgement, told_folder};
+ghost use Rattle.msr_verify.specs.Entries.{IsJudgedEntry, IsJudgementOf, IsVerifyTally, JudgedEntry};
+ghost use Rattle.msr_folders.specs.Paths.{told_folder};
+ghost use Rattle.msr_verify.specs.Files.{IsToldOfOut, IsToldOfRoot, other_judgement};
+ghost use Rattle.msr_verify.specs.Lines.{IsToldLine};
 ghost use Rattle.msr_verify.specs.Walk.{StopsTellingJudged, TellsEntries};
 
 use crate::day::{judge_day, may_have};
@@ -13,26 +15,30 @@ use crate::judgement::{Judgement, Refusal};
 use crate::tally::VerifyTally;
 use msr_devices::{DeviceFault, Sink, write_all};
 use msr_folders::{EntryVisitor, join};
-use msr_options::Folders;
+use msr_options::{Folders, Telling};
 use msr_sds::{SdsFault, SdsName};
 use msr_tree::{FileKind, Tree};
 use std::alloc::{AllocError, Global};
+use std::io;
 
-/// Prints the line of an entry, and counts it.
+/// Prints the line of an entry, unless it is left out, and counts it. The reason is that of the call of the system that
+/// failed, if one did.
 fn tell<O: Sink>(
     alloc: Global,
+    telling: Telling,
     path: &str,
     judgement: Judgement,
+    reason: Option<io::Error>,
     out: &mut O,
     tally: &mut VerifyTally,
 ) -> Result<(), DeviceFault>
     requires { CanCountCall (O.device out.old) }
-    ensures told { IsJudgementOf path.now judgement → OnOk result (TellsEntries
+    ensures told { IsJudgementOf path.now judgement → OnOk result (TellsEntries telling
         (record { path = path.now; judgement = judgement } ∷ []) (O.device out.old) (O.device out.new) tally.old tally.new) }
     ensures stops { IsJudgementOf path.now judgement →
-        IfErr result (StopsTellingJudged (O.device out.old) (O.device out.new)) }
+        IfErr result (StopsTellingJudged telling (O.device out.old) (O.device out.new)) }
 {
-    let line = judgement.line(alloc, path)?;
+    let line = judgement.told(alloc, telling, path, reason)?;
     write_all(out, line.as_bytes())?;
     tally.add(judgement);
     Ok(())
@@ -60,6 +66,7 @@ fn other_judgement(kind: FileKind, fault: SdsFault) -> Judgement
 pub(crate) struct Judging<'a> {
     pub(crate) alloc: Global,
     pub(crate) folders: Folders<'a>,
+    pub(crate) telling: Telling,
 }
 
 impl EntryVisitor for Judging<'_> {
@@ -69,17 +76,21 @@ impl EntryVisitor for Judging<'_> {
 
     ghost Line = { JudgedEntry };
 
-    ghost tells = { λ _. TellsEntries };
+    ghost tells = { λ judging. TellsEntries judging.telling };
 
-    ghost stops = { λ _. StopsTellingJudged };
+    ghost stops = { λ judging. StopsTellingJudged judging.telling };
 
     ghost says = { λ judging. IsToldOfRoot judging.folders.root.now judging.folders.out.now judging.folders.reports.now };
 
     ghost does = { λ _. OnlyReads };
 
+    ghost holds = { λ _ _ _. Unit {0} };
+
     ghost spared = { λ judging. judging.folders.root.now };
 
-    ghost laws = { reading_laws IsJudgedEntry IsJudgedEntryLine IsVerifyTally (λ judging. judging.folders.root.now) };
+    ghost laws = { reading_laws IsJudgedEntry (λ judging. IsToldLine judging.telling) IsVerifyTally (λ judging. judging.folders.root.now) };
+
+    ghost listed = { none_holds };
 
     fn enter_folder(&self, _folder: &str, _levels: u8) -> Result<(), AllocError> {
         Ok(())
@@ -97,23 +108,53 @@ impl EntryVisitor for Judging<'_> {
         match SdsName::parse(path) {
             Ok(_) => {
                 let judgement = judge_day(tree, self.alloc, self.folders, path)?;
-                tell(self.alloc, path, judgement, out, tally)
+                let reason = tree.reason();
+                tell(
+                    self.alloc,
+                    self.telling,
+                    path,
+                    judgement,
+                    reason,
+                    out,
+                    tally,
+                )
             }
-            Err(fault) => tell(self.alloc, path, other_judgement(kind, fault), out, tally),
+            Err(fault) => {
+                tell(
+                    self.alloc,
+                    self.telling,
+                    path,
+                    other_judgement(kind, fault),
+                    None,
+                    out,
+                    tally,
+                )
+            }
         }
     }
 
     fn visit_unlisted<T: Tree, O: Sink>(
         &self,
-        _tree: &mut T,
+        tree: &mut T,
         folder: &str,
         _place: &str,
         out: &mut O,
         tally: &mut VerifyTally,
     ) -> Result<(), DeviceFault> {
         let refused = Judgement::Refused(Refusal::Listing);
-        tell(self.alloc, told_folder(folder), refused, out, tally)
+        let reason = tree.reason();
+        tell(
+            self.alloc,
+            self.telling,
+            told_folder(folder),
+            refused,
+            reason,
+            out,
+            tally,
+        )
     }
+
+    fn leave_folder<T: Tree>(&self, _tree: &mut T, _tally: &mut VerifyTally) {}
 }
 
 /// Searches the records for days that the archive does not have.
@@ -121,6 +162,7 @@ impl EntryVisitor for Judging<'_> {
 pub(crate) struct Searching<'a> {
     pub(crate) alloc: Global,
     pub(crate) folders: Folders<'a>,
+    pub(crate) telling: Telling,
 }
 
 impl EntryVisitor for Searching<'_> {
@@ -130,17 +172,21 @@ impl EntryVisitor for Searching<'_> {
 
     ghost Line = { JudgedEntry };
 
-    ghost tells = { λ _. TellsEntries };
+    ghost tells = { λ searching. TellsEntries searching.telling };
 
-    ghost stops = { λ _. StopsTellingJudged };
+    ghost stops = { λ searching. StopsTellingJudged searching.telling };
 
     ghost says = { λ searching. IsToldOfOut searching.folders.root.now searching.folders.out.now };
 
     ghost does = { λ _. OnlyReads };
 
+    ghost holds = { λ _ _ _. Unit {0} };
+
     ghost spared = { λ searching. searching.folders.out.now };
 
-    ghost laws = { reading_laws IsJudgedEntry IsJudgedEntryLine IsVerifyTally (λ searching. searching.folders.out.now) };
+    ghost laws = { reading_laws IsJudgedEntry (λ searching. IsToldLine searching.telling) IsVerifyTally (λ searching. searching.folders.out.now) };
+
+    ghost listed = { none_holds };
 
     fn enter_folder(&self, _folder: &str, _levels: u8) -> Result<(), AllocError> {
         Ok(())
@@ -162,7 +208,15 @@ impl EntryVisitor for Searching<'_> {
                 if may_have(tree, file.as_str())? {
                     return Ok(());
                 }
-                tell(self.alloc, path, Judgement::Orphan, out, tally)
+                tell(
+                    self.alloc,
+                    self.telling,
+                    path,
+                    Judgement::Orphan,
+                    None,
+                    out,
+                    tally,
+                )
             }
             Err(_) => Ok(()),
         }
@@ -181,6 +235,17 @@ impl EntryVisitor for Searching<'_> {
             return Ok(());
         }
         let refused = Judgement::Refused(Refusal::RecordsListing);
-        tell(self.alloc, told_folder(folder), refused, out, tally)
+        let reason = tree.reason();
+        tell(
+            self.alloc,
+            self.telling,
+            told_folder(folder),
+            refused,
+            reason,
+            out,
+            tally,
+        )
     }
+
+    fn leave_folder<T: Tree>(&self, _tree: &mut T, _tally: &mut VerifyTally) {}
 }

@@ -53,15 +53,6 @@ front_in line xs i n x text old now new h is before piece = record {
       ∙ append_assoc (flat_map line (take i xs) ++ take n text) (drop n text) (flat_map line (drop (i + 1) xs));
 }
 
--- a prefix of a text
-pub front_piece : (old new : Device) (text : List ℕ) (n : ℕ) → Takes old new (take n text) → TakesPrefix old new text
-front_piece old new text n piece = record {
-  taken = take n text;
-  rest = drop n text;
-  takes = piece;
-  whole = sym (take-append-drop n text);
-}
-
 -- a prefix of what comes first
 pub front_before : (old new : Device) (first second : List ℕ) → TakesPrefix old new first
     → TakesPrefix old new (first ++ second)

@@ -1,5 +1,5 @@
 -- Walks put together from the entries that were told.
-use Rattle.std.proofs.Common.{◌≡◌, ◌↔◌, ◌+◌, ◌-◌, ◌^◌, min, List, ◌++◌, arith, refl, subst, sym, Result, Ok, Err, IsErrOf, OnOk}
+use Rattle.std.proofs.Common.{◌≡◌, ◌↔◌, ◌+◌, ◌-◌, ◌^◌, min, List, [], ◌++◌, arith, refl, subst, sym, Ok, Err, IsErrOf, OnOk, Result}
 use Rattle.msr_devices.specs.Device.{Device, HasFailed, Takes}
 use Rattle.msr_devices.specs.declared.fault.DeviceFault.{DeviceFault}
 use Rattle.msr_devices.specs.declared.fault.DeviceFault.TheVariants.{Failed, Memory}
@@ -8,13 +8,14 @@ use Rattle.msr_folders.specs.Found.{Finds}
 use Rattle.msr_folders.specs.Visits.{StopsAt, StopsPrefix}
 use Rattle.msr_folders.specs.declared.found.WalkFound.{WalkFound}
 use Rattle.msr_folders.specs.declared.found.WalkFound.TheVariants.{Well, Unwell, NoDay}
-use Rattle.msr_folders.proofs.VisitLemmas.{part_none, tells_none}
+use Rattle.msr_folders.proofs.VisitLemmas.{part_none, these_none}
 use Rattle.msr_folders.proofs.WalkLemmas as walks
 use Rattle.msr_tool.specs.Fault.{fault_of_writing}
 use Rattle.msr_tool.specs.declared.fault.ToolFault.TheVariants.{Write}
 use Rattle.msr_options.specs.declared.days.DayOptions.{DayOptions}
 use Rattle.msr_walk.specs.Entries.{Entry, IsEntry, IsEntryLine, IsTally, first_unopened}
-use Rattle.msr_walk.specs.Walk.{StopsTellingOutcomes, TellsAmong, TellsEnd, TellsOutcomes, Walks, summary}
+use Rattle.msr_walk.specs.Told.{TellsOutcomesOf}
+use Rattle.msr_walk.specs.Walk.{StopsTellingOutcomes, TellsEnd, TellsOutcomes, Walks, summary}
 use Rattle.msr_walk.specs.declared.folders.Walked.{Walked}
 use Rattle.msr_walk.specs.declared.tally.Tally.{Tally}
 
@@ -75,35 +76,54 @@ walk_ends asked out0 out1 out tally0 tally walked told prints end first = record
 }
 
 -- what is told where the counts are a part of what changes
-pub told_among : {P : Type 0} (tally : P → Tally) (asked : DayOptions) (out0 out : Device) (of0 of : P) → TellsAmong tally asked out0 out of0 of
+pub told_among : {P : Type 0} (tally : P → Tally) (asked : DayOptions) (entries : List Entry) (out0 out : Device) (of0 of : P) → TellsOutcomesOf tally asked entries out0 out of0 of
     → TellsOutcomes asked out0 out (tally of0) (tally of)
-told_among tally asked out0 out of0 of told = record {
-  entries = told.entries;
-  lines = told.lines;
-  are_entries = told.are_entries;
-  are_lines = told.are_lines;
-  prints = told.prints;
-  calm = told.calm;
-  counts = told.counts;
+told_among tally asked entries out0 out of0 of these = record {
+  entries = these.told.entries;
+  lines = these.told.lines;
+  are_entries = these.told.are_entries;
+  are_lines = these.told.are_lines;
+  prints = these.told.prints;
+  calm = these.told.calm;
+  counts = these.told.counts;
 }
 
 -- the counts are the same
-counted_same : {P : Type 0} (tally : P → Tally) (asked : DayOptions) (out0 out : Device) (of0 of1 of : P) → tally of ≡ tally of1 → TellsAmong tally asked out0 out of0 of1 → TellsAmong tally asked out0 out of0 of
-counted_same tally asked out0 out of0 of1 of same told = record {
-  entries = told.entries;
-  lines = told.lines;
-  are_entries = told.are_entries;
-  are_lines = told.are_lines;
-  prints = told.prints;
-  calm = told.calm;
-  counts = λ before is. subst (λ (t : Tally). IsTally (before ++ told.entries) t) (sym same) (told.counts before is);
+pub counted_same : {P : Type 0} (tally : P → Tally) (asked : DayOptions) (entries : List Entry) (out0 out : Device) (of0 of1 of : P) → tally of ≡ tally of1
+    → TellsOutcomesOf tally asked entries out0 out of0 of1 → TellsOutcomesOf tally asked entries out0 out of0 of
+counted_same tally asked entries out0 out of0 of1 of same these = record {
+  told = record {
+    entries = these.told.entries;
+    lines = these.told.lines;
+    are_entries = these.told.are_entries;
+    are_lines = these.told.are_lines;
+    prints = these.told.prints;
+    calm = these.told.calm;
+    counts = λ before is. subst (λ (t : Tally). IsTally (before ++ these.told.entries) t) (sym same) (these.told.counts before is);
+  };
+  are = these.are;
 }
 
-pub told_beside : {P E : Type 0} (tally : P → Tally) (asked : DayOptions) (out0 out : Device) (of0 of1 of : P) (result : Result (Unit {0}) E) → tally of ≡ tally of1
-    → OnOk result (TellsAmong tally asked out0 out of0 of1) → OnOk result (TellsAmong tally asked out0 out of0 of)
-told_beside tally asked out0 out of0 of1 of (Ok x) same told = counted_same tally asked out0 out of0 of1 of same told
-told_beside tally asked out0 out of0 of1 of (Err why) same told = tt
-
 -- nothing is told, and the counts stay
-pub none_among : {P : Type 0} (tally : P → Tally) (asked : DayOptions) (out : Device) (of0 of : P) → tally of ≡ tally of0 → TellsAmong tally asked out out of0 of
-none_among tally asked out of0 of same = counted_same tally asked out out of0 of0 of same (tells_none (IsEntry asked) (IsEntryLine asked.bytes) (λ entries counted. IsTally entries (tally counted)) out of0)
+pub none_among : {P : Type 0} (tally : P → Tally) (asked : DayOptions) (out : Device) (of0 of : P) → tally of ≡ tally of0 → TellsOutcomesOf tally asked [] out out of0 of
+none_among tally asked out of0 of same =
+    counted_same tally asked [] out out of0 of0 of same (these_none (IsEntry asked) (IsEntryLine asked.bytes) (λ entries counted. IsTally entries (tally counted)) out of0)
+
+-- the same, of a part that has the same counts
+pub counted_on : {P E : Type 0} (tally : P → Tally) (asked : DayOptions) (entries : List Entry) (out0 out : Device) (from0 to0 from1 to1 : P) (result : Result (Unit {0}) E)
+    → OnOk result (TellsOutcomesOf tally asked entries out0 out from1 to1) → tally from0 ≡ tally from1 → tally to0 ≡ tally to1
+    → OnOk result (TellsOutcomesOf tally asked entries out0 out from0 to0)
+counted_on tally asked entries out0 out from0 to0 from1 to1 (Ok x) these from to = record {
+  told = record {
+    entries = these.told.entries;
+    lines = these.told.lines;
+    are_entries = these.told.are_entries;
+    are_lines = these.told.are_lines;
+    prints = these.told.prints;
+    calm = these.told.calm;
+    counts = λ before is. subst (λ (t : Tally). IsTally (before ++ these.told.entries) t) (sym to)
+        (these.told.counts before (subst (λ (t : Tally). IsTally before t) from is));
+  };
+  are = these.are;
+}
+counted_on tally asked entries out0 out from0 to0 from1 to1 (Err why) these from to = tt

@@ -1,5 +1,9 @@
-pub mod EntriesTold
-pub mod Days
-pub mod Compared
+pub mod Archive
+pub mod Aside
 pub mod ChannelLines
+pub mod DayPaths
+pub mod Days
+pub mod EntriesTold
 pub mod FirstDay
+pub mod Working
+pub mod Visited

@@ -1,8 +1,12 @@
 -- The names of files.
 use Rattle.std.specs.Prelude.{ℕ, List, ◌++◌, codes}
 use Rattle.std.specs.Fmt.{decimal}
+use Rattle.msr_folders.specs.Entries.{StandsWithin}
 use Rattle.msr_folders.specs.Paths.{ended, joined}
+use Rattle.msr_making.specs.Places.{AreFileNames, DayPaths}
 use Rattle.msr_naming.specs.Files.{FileNames}
+use Rattle.msr_naming.specs.declared.files.DayFiles.{DayFiles}
+use Rattle.msr_tree.specs.Steps.{Path}
 
 -- the names of a new file that the walk makes whose claim has that number
 abbrev pub new_file : (path : List ℕ) (number : ℕ) → FileNames
@@ -28,3 +32,24 @@ day_names root out reports path = record {
   stamp = ended (joined reports path) (codes ".from");
   claim = ended (joined out path) (codes ".claim");
 }
+
+-- the files that are made of a day by the walk whose claim has that number
+abbrev pub files_of : DayNames → (number : ℕ) → DayFiles
+files_of names number = record {
+  records = new_file names.records number;
+  report = new_file names.report number;
+  stamp = new_file names.stamp number;
+}
+
+-- where the files of a day stand
+abbrev pub paths_of_names : DayNames → DayPaths
+paths_of_names names = record { input = names.input; records = names.records; report = names.report; stamp = names.stamp }
+
+-- No two names of a day are the same, whatever number the claim has.
+pub record AreNamesOfDay (names : DayNames) : Type 0 where
+  pub are : (number : ℕ) → AreFileNames names.input (files_of names number)
+
+-- a stamp and what stands beside its name are within the folder of the reports
+pub record IsStampWithin (reports : Path) (files : DayFiles) : Type 0 where
+  pub path : StandsWithin reports files.stamp.path
+  pub part : StandsWithin reports files.stamp.part

@@ -1,5 +1,6 @@
 pub mod Files
-pub mod Stamp
-pub mod Day
+pub mod Outcomes
+pub mod Handling
 pub mod Entries
+pub mod Told
 pub mod Walk

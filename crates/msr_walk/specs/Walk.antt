@@ -68,11 +68,6 @@ abbrev pub TellsOutcomes : DayOptions → Device → Device → Tally → Tally 
 TellsOutcomes asked out0 out tally0 tally =
     Tells (IsEntry asked) (IsEntryLine asked.bytes) IsTally out0 out tally0 tally
 
--- the same, where the counts are a part of what changes
-abbrev pub TellsAmong : {P : Type 0} → (P → Tally) → DayOptions → Device → Device → P → P → Type 0
-TellsAmong tally asked out0 out of0 of =
-    Tells (IsEntry asked) (IsEntryLine asked.bytes) (λ entries counted. IsTally entries (tally counted)) out0 out of0 of
-
 -- that was printed when the walk stopped
 abbrev pub StopsTellingOutcomes : DayOptions → Device → Device → DeviceFault → Type 0
 StopsTellingOutcomes asked out0 out fault = StopsTelling (IsEntry asked) (IsEntryLine asked.bytes) out0 out fault

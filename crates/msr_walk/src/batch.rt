@@ -1,148 +1,235 @@
 //! Days whose stamps wait, so that their folders are stored once for many.
-use crate::claim::Claim;
-use crate::files::sweep;
+ghost use Rattle.std.specs.Prelude.{◌≡◌};
+ghost use Rattle.msr_tree.specs.Calls.{Goes};
+ghost use Rattle.msr_tree.specs.Steps.{Path};
+ghost use Rattle.msr_walk.specs.Handling.{AllWaitWithin, AreWaitingAt, IsWaitingAt};
+ghost use Rattle.msr_walk.specs.Told.{WorksFor};
+
+use crate::claims::Claims;
+use crate::walker::Walker;
 use msr_folders::{folder_of, join};
 use msr_naming::{Waiting, name_stamps};
-use msr_options::Folders;
-use msr_sds::FOLDERS;
-use msr_tree::{SystemTree, Tree, TreeFault};
+use msr_tree::{Tree, TreeFault};
 use std::alloc::{AllocFailed, Global};
-use std::fs::{File, OpenFile};
-use std::io;
-use std::io::ErrorKind;
-use std::rt::Files;
+use std::mem;
 
 /// How many days wait at most: a kill costs them their stamps, and nothing else.
 const DAYS: usize = 64;
 
-/// Lets a day go; its claim stays beside a stamp that could not be removed.
-fn release<R: Files>(rt: &R, day: &Waiting<Claim<R::File>>, is_stamped: bool) {
-    if is_stamped || sweep(rt, &day.files.stamp) {
-        day.claim.release(rt);
-    }
-}
-
-/// Whether a day is this walk's still. If not, its stamp goes.
-fn is_ours<R: Files>(rt: &R, day: &Waiting<Claim<R::File>>) -> bool {
-    if day.claim.is_ours(rt) {
-        return true;
-    }
-    sweep(rt, &day.files.stamp);
-    false
-}
-
 /// The days of a folder that wait.
 #[derive(Drop)]
-pub(crate) struct Batch<'a, R: Files> {
-    rt: &'a R,
-    alloc: Global,
-    folders: Folders<'a>,
-    days: Vec<Waiting<Claim<R::File>>>,
+pub(crate) struct Batch<K> {
+    pub(crate) days: Vec<Waiting<K>>,
     /// Their folder, from OUT's own on.
     folder: String,
     /// That whose name was stored last, with the names of those that lead to it.
     stored: Option<String>,
 }
 
-impl<'a, R: Files> Batch<'a, R> {
-    pub(crate) fn new(rt: &'a R, alloc: Global, folders: Folders<'a>) -> Batch<'a, R> {
+/// Lets a day go; its claim stays beside a stamp that could not be removed.
+fn release<T: Tree, C: Claims>(
+    tree: &mut T,
+    walker: &Walker<'_, C>,
+    day: &Waiting<C::Claim>,
+    is_stamped: bool,
+)
+    requires { IsWaitingAt (T.went tree.old) walker.now.archive.now.folders.reports.now day.now }
+    ensures { Goes (T.went tree.old) (T.went tree.new) (WorksFor walker.now.archive.now.folders) }
+{
+    if is_stamped {
+        walker.claims.release(&day.claim);
+        return;
+    }
+    if tree.remove(day.files.stamp.part.as_str()).is_ok() {
+        walker.claims.release(&day.claim);
+    }
+}
+
+/// Lets days go.
+fn release_all<T: Tree, C: Claims>(
+    tree: &mut T,
+    walker: &Walker<'_, C>,
+    days: &[Waiting<C::Claim>],
+    are_stamped: bool,
+)
+    requires { AreWaitingAt (T.went tree.old) walker.now.archive.now.folders.reports.now days.now }
+    ensures { Goes (T.went tree.old) (T.went tree.new) (WorksFor walker.now.archive.now.folders) }
+{
+    for day in days {
+        release(tree, walker, day, are_stamped);
+    }
+}
+
+/// A day waits on if it is this walk's still. If not, its stamp goes.
+fn keep_ours<T: Tree, C: Claims>(
+    tree: &mut T,
+    walker: &Walker<'_, C>,
+    day: Waiting<C::Claim>,
+    ours: &mut Vec<Waiting<C::Claim>>,
+)
+    requires day { IsWaitingAt (T.went tree.old) walker.now.archive.now.folders.reports.now day }
+    requires days { AreWaitingAt (T.went tree.old) walker.now.archive.now.folders.reports.now ours.old.items }
+    ensures days { AreWaitingAt (T.went tree.new) walker.now.archive.now.folders.reports.now ours.new.items }
+    ensures works { Goes (T.went tree.old) (T.went tree.new) (WorksFor walker.now.archive.now.folders) }
+{
+    if !walker.claims.is_ours(&day.claim) {
+        tree.remove(day.files.stamp.part.as_str()).ok();
+        return;
+    }
+    match ours.push(day) {
+        Ok(()) => {}
+        Err(AllocFailed { value: day }) => release(tree, walker, &day, false),
+    }
+}
+
+/// Of these days, from the last to the first, those that are this walk's still.
+fn all_ours<T: Tree, C: Claims>(
+    tree: &mut T,
+    walker: &Walker<'_, C>,
+    mut days: Vec<Waiting<C::Claim>>,
+) -> Vec<Waiting<C::Claim>>
+    requires { AreWaitingAt (T.went tree.old) walker.now.archive.now.folders.reports.now days.items }
+    ensures kept { AreWaitingAt (T.went tree.new) walker.now.archive.now.folders.reports.now result.items }
+    ensures works { Goes (T.went tree.old) (T.went tree.new) (WorksFor walker.now.archive.now.folders) }
+{
+    let mut ours = Vec::new(walker.alloc);
+    while let Some(day) = days.pop() {
+        keep_ours(tree, walker, day, &mut ours);
+    }
+    ours
+}
+
+impl<K: Drop> Batch<K> {
+    pub(crate) fn new(alloc: Global) -> Batch<K>
+        ensures { (reports : Path) → AllWaitWithin reports result.days.items }
+    {
         Batch {
-            rt,
-            alloc,
-            folders,
             days: Vec::new(alloc),
             folder: String::new(alloc),
             stored: None,
         }
     }
 
-    /// The day with this path waits. Without memory for that it gets no stamp.
-    pub(crate) fn add(&mut self, path: &str, day: Waiting<Claim<R::File>>) {
-        let folder = folder_of(path);
-        if self.folder.as_str() != folder {
-            self.settle();
-            match String::from_str(self.alloc, folder) {
-                Ok(name) => self.folder = name,
-                Err(_) => return release(self.rt, &day, false),
+    /// Notes the folder of the days that are to wait.
+    fn begin(&mut self, alloc: Global, folder: &str) -> bool
+        ensures { self.new.days ≡ self.old.days }
+    {
+        match String::from_str(alloc, folder) {
+            Ok(name) => {
+                self.folder = name;
+                true
             }
+            Err(_) => false,
         }
-        if let Err(AllocFailed { value: day }) = self.days.push(day) {
-            return release(self.rt, &day, false);
+    }
+
+    /// Days of that folder are to wait. Those of another one are settled before. Tells whether there was memory for it.
+    fn turn_to<T: Tree, C: Claims<Claim = K>>(
+        &mut self,
+        tree: &mut T,
+        walker: &Walker<'_, C>,
+        folder: &str,
+    ) -> bool
+        requires { AreWaitingAt (T.went tree.old) walker.now.archive.now.folders.reports.now self.old.days.items }
+        ensures days { AreWaitingAt (T.went tree.new) walker.now.archive.now.folders.reports.now self.new.days.items }
+        ensures works { Goes (T.went tree.old) (T.went tree.new) (WorksFor walker.now.archive.now.folders) }
+    {
+        if self.folder.as_str() == folder {
+            return true;
         }
-        if DAYS <= self.days.len() {
-            self.settle();
+        self.settle(tree, walker);
+        self.begin(walker.alloc, folder)
+    }
+
+    /// Settles the days if they are many.
+    fn settle_full<T: Tree, C: Claims<Claim = K>>(&mut self, tree: &mut T, walker: &Walker<'_, C>)
+        requires { AreWaitingAt (T.went tree.old) walker.now.archive.now.folders.reports.now self.old.days.items }
+        ensures days { AreWaitingAt (T.went tree.new) walker.now.archive.now.folders.reports.now self.new.days.items }
+        ensures works { Goes (T.went tree.old) (T.went tree.new) (WorksFor walker.now.archive.now.folders) }
+    {
+        if self.days.len() < DAYS {
+            return;
+        }
+        self.settle(tree, walker);
+    }
+
+    /// The day with this path waits. Without memory for that it gets no stamp.
+    pub(crate) fn add<T: Tree, C: Claims<Claim = K>>(
+        &mut self,
+        tree: &mut T,
+        walker: &Walker<'_, C>,
+        path: &str,
+        day: Waiting<K>,
+    )
+        requires days { AreWaitingAt (T.went tree.old) walker.now.archive.now.folders.reports.now self.old.days.items }
+        requires day { IsWaitingAt (T.went tree.old) walker.now.archive.now.folders.reports.now day }
+        ensures days { AreWaitingAt (T.went tree.new) walker.now.archive.now.folders.reports.now self.new.days.items }
+        ensures works { Goes (T.went tree.old) (T.went tree.new) (WorksFor walker.now.archive.now.folders) }
+    {
+        if !self.turn_to(tree, walker, folder_of(path)) {
+            release(tree, walker, &day, false);
+            return;
+        }
+        match self.days.push(day) {
+            Ok(()) => self.settle_full(tree, walker),
+            Err(AllocFailed { value: day }) => release(tree, walker, &day, false),
         }
     }
 
     /// Gives the stamps of all days that wait their names, if their folders can be stored, and lets the days go.
-    pub(crate) fn settle(&mut self) {
+    pub(crate) fn settle<T: Tree, C: Claims<Claim = K>>(
+        &mut self,
+        tree: &mut T,
+        walker: &Walker<'_, C>,
+    )
+        requires { AreWaitingAt (T.went tree.old) walker.now.archive.now.folders.reports.now self.old.days.items }
+        ensures days { AreWaitingAt (T.went tree.new) walker.now.archive.now.folders.reports.now self.new.days.items }
+        ensures works { Goes (T.went tree.old) (T.went tree.new) (WorksFor walker.now.archive.now.folders) }
+    {
         if self.days.is_empty() {
             return;
         }
-        let rt = self.rt;
-        self.days.retain(|day| is_ours(rt, day));
-        let are_stamped = self.name_all().is_ok();
-        for day in &self.days {
-            release(rt, day, are_stamped);
-        }
-        self.days.clear();
+        let days = mem::replace(&mut self.days, Vec::new(walker.alloc));
+        let ours = all_ours(tree, walker, days);
+        let are_stamped = self.name_all(tree, walker, ours.as_slice()).is_ok();
+        release_all(tree, walker, ours.as_slice(), are_stamped);
     }
 
-    fn name_all(&mut self) -> Result<(), TreeFault> {
-        let mut tree = SystemTree::unlinked(self.rt, self.alloc);
-        self.store_names(&mut tree)?;
-        let out = join(self.alloc, self.folders.out, self.folder.as_str())?;
-        let reports = join(self.alloc, self.folders.reports, self.folder.as_str())?;
-        name_stamps(&mut tree, out.as_str(), reports.as_str(), &self.days)
+    /// Gives the stamps of these days their names, if their folders can be stored.
+    fn name_all<T: Tree, C: Claims<Claim = K>>(
+        &mut self,
+        tree: &mut T,
+        walker: &Walker<'_, C>,
+        ours: &[Waiting<K>],
+    ) -> Result<(), TreeFault>
+        requires { AreWaitingAt (T.went tree.old) walker.now.archive.now.folders.reports.now ours.now }
+        ensures days { self.new.days ≡ self.old.days }
+        ensures works { Goes (T.went tree.old) (T.went tree.new) (WorksFor walker.now.archive.now.folders) }
+    {
+        self.store_names(walker)?;
+        let (alloc, folders) = (walker.alloc, walker.archive.folders);
+        let out = join(alloc, folders.out, self.folder.as_str())?;
+        let reports = join(alloc, folders.reports, self.folder.as_str())?;
+        name_stamps(tree, out.as_str(), reports.as_str(), ours)
     }
 
     /// Stores the names of the folders that lead to the days. Nobody knows which of them are: a walk may have made them and
     /// been killed.
-    fn store_names<T: Tree>(&mut self, tree: &mut T) -> Result<(), TreeFault> {
-        if let Some(stored) = &self.stored
-            && stored.as_str() == self.folder.as_str()
-        {
-            return Ok(());
-        }
-        let folder = String::from_str(self.alloc, self.folder.as_str())?;
-        self.store_above(tree, self.folders.out)?;
-        self.store_above(tree, self.folders.reports)?;
+    fn store_names<C: Claims<Claim = K>>(&mut self, walker: &Walker<'_, C>) -> Result<(), TreeFault>
+        ensures { self.new.days ≡ self.old.days }
+    {
+        let last = match &self.stored {
+            Some(stored) if stored.as_str() == self.folder.as_str() => return Ok(()),
+            Some(stored) => Some(stored.as_str()),
+            None => None,
+        };
+        let alloc = walker.alloc;
+        let folder = String::from_str(alloc, self.folder.as_str())?;
+        let folders = walker.archive.folders;
+        walker
+            .claims
+            .store_names(alloc, folders, folder.as_str(), last)?;
         self.stored = Some(folder);
         Ok(())
-    }
-
-    /// The same below OUT or REPORTS, from the days' own upwards to the first that leads to those of which the names were
-    /// stored last.
-    fn store_above<T: Tree>(&self, tree: &mut T, top: &str) -> Result<(), TreeFault> {
-        let mut folder = self.folder.as_str();
-        for _ in 0..FOLDERS {
-            folder = folder_of(folder);
-            let path = join(self.alloc, top, folder)?;
-            tree.store_folder(path.as_str())?;
-            if let Some(stored) = &self.stored
-                && is_below(stored.as_str(), folder)
-            {
-                return Ok(());
-            }
-        }
-        store_top(self.rt, self.alloc, top)
-    }
-}
-
-/// Whether a path leads through that folder; all lead through the one with no name.
-fn is_below(path: &str, folder: &str) -> bool {
-    match path.strip_prefix(folder) {
-        Some(rest) => folder.is_empty() || rest.starts_with('/'),
-        None => false,
-    }
-}
-
-/// Stores the name of OUT or REPORTS. Where the folder in which it stands may not be read, others made it.
-fn store_top<R: Files>(rt: &R, alloc: Global, top: &str) -> Result<(), TreeFault> {
-    let above = format!(in alloc; "{top}/..")?;
-    match File::open(rt, above.as_str()) {
-        Ok(folder) => Ok(folder.sync_all()?),
-        Err(error) if error.kind() == ErrorKind::PermissionDenied => Ok(()),
-        Err(error) => Err(error.into()),
     }
 }

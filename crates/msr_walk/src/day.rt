@@ -1,25 +1,23 @@
-//! One day file: from its file to the files of its records and its report.
-ghost use Rattle.std.specs.Prelude.{◌≡◌, false, true, IfOk, IfSome, IsTrue, Ok};
-ghost use Rattle.msr_walk.specs.Day.{GotSmaller, HasAnswer, IsDayOutcome, IsKept, IsOutcomeOfDay, IsRepackedDay, IsSame, VerifiedAnswers};
-ghost use Rattle.msr_walk.specs.Files.{day_names, new_file};
+//! One day file: whose it is, and what is done with it.
+ghost use Rattle.std.specs.Prelude.{◌≡◌, IfOk, IfSome, None};
+ghost use Rattle.msr_making.specs.Day.{IsDayOutcome, IsSame};
+ghost use Rattle.msr_making.specs.Making.{LooksForSame};
+ghost use Rattle.msr_making.specs.Places.{paths_at};
+ghost use Rattle.msr_tree.specs.Calls.{Goes};
+ghost use Rattle.msr_tree.specs.Steps.{Path};
+ghost use Rattle.msr_walk.specs.Files.{day_names, files_of, new_file, paths_of_names};
+ghost use Rattle.msr_walk.specs.Handling.{AreNamesWithin, AreWithin, IsSameBut, IsUnclaimed, WaitsWithin};
+ghost use Rattle.msr_walk.specs.Told.{HandlesDay, WorksWithin};
 
-use crate::claim::{Claim, ClaimFault, claim_day};
-use crate::files::{create_part, new_name, open_part, opened, sweep, sweep_all};
-use crate::names::{clear_names, give_names};
-use crate::outcome::{DayFault, Outcome, Repacked};
-use crate::repacking::{Counting, counts_kept, first_length, repack_day_of, require_verified};
-use crate::stamp::Stamp;
-use msr_devices::{FromRead, FromWrite};
-use msr_folders::{LockFile, Look, ended, join, open_regular, settle_regular};
-use msr_kinds::Length;
-use msr_naming::{DayFiles, Waiting};
-use msr_options::{DayOptions, Folders, Options, Side, Unopened};
-use msr_tool::ToolFault;
+use crate::claims::{Asked, ClaimFault, Claims};
+use msr_folders::{ended, folder_of, join};
+use msr_making::{DayFault, DayOutcome, Hold, Left, Places, Repacked, do_day, same_day};
+use msr_naming::{DayFiles, NewName, Waiting};
+use msr_options::{DayOptions, Folders, Side, Unopened};
+use msr_tree::Tree;
 use std::alloc::{AllocError, Global};
-use std::fs;
-use std::io::{Read, Write};
+use std::io;
 use std::marker::Model;
-use std::rt::Files;
 
 /// The names of the files of a day.
 #[derive(Drop)]
@@ -29,7 +27,7 @@ pub(crate) struct Day {
     report: String,
     stamp: String,
     /// That of the file that says whose the day is.
-    pub claim: String,
+    claim: String,
 }
 
 impl Model for Day {
@@ -47,96 +45,68 @@ impl Model for Day {
     } };
 }
 
-/// What stands under the names of the day's own file, and of those that are made of it.
+/// What is asked of a day, and with what it is done.
 #[derive(Drop)]
-struct DayLook {
-    input: Look,
-    records: Look,
-    report: Look,
-    stamp: Look,
+pub(crate) struct Work<'a, C> {
+    pub claims: &'a C,
+    pub alloc: Global,
+    pub asked: DayOptions,
 }
 
-impl DayLook {
-    /// Whether the day's own file may be one of those that are made.
-    fn may_overlap(&self) -> bool {
-        let input = &self.input;
-        input.may_be(&self.records) || input.may_be(&self.report) || input.may_be(&self.stamp)
-    }
-
-    /// Whether nothing of the day is made.
-    fn is_free(&self) -> bool {
-        is_nothing(&self.records) && is_nothing(&self.report) && is_nothing(&self.stamp)
-    }
-}
-
-fn is_nothing(look: &Look) -> bool {
-    matches!(look, Look::Nothing(_))
-}
-
-/// A day that this walk has: what stood under the name of its own file, the files that are made, and the claim.
+/// A day that this walk has.
 #[derive(Drop)]
-struct ClaimedDay<'a, F> {
-    input: &'a Look,
-    files: &'a DayFiles,
-    claim: &'a Claim<F>,
-    /// Whether nothing stands under the names of its files, nor may after a crash.
-    is_free: bool,
+struct Held<'a, C: Claims> {
+    claims: &'a C,
+    claim: &'a C::Claim,
 }
 
-/// What is asked of a day, and the system's files and the memory with which it is done.
+impl<C: Claims> Hold for Held<'_, C> {
+    fn is_held(&self) -> bool {
+        self.claims.is_ours(self.claim)
+    }
+}
+
+/// A day that nobody may have.
 #[derive(Drop)]
-struct Work<'a, R: Files> {
-    rt: &'a R,
-    alloc: Global,
-    asked: DayOptions,
+struct Unclaimed<'a, C> {
+    claims: &'a C,
+    path: &'a str,
 }
 
-/// What stands beside the names of a day's files when it is done.
-#[derive(Clone, Copy)]
-enum Left {
-    Nothing,
-    /// A stamp that is to get its name.
-    Stamp,
-    /// What could not be removed.
-    Parts,
-}
-
-impl Left {
-    fn of_swept(is_swept: bool) -> Left {
-        if is_swept { Left::Nothing } else { Left::Parts }
+impl<C: Claims> Hold for Unclaimed<'_, C> {
+    fn is_held(&self) -> bool {
+        self.claims.is_free(self.path)
     }
 }
 
-/// What became of a day that this walk has.
-#[derive(Clone, Copy)]
-struct DayEnd {
-    outcome: Outcome,
-    left: Left,
+/// A day that this walk has, and whether a walk was killed that had it.
+#[derive(Drop)]
+struct Claimed<C> {
+    claim: C,
+    was_left: bool,
 }
 
-impl DayEnd {
-    /// Of a day beside whose files nothing stands.
-    fn of(outcome: Outcome) -> DayEnd
-        ensures { result.outcome ≡ outcome }
-    {
-        DayEnd {
-            outcome,
-            left: Left::Nothing,
-        }
-    }
+/// What came of asking for a day once.
+#[derive(Drop)]
+enum Tried<C> {
+    Ours(C),
+    /// What a killed walk left of it is gone.
+    Cleared,
+    Again,
 }
 
 /// What became of a day, and what waits for its stamp to get its name.
 #[derive(Drop)]
-pub(crate) struct Handled<F> {
-    pub outcome: Outcome,
-    pub waiting: Option<Waiting<Claim<F>>>,
+pub(crate) struct Handled<C> {
+    pub outcome: DayOutcome,
+    pub waiting: Option<Waiting<C>>,
 }
 
-impl<F> Handled<F> {
+impl<C> Handled<C> {
     /// Of a day of which nothing waits.
-    pub(crate) fn of(outcome: Outcome) -> Handled<F>
-        ensures { result.outcome ≡ outcome }
+    pub(crate) fn of(outcome: DayOutcome) -> Handled<C>
+        ensures outcome { result.outcome ≡ outcome }
+        ensures waits { result.waiting ≡ None }
     {
         Handled {
             outcome,
@@ -145,23 +115,80 @@ impl<F> Handled<F> {
     }
 }
 
-/// Repacks a day from its input, which is closed then, to its files.
-fn repack_files<F: Read + Write + Drop>(
-    alloc: Global,
-    input: F,
-    records: &mut F,
-    report: &mut F,
-    options: Options,
-) -> Result<Repacked, ToolFault>
-    ensures { HasAnswer options result }
+/// How often a day is asked for in which other walks end or clear meanwhile.
+const TRIES: u8 = 8;
+
+/// The names of a new file. It is written under a name that no other walk uses, which has the number of the claim of this
+/// one.
+fn new_name(alloc: Global, path: &str, number: u64) -> Result<NewName, AllocError>
+    ensures { IfOk result (λ name. name ≡ new_file path.now number) }
 {
-    repack_day_of(
-        alloc,
-        &mut Counting::new(FromRead::new(input)),
-        &mut FromWrite::new(records),
-        &mut FromWrite::new(report),
-        options,
-    )
+    let ending = format!(in alloc; ".{number}.part")?;
+    Ok(NewName {
+        path: String::from_str(alloc, path)?,
+        part: ended(alloc, path, ending.as_str())?,
+    })
+}
+
+/// Removes what stands beside the names of a day, and tells whether nothing is there any more.
+fn sweep<T: Tree>(tree: &mut T, files: &DayFiles) -> bool
+    ensures { (out reports : Path) → AreWithin out reports files.now → Goes (T.went tree.old) (T.went tree.new) (WorksWithin out reports) }
+{
+    let records = tree.remove(files.records.part.as_str()).is_ok();
+    let report = tree.remove(files.report.part.as_str()).is_ok();
+    let stamp = tree.remove(files.stamp.part.as_str()).is_ok();
+    records & report & stamp
+}
+
+/// Makes the folder of a report, if that was not the last one. Gives the system's reason if it cannot.
+fn make_folder<C: Claims>(
+    claims: &C,
+    alloc: Global,
+    report: &str,
+    made: &mut String,
+) -> Option<io::Error> {
+    let folder = folder_of(report);
+    if made.as_str() == folder {
+        return None;
+    }
+    match claims.make_folder(folder) {
+        Ok(()) => {
+            if let Ok(name) = String::from_str(alloc, folder) {
+                *made = name;
+            }
+            None
+        }
+        Err(why) => Some(why),
+    }
+}
+
+/// What became of a day for whose report there is no folder for that reason.
+fn because(outcome: DayOutcome, why: Option<io::Error>) -> DayOutcome
+    ensures { IsSameBut outcome result }
+{
+    match outcome {
+        DayOutcome::Refused(DayFault::CannotOpen(unopened)) => {
+            DayOutcome::Refused(DayFault::CannotOpen(Unopened {
+                side: unopened.side,
+                why: why.or(unopened.why),
+            }))
+        }
+        other => other,
+    }
+}
+
+/// Why a day is refused that is not claimed.
+fn refusal_of(fault: ClaimFault) -> Result<DayFault, AllocError>
+    ensures { IfOk result IsUnclaimed }
+{
+    match fault {
+        ClaimFault::CannotOpen(why) => {
+            let side = Side::Records;
+            Ok(DayFault::CannotOpen(Unopened { side, why }))
+        }
+        ClaimFault::ClaimedByAnother => Ok(DayFault::ClaimedByAnother),
+        ClaimFault::Memory => Err(AllocError),
+    }
 }
 
 impl Day {
@@ -181,11 +208,27 @@ impl Day {
         })
     }
 
+    /// That of the day's own file.
+    pub(crate) fn input(&self) -> &str
+        ensures { result.now ≡ self.now.input }
+    {
+        self.input.as_str()
+    }
+
+    fn places(&self) -> Places<'_>
+        ensures { paths_at result ≡ paths_of_names self.now }
+    {
+        Places {
+            input: self.input.as_str(),
+            records: self.records.as_str(),
+            report: self.report.as_str(),
+            stamp: self.stamp.as_str(),
+        }
+    }
+
     /// The files that the walk makes whose claim has that number.
-    pub(crate) fn files(&self, alloc: Global, number: u64) -> Result<DayFiles, AllocError>
-        ensures { IfOk result (λ files. files.records ≡ new_file self.now.records number
-            × files.report ≡ new_file self.now.report number
-            × files.stamp ≡ new_file self.now.stamp number) }
+    fn files(&self, alloc: Global, number: u64) -> Result<DayFiles, AllocError>
+        ensures { IfOk result (λ files. files ≡ files_of self.now number) }
     {
         Ok(DayFiles {
             records: new_name(alloc, self.records.as_str(), number)?,
@@ -194,213 +237,121 @@ impl Day {
         })
     }
 
-    /// Reads the records and the report again that were written, and the day's own file, and holds the records against the
-    /// other two.
-    fn verify<R: Files>(&self, work: &Work<'_, R>, files: &DayFiles) -> Result<(), DayFault>
-        ensures { VerifiedAnswers work.now.asked.options result }
-    {
-        let mut records = FromRead::new(open_part(work.rt, Side::Records, &files.records)?);
-        let mut report = FromRead::new(open_part(work.rt, Side::Report, &files.report)?);
-        let input = opened(Side::File, open_regular(work.rt, self.input.as_str()))?;
-        let mut input = FromRead::new(input);
-        let options = work.asked.options;
-        require_verified(work.alloc, &mut input, &mut records, &mut report, options)
-    }
-
-    /// Gives what was made its names; what is to be verified is verified before.
-    fn keep<R: Files>(
+    /// Removes what a killed walk left of the day, by the number of its claim, and then the claim.
+    fn clear_left<T: Tree, C: Claims>(
         &self,
-        work: &Work<'_, R>,
-        claimed: &ClaimedDay<'_, R::File>,
-        repacked: Repacked,
-    ) -> Result<Repacked, DayFault>
-        requires answer { HasAnswer work.now.asked.options (Ok repacked) }
-        requires smaller { IsTrue work.now.asked.only_smaller → GotSmaller repacked }
-        ensures { IsRepackedDay work.now.asked result }
+        tree: &mut T,
+        work: &Work<'_, C>,
+        left: C::Left,
+    ) -> Result<(), ClaimFault>
+        ensures { (out reports : Path) → AreNamesWithin out reports self.now → Goes (T.went tree.old) (T.went tree.new) (WorksWithin out reports) }
     {
-        let files = claimed.files;
-        if work.asked.check {
-            self.verify(work, files)?;
+        let Some(number) = work.claims.left_number(&left) else {
+            return Ok(());
+        };
+        let Ok(files) = self.files(work.alloc, number) else {
+            return Err(ClaimFault::Memory);
+        };
+        // Without the claim nobody would know what to remove.
+        if !sweep(tree, &files) {
+            return Err(ClaimFault::CannotOpen(None));
         }
-        if !claimed.claim.is_ours(work.rt) {
-            return Err(DayFault::ClaimedByAnother);
-        }
-        give_names(work.rt, work.alloc, files, claimed.is_free)?;
-        Ok(repacked)
+        work.claims.clear(left)
     }
 
-    /// Opens the input before any file is made.
-    fn write<R: Files>(
+    /// Asks for the day once, and clears what a killed walk left of it.
+    fn try_claim<T: Tree, C: Claims>(
         &self,
-        work: &Work<'_, R>,
-        claimed: &ClaimedDay<'_, R::File>,
-    ) -> Result<Repacked, DayFault>
-        ensures { IsRepackedDay work.now.asked result }
+        tree: &mut T,
+        work: &Work<'_, C>,
+    ) -> Result<Tried<C::Claim>, ClaimFault>
+        ensures { (out reports : Path) → AreNamesWithin out reports self.now → Goes (T.went tree.old) (T.went tree.new) (WorksWithin out reports) }
     {
-        let (rt, files) = (work.rt, claimed.files);
-        let input = opened(Side::File, claimed.input.open(rt, self.input.as_str()))?;
-        let mut records = create_part(rt, Side::Records, &files.records)?;
-        let mut report = create_part(rt, Side::Report, &files.report)?;
-        let options = work.asked.options;
-        let repacked = repack_files(work.alloc, input, &mut records, &mut report, options)?;
-        if work.asked.only_smaller && repacked.bytes_read <= repacked.bytes_written {
-            return Err(DayFault::Larger(repacked));
-        }
-        if settle_regular(&records).is_err() || settle_regular(&report).is_err() {
-            return Err(DayFault::Tool(ToolFault::Write));
-        }
-        self.keep(work, claimed, repacked)
-    }
-
-    /// Repacks the day, and writes its stamp if that is asked for and the input did not change meanwhile. If it is refused,
-    /// nothing of it is left, unless another walk took it over.
-    fn repack<R: Files>(&self, work: &Work<'_, R>, claimed: &ClaimedDay<'_, R::File>) -> DayEnd
-        ensures { IsDayOutcome work.now.asked result.outcome }
-    {
-        let (rt, files) = (work.rt, claimed.files);
-        match self.write(work, claimed) {
-            Ok(repacked) => DayEnd {
-                outcome: Outcome::Done(repacked),
-                left: if work.asked.resume {
-                    self.write_stamp(work, claimed)
-                } else {
-                    Left::Nothing
-                },
-            },
-            Err(refusal) => DayEnd {
-                outcome: Outcome::Refused(refusal),
-                left: Left::of_swept(sweep_all(rt, files) & self.clear(work, claimed)),
-            },
-        }
-    }
-
-    /// Writes the day's stamp beside its name, if its input is as it was; without a stamp the next walk repacks it again.
-    fn write_stamp<R: Files>(&self, work: &Work<'_, R>, claimed: &ClaimedDay<'_, R::File>) -> Left {
-        let (rt, name) = (work.rt, &claimed.files.stamp);
-        let stamp = Stamp::of(&Look::at(rt, self.input.as_str()));
-        match stamp {
-            Some(stamp) if Stamp::of(claimed.input) == Some(stamp) => {
-                if stamp.write_beside(rt, work.alloc, name) {
-                    return Left::Stamp;
-                }
-                Left::of_swept(sweep(rt, name))
+        match work.claims.ask(work.alloc, self.claim.as_str())? {
+            Asked::Ours(claim) => Ok(Tried::Ours(claim)),
+            Asked::Left(left) => {
+                self.clear_left(tree, work, left)?;
+                Ok(Tried::Cleared)
             }
-            _ => Left::Nothing,
+            Asked::Again => Ok(Tried::Again),
         }
     }
 
-    /// Removes what has the names of its files, or may have them after a crash, if the day is this walk's still. Tells whether
-    /// the next walk sees what is left: nothing, or what could not be removed.
-    fn clear<R: Files>(&self, work: &Work<'_, R>, claimed: &ClaimedDay<'_, R::File>) -> bool {
-        let (rt, claim) = (work.rt, claimed.claim);
-        if !claim.is_ours(rt) || !claim.was_left && self.look(rt).is_free() {
-            return true;
-        }
-        clear_names(rt, work.alloc, claimed.files) || !self.look(rt).is_free()
-    }
-
-    /// What an earlier walk left of the day, if it is whole, was made with these options, and from the input as it is,
-    /// and is to be kept.
-    fn kept<R: Files>(&self, work: &Work<'_, R>, look: &DayLook) -> Option<Repacked>
-        ensures { IfSome result (IsKept work.now.asked) }
+    /// Claims the day.
+    fn claim<T: Tree, C: Claims>(
+        &self,
+        tree: &mut T,
+        work: &Work<'_, C>,
+    ) -> Result<Claimed<C::Claim>, ClaimFault>
+        ensures { (out reports : Path) → AreNamesWithin out reports self.now → Goes (T.went tree.old) (T.went tree.new) (WorksWithin out reports) }
     {
-        let (rt, alloc) = (work.rt, work.alloc);
-        let stamp = Stamp::of(&look.input)?;
-        if !stamp.stands_in(rt, alloc, self.stamp.as_str(), &look.stamp) {
-            return None;
+        let mut was_left = false;
+        for _ in 0..TRIES {
+            match self.try_claim(tree, work)? {
+                Tried::Ours(claim) => return Ok(Claimed { claim, was_left }),
+                Tried::Cleared => was_left = true,
+                Tried::Again => {}
+            }
         }
-        let report = look.report.open(rt, self.report.as_str()).ok()?;
-        let records = look.records.regular()?;
-        let size = stamp.bytes;
-        let repacked = counts_kept(alloc, &mut FromRead::new(report), work.asked.options, size)?;
-        if records.len() != repacked.bytes_written
-            || work.asked.only_smaller && repacked.bytes_read <= repacked.bytes_written
-        {
-            return None;
-        }
-        Some(repacked)
-    }
-
-    /// Looks at the day's own file, and at those that are made of it.
-    fn look<R: Files>(&self, rt: &R) -> DayLook {
-        self.look_beside(rt, Look::at(rt, self.stamp.as_str()))
-    }
-
-    /// The same, once the stamp was looked at.
-    fn look_beside<R: Files>(&self, rt: &R, stamp: Look) -> DayLook {
-        DayLook {
-            input: Look::at(rt, self.input.as_str()),
-            records: Look::at(rt, self.records.as_str()),
-            report: Look::at(rt, self.report.as_str()),
-            stamp,
-        }
+        Err(ClaimFault::ClaimedByAnother)
     }
 
     /// The same as is kept of a day, if that is asked for and no walk has the day or left something.
-    fn kept_unclaimed<R: Files>(&self, work: &Work<'_, R>) -> Option<Repacked>
-        ensures { IfSome result (IsSame work.now.asked) }
-    {
-        if !work.asked.resume {
-            return None;
-        }
-        let rt = work.rt;
-        let stamp = Look::at(rt, self.stamp.as_str());
-        stamp.regular()?;
-        let look = self.look_beside(rt, stamp);
-        if look.may_overlap() || fs::symlink_metadata(rt, self.claim.as_str()).is_ok() {
-            return None;
-        }
-        let repacked = self.kept(work, &look)?;
-        Some(repacked)
-    }
-
-    /// Does a day that this walk has. If its own file may be one of those that are made, nothing is touched.
-    fn do_claimed<R: Files>(
+    fn same<T: Tree, C: Claims>(
         &self,
-        work: &Work<'_, R>,
-        files: &DayFiles,
-        claim: &Claim<R::File>,
-    ) -> DayEnd
-        ensures { IsDayOutcome work.now.asked result.outcome }
+        tree: &mut T,
+        work: &Work<'_, C>,
+    ) -> Result<Option<Repacked>, AllocError>
+        ensures told { IfOk result (λ found. IfSome found (IsSame work.now.asked)) }
+        ensures goes { Goes (T.went tree.old) (T.went tree.new) (LooksForSame (paths_of_names self.now) work.now.asked result) }
     {
-        let look = self.look(work.rt);
-        if look.may_overlap() {
-            let refusal = DayFault::CannotOpen(Unopened::OUTPUTS);
-            return DayEnd::of(Outcome::Refused(refusal));
-        }
-        if work.asked.resume {
-            if let Some(repacked) = self.kept(work, &look) {
-                return DayEnd::of(Outcome::Same(repacked));
-            }
-        }
-        let claimed = ClaimedDay {
-            input: &look.input,
-            files,
-            claim,
-            is_free: !claim.was_left && look.is_free(),
+        let unclaimed = Unclaimed {
+            claims: work.claims,
+            path: self.claim.as_str(),
         };
-        self.repack(work, &claimed)
+        same_day(tree, work.alloc, self.places(), &unclaimed, &work.asked)
     }
 
     /// Does a day that this walk has, and lets it go, unless its stamp waits; the claim stays beside what could not be
     /// removed, since by its number the next walk finds that.
-    fn do_and_release<R: Files>(
+    fn do_claimed<T: Tree, C: Claims>(
         &self,
-        work: &Work<'_, R>,
-        claim: Claim<R::File>,
-    ) -> Result<Handled<R::File>, AllocError>
-        ensures { IfOk result (λ handled. IsDayOutcome work.now.asked handled.outcome) }
+        tree: &mut T,
+        work: &Work<'_, C>,
+        claimed: Claimed<C::Claim>,
+        made: &mut String,
+    ) -> Result<Handled<C::Claim>, AllocError>
+        ensures told { IfOk result (λ handled. IsDayOutcome work.now.asked handled.outcome) }
+        ensures waits { (out reports : Path) → AreNamesWithin out reports self.now
+            → IfOk result (λ handled. WaitsWithin reports handled.waiting) }
+        ensures goes { (out reports : Path) → AreNamesWithin out reports self.now → Goes (T.went tree.old) (T.went tree.new)
+            (HandlesDay (λ handled. handled.outcome) self.now out reports work.now.asked result) }
     {
-        let Ok(files) = self.files(work.alloc, claim.id.number) else {
+        let Claimed { claim, was_left } = claimed;
+        let Ok(files) = self.files(work.alloc, work.claims.number(&claim)) else {
             // Nothing was written.
-            claim.release(work.rt);
+            work.claims.release(&claim);
             return Err(AllocError);
         };
-        let DayEnd { outcome, left } = self.do_claimed(work, &files, &claim);
-        let waiting = match left {
+        let unmade = make_folder(work.claims, work.alloc, self.report.as_str(), made);
+        let held = Held {
+            claims: work.claims,
+            claim: &claim,
+        };
+        let end = do_day(
+            tree,
+            work.alloc,
+            self.input.as_str(),
+            &files,
+            &held,
+            was_left,
+            &work.asked,
+        );
+        let outcome = because(end.outcome?, unmade);
+        let waiting = match end.left {
             Left::Stamp => Some(Waiting { files, claim }),
             Left::Nothing => {
-                claim.release(work.rt);
+                work.claims.release(&claim);
                 None
             }
             Left::Parts => None,
@@ -411,59 +362,24 @@ impl Day {
     /// Does what is asked of the day: leaves it alone if an earlier walk did it and that is asked for, or claims and repacks
     /// it. If it is refused or not to be kept, no records and no report of it are left, unless the day cannot be claimed,
     /// or its own file may be one of those: then nothing is touched.
-    fn do_asked<R: Files>(&self, work: &Work<'_, R>) -> Result<Handled<R::File>, AllocError>
-    where
-        R::File: LockFile,
-        ensures { IfOk result (λ handled. IsDayOutcome work.now.asked handled.outcome) }
-    {
-        if let Some(repacked) = self.kept_unclaimed(work) {
-            return Ok(Handled::of(Outcome::Same(repacked)));
-        }
-        let refusal = match claim_day(work.rt, work.alloc, self) {
-            Ok(claim) => return self.do_and_release(work, claim),
-            Err(ClaimFault::CannotOpen(why)) => {
-                let side = Side::Records;
-                DayFault::CannotOpen(Unopened { side, why })
-            }
-            Err(ClaimFault::ClaimedByAnother) => DayFault::ClaimedByAnother,
-            Err(ClaimFault::Memory) => return Err(AllocError),
-        };
-        Ok(Handled::of(Outcome::Refused(refusal)))
-    }
-
-    /// The length of this day's records: if each day's own is asked for, that of its first record, if that
-    /// is one that is written.
-    fn length<R: Files>(
+    pub(crate) fn handle<T: Tree, C: Claims>(
         &self,
-        rt: &R,
-        alloc: Global,
-        days: &DayOptions,
-    ) -> Result<Length, AllocError>
-        ensures { IfOk result (λ length. days.now.same_length ≡ false → length ≡ days.now.options.record_length) }
+        tree: &mut T,
+        work: &Work<'_, C>,
+        made: &mut String,
+    ) -> Result<Handled<C::Claim>, AllocError>
+        ensures told { IfOk result (λ handled. IsDayOutcome work.now.asked handled.outcome) }
+        ensures waits { (out reports : Path) → AreNamesWithin out reports self.now
+            → IfOk result (λ handled. WaitsWithin reports handled.waiting) }
+        ensures goes { (out reports : Path) → AreNamesWithin out reports self.now → Goes (T.went tree.old) (T.went tree.new)
+            (HandlesDay (λ handled. handled.outcome) self.now out reports work.now.asked result) }
     {
-        let length = days.options.length();
-        if !days.same_length {
-            return Ok(length);
+        if let Some(repacked) = self.same(tree, work)? {
+            return Ok(Handled::of(DayOutcome::Same(repacked)));
         }
-        match open_regular(rt, self.input.as_str()) {
-            Ok(input) => first_length(alloc, &mut FromRead::new(input), length),
-            Err(_) => Ok(length),
+        match self.claim(tree, work) {
+            Ok(claimed) => self.do_claimed(tree, work, claimed, made),
+            Err(fault) => Ok(Handled::of(DayOutcome::Refused(refusal_of(fault)?))),
         }
-    }
-
-    /// Does what is asked of the days of the archive.
-    pub(crate) fn handle<R: Files>(
-        &self,
-        rt: &R,
-        alloc: Global,
-        days: &DayOptions,
-    ) -> Result<Handled<R::File>, AllocError>
-    where
-        R::File: LockFile,
-        ensures { IfOk result (λ handled. IsOutcomeOfDay days.now handled.outcome) }
-    {
-        let length = self.length(rt, alloc, days)?;
-        let asked = days.in_length(length);
-        self.do_asked(&Work { rt, alloc, asked })
     }
 }

@@ -1,31 +1,42 @@
 //! The walk through the folders of an archive.
-ghost use Rattle.std.specs.Prelude.{◌≡◌, ◌↔◌, [], List, IfErr, IfOk, IsErrOf, OnOk};
+ghost use Rattle.std.specs.Prelude.{◌≡◌, ◌≢◌, ◌↔◌, ◌∷◌, [], List, IfErr, IfOk, IsErrOf, OnOk};
 ghost use Rattle.std.specs.String.{string_bytes};
-ghost use Rattle.msr_devices.specs.Device.{CanCountCall, HasFailed};
+ghost use Rattle.msr_devices.specs.Device.{CanCountCall, Device, HasFailed};
 ghost use Rattle.msr_sds.specs.SdsPath.{ReadsAsDay};
-ghost use Rattle.msr_folders.proofs.VisitLemmas.{visitor_laws};
-ghost use Rattle.msr_walk.specs.Day.{IsOutcomeOfDay};
+ghost use Rattle.msr_folders.specs.Entries.{AreEntriesOf, Entry as Found};
+ghost use Rattle.msr_folders.proofs.WithinLemmas.{within_laws};
+ghost use Rattle.msr_folders.specs.Within.{ChangesWithin};
+ghost use Rattle.msr_folders.specs.Walks.{TellsVisit, TellsWalk as TellsVisits};
+ghost use Rattle.msr_options.specs.Tasks.{StandApart};
+ghost use Rattle.msr_tree.specs.Calls.{Goes};
+ghost use Rattle.msr_tree.specs.Steps.{Path};
+ghost use Rattle.msr_tree.specs.declared.kind.FileKind.{FileKind};
+ghost use Rattle.msr_tree.specs.declared.kind.FileKind.TheVariants.{Gone};
 ghost use Rattle.msr_walk.specs.Entries.{Entry, IsEntry, IsEntryLine, IsOutcomeOf, IsTally, channel_of};
-ghost use Rattle.msr_walk.specs.Walk.{StopsTellingOutcomes, TellsAmong, Walks};
+ghost use Rattle.msr_walk.specs.Files.{day_names};
+ghost use Rattle.msr_walk.specs.Handling.{AllWaitWithin, AreWaitingAt, WaitsWithin};
+ghost use Rattle.msr_walk.specs.Outcomes.{IsOutcomeOfDay};
+ghost use Rattle.msr_folders.specs.Days.{IsDay};
+ghost use Rattle.msr_folders.specs.Paths.{told_folder};
+ghost use Rattle.msr_walk.specs.Told.{IsToldOfVisit, StaysWithin, TellsDay, TellsOutcomesOf, WalksTree, WorksFor};
+ghost use Rattle.msr_walk.specs.Walk.{StopsTellingOutcomes, Walks};
 
 use crate::batch::Batch;
-use crate::claim::Claim;
-use crate::day::{Day, Handled};
-use crate::outcome::{DayFault, Outcome};
+use crate::claims::Claims;
+use crate::day::{Day, Work};
+use crate::outcome::Outcome;
 use crate::summary::write_summary;
 use crate::tally::Tally;
+use crate::walker::Walker;
 use msr_devices::{DeviceFault, Sink, write_all};
-use msr_folders::{
-    FileId, FolderWalk, LockFile, Place, Visitor, WalkFound, join, place_of, visit_folders,
-};
+use msr_folders::{EntryVisitor, EntryWalk, WalkFound, visit_entries};
+use msr_making::{DayFault, DayOutcome, day_length};
 use msr_naming::Waiting;
 use msr_options::{Archiving, Unopened};
 use msr_sds::SdsName;
 use msr_tool::ToolFault;
-use msr_tree::FileKind;
+use msr_tree::{FileKind, Tree};
 use std::alloc::{AllocError, Global};
-use std::fs;
-use std::rt::Files;
 
 /// What a walk found that came to its end.
 #[derive(Clone, Copy)]
@@ -35,54 +46,71 @@ pub struct Walked {
     pub unopened: Option<Unopened>,
 }
 
-/// What a day needs: the system's files, memory and what is asked for.
-#[derive(Drop)]
-struct Walker<'a, R: Files> {
-    rt: &'a R,
-    alloc: Global,
-    archive: &'a Archiving<'a>,
-}
-
 /// What is counted, and the days whose stamps wait.
 #[derive(Drop)]
-struct Progress<'a, R: Files> {
-    tally: Tally,
-    batch: Batch<'a, R>,
+pub(crate) struct Progress<K> {
+    pub(crate) tally: Tally,
+    pub(crate) batch: Batch<K>,
+    /// The folder of reports that was made last.
+    made: String,
 }
 
-impl<R: Files> Progress<'_, R> {
-    /// The day with this path waits, if there is something to wait for.
-    fn wait(&mut self, path: &str, waiting: Option<Waiting<Claim<R::File>>>)
-        ensures { self.new.tally ≡ self.old.tally }
+/// What became of a day, as it is told, and what waits for its stamp to get its name.
+#[derive(Drop)]
+struct Told<K> {
+    outcome: Outcome,
+    waiting: Option<Waiting<K>>,
+}
+
+impl<K: Drop> Progress<K> {
+    fn new(alloc: Global) -> Progress<K>
+        ensures empty { IsTally [] result.tally }
+        ensures waits { (reports : Path) → AllWaitWithin reports result.batch.days.items }
     {
-        if let Some(day) = waiting {
-            self.batch.add(path, day);
+        Progress {
+            tally: Tally::new(alloc),
+            batch: Batch::new(alloc),
+            made: String::new(alloc),
         }
     }
 
-    /// No day waits any more.
-    fn settle(&mut self)
-        ensures { self.new.tally ≡ self.old.tally }
+    /// The day with this path waits, if there is something to wait for.
+    fn wait<T: Tree, C: Claims<Claim = K>>(
+        &mut self,
+        tree: &mut T,
+        walker: &Walker<'_, C>,
+        path: &str,
+        waiting: Option<Waiting<K>>,
+    )
+        requires days { AreWaitingAt (T.went tree.old) walker.now.archive.now.folders.reports.now self.old.batch.days.items }
+        requires day { WaitsWithin walker.now.archive.now.folders.reports.now waiting }
+        ensures tally { self.new.tally ≡ self.old.tally }
+        ensures days { AreWaitingAt (T.went tree.new) walker.now.archive.now.folders.reports.now self.new.batch.days.items }
+        ensures works { Goes (T.went tree.old) (T.went tree.new) (WorksFor walker.now.archive.now.folders) }
     {
-        self.batch.settle();
+        if let Some(day) = waiting {
+            self.batch.add(tree, walker, path, day);
+        }
     }
 }
 
 /// Prints the line of an entry, and counts it. The channel is that of a day.
-fn tell<R: Files, O: Sink>(
-    walker: &Walker<'_, R>,
+fn tell<K, C, O: Sink>(
+    walker: &Walker<'_, C>,
     path: &str,
     channel: &str,
     outcome: Outcome,
     out: &mut O,
-    progress: &mut Progress<'_, R>,
+    progress: &mut Progress<K>,
 ) -> Result<(), DeviceFault>
     requires { CanCountCall (O.device out.old) }
     ensures told { IsOutcomeOf walker.now.archive.now.days path.now channel.now outcome →
-        OnOk result (TellsAmong (λ of. of.tally) walker.now.archive.now.days
+        OnOk result (TellsOutcomesOf (λ of. of.tally) walker.now.archive.now.days
+        (record { path = path.now; channel = channel.now; outcome = outcome } ∷ [])
         (O.device out.old) (O.device out.new) progress.old progress.new) }
     ensures stops { IsOutcomeOf walker.now.archive.now.days path.now channel.now outcome →
         IfErr result (StopsTellingOutcomes walker.now.archive.now.days (O.device out.old) (O.device out.new)) }
+    ensures batch { progress.new.batch ≡ progress.old.batch }
 {
     let line = outcome.line(walker.alloc, path, walker.archive.days.bytes)?;
     write_all(out, line.as_bytes())?;
@@ -101,208 +129,234 @@ fn channel_text(alloc: Global, name: &SdsName<'_>) -> Result<String, AllocError>
     format!(in alloc; "{network}.{station}.{location}.{channel}")
 }
 
-impl<'a, R: Files> Walker<'a, R>
-where
-    R::File: LockFile,
-{
-    /// Whether what is made of the days of a folder, with that path from the archive's own, certainly stands outside
-    /// the archive, by whatever links, mounts and names: outside its own folder, and outside that of the days, which
-    /// may be a link that leads out of it.
-    fn stands_apart(&self, folder: &str) -> Result<bool, AllocError> {
-        let folders = self.archive.folders;
-        let Ok(root) = fs::metadata(self.rt, folders.root) else {
-            return Ok(false);
-        };
-        let days = fs::metadata(self.rt, join(self.alloc, folders.root, folder)?.as_str());
-        let Ok(days) = days else {
-            return Ok(false);
-        };
-        let own = [FileId::of(&root), FileId::of(&days)];
-        Ok(
-            self.place_in(folders.out, folder, &own)? == Place::Apart
-                && self.place_in(folders.reports, folder, &own)? == Place::Apart,
-        )
-    }
-
-    /// Where a folder with that path from a root stands, or will stand, seen from the archive's own.
-    fn place_in(&self, root: &str, folder: &str, own: &[FileId]) -> Result<Place, AllocError> {
-        let path = join(self.alloc, root, folder)?;
-        place_of(self.rt, self.alloc, path.as_str(), own)
-    }
-
+impl<'a, C: Claims> Walker<'a, C> {
     /// Handles a day, or refuses it if what is made of it may stand in the archive.
-    fn handle(&self, path: &str, apart: bool) -> Result<Handled<R::File>, AllocError>
-        ensures { IfOk result (λ handled. IsOutcomeOfDay self.now.archive.now.days handled.outcome) }
+    fn handle<T: Tree>(
+        &self,
+        tree: &mut T,
+        path: &str,
+        apart: bool,
+        made: &mut String,
+    ) -> Result<Told<C::Claim>, AllocError>
+        requires { IsDay path.now }
+        ensures told { IfOk result (λ told. IsOutcomeOfDay self.now.archive.now.days told.outcome) }
+        ensures waits { IfOk result (λ told. WaitsWithin self.now.archive.now.folders.reports.now told.waiting) }
+        ensures goes { Goes (T.went tree.old) (T.went tree.new) (TellsDay (λ told. told.outcome) self.now.archive.now.days
+            (day_names self.now.archive.now.folders.root.now self.now.archive.now.folders.out.now self.now.archive.now.folders.reports.now path.now) self.now.archive.now.folders.out.now self.now.archive.now.folders.reports.now result) }
     {
         if !apart {
             let refusal = DayFault::CannotOpen(Unopened::OUTPUTS);
-            return Ok(Handled::of(Outcome::Refused(refusal)));
+            return Ok(Told {
+                outcome: Outcome::Refused(refusal),
+                waiting: None,
+            });
         }
+        let days = &self.archive.days;
         let day = Day::new(self.alloc, self.archive.folders, path)?;
-        day.handle(self.rt, self.alloc, &self.archive.days)
+        let length = day_length(tree, self.alloc, day.input(), days)?;
+        let work = Work {
+            claims: self.claims,
+            alloc: self.alloc,
+            asked: days.in_length(length),
+        };
+        let handled = day.handle(tree, &work, made)?;
+        Ok(Told {
+            outcome: Outcome::of_day(handled.outcome),
+            waiting: handled.waiting,
+        })
     }
 
     /// Handles a day; prints its line and counts it. Its stamp may wait then.
-    fn tell_day<O: Sink>(
+    fn visit_day<T: Tree, O: Sink>(
         &self,
+        tree: &mut T,
         path: &str,
         name: &SdsName<'_>,
         apart: bool,
         out: &mut O,
-        progress: &mut Progress<'a, R>,
+        progress: &mut Progress<C::Claim>,
     ) -> Result<(), DeviceFault>
         requires day { ReadsAsDay path.now name.now }
         requires count { CanCountCall (O.device out.old) }
-        ensures told { OnOk result (TellsAmong (λ of. of.tally) self.now.archive.now.days (O.device out.old)
-            (O.device out.new) progress.old progress.new) }
-        ensures stops { IfErr result (StopsTellingOutcomes self.now.archive.now.days (O.device out.old)
-            (O.device out.new)) }
+        requires days { AreWaitingAt (T.went tree.old) self.now.archive.now.folders.reports.now progress.old.batch.days.items }
+        ensures told { (kind : FileKind) → kind ≢ Gone → OnOk result (TellsVisit (TellsOutcomesOf (λ of. of.tally) self.now.archive.now.days)
+            (IsToldOfVisit self.now.archive.now.folders.root.now self.now.archive.now.folders.out.now self.now.archive.now.folders.reports.now self.now.archive.now.days) (ChangesWithin self.now.archive.now.folders.out.now self.now.archive.now.folders.reports.now) (Found path.now kind)
+            (T.went tree.old) (T.went tree.new) (O.device out.old) (O.device out.new) progress.old progress.new) }
+        ensures stops { IfErr result (StopsTellingOutcomes self.now.archive.now.days (O.device out.old) (O.device out.new)) }
+        ensures works { Goes (T.went tree.old) (T.went tree.new) (WorksFor self.now.archive.now.folders) }
+        ensures days { AreWaitingAt (T.went tree.new) self.now.archive.now.folders.reports.now progress.new.batch.days.items }
     {
         let channel = channel_text(self.alloc, name)?;
-        let handled = self.handle(path, apart)?;
+        let handled = self.handle(tree, path, apart, &mut progress.made)?;
         let told = tell(self, path, channel.as_str(), handled.outcome, out, progress);
-        progress.wait(path, handled.waiting);
+        progress.wait(tree, self, path, handled.waiting);
         told
     }
 
+    /// Handles an entry that is there.
+    fn visit_found<T: Tree, O: Sink>(
+        &self,
+        tree: &mut T,
+        path: &str,
+        apart: bool,
+        out: &mut O,
+        progress: &mut Progress<C::Claim>,
+    ) -> Result<(), DeviceFault>
+        requires count { CanCountCall (O.device out.old) }
+        requires days { AreWaitingAt (T.went tree.old) self.now.archive.now.folders.reports.now progress.old.batch.days.items }
+        ensures told { (kind : FileKind) → kind ≢ Gone → OnOk result (TellsVisit (TellsOutcomesOf (λ of. of.tally) self.now.archive.now.days)
+            (IsToldOfVisit self.now.archive.now.folders.root.now self.now.archive.now.folders.out.now self.now.archive.now.folders.reports.now self.now.archive.now.days) (ChangesWithin self.now.archive.now.folders.out.now self.now.archive.now.folders.reports.now) (Found path.now kind)
+            (T.went tree.old) (T.went tree.new) (O.device out.old) (O.device out.new) progress.old progress.new) }
+        ensures stops { IfErr result (StopsTellingOutcomes self.now.archive.now.days (O.device out.old) (O.device out.new)) }
+        ensures works { Goes (T.went tree.old) (T.went tree.new) (WorksFor self.now.archive.now.folders) }
+        ensures days { AreWaitingAt (T.went tree.new) self.now.archive.now.folders.reports.now progress.new.batch.days.items }
+    {
+        match SdsName::parse(path) {
+            Ok(name) => self.visit_day(tree, path, &name, apart, out, progress),
+            Err(fault) => tell(self, path, "", Outcome::Skipped(fault), out, progress),
+        }
+    }
+
     /// Visits the archive, or the folders of it that are asked for, and then settles what waits, even if the visit stopped.
-    fn visit<O: Sink>(&self, out: &mut O, progress: &mut Progress<'a, R>) -> Result<(), DeviceFault>
-        requires { CanCountCall (O.device out.old) }
-        ensures told { OnOk result (TellsAmong (λ of. of.tally) self.now.archive.now.days (O.device out.old)
-            (O.device out.new) progress.old progress.new) }
-        ensures stops { IfErr result (StopsTellingOutcomes self.now.archive.now.days (O.device out.old)
-            (O.device out.new)) }
+    fn visit<T: Tree, O: Sink>(
+        &self,
+        tree: &mut T,
+        out: &mut O,
+        progress: &mut Progress<C::Claim>,
+    ) -> Result<(), DeviceFault>
+        requires count { CanCountCall (O.device out.old) }
+        requires days { AreWaitingAt (T.went tree.old) self.now.archive.now.folders.reports.now progress.old.batch.days.items }
+        ensures told { OnOk result (TellsVisits (TellsOutcomesOf (λ of. of.tally) self.now.archive.now.days) (IsToldOfVisit self.now.archive.now.folders.root.now self.now.archive.now.folders.out.now self.now.archive.now.folders.reports.now self.now.archive.now.days) (ChangesWithin self.now.archive.now.folders.out.now self.now.archive.now.folders.reports.now) self.now.archive.now.folders.root.now
+            (λ past. AreEntriesOf past self.now.archive.now.folders.root.now self.now.archive.now.below.items)
+            (T.went tree.old) (T.went tree.new) (O.device out.old) (O.device out.new) progress.old progress.new) }
+        ensures stops { IfErr result (StopsTellingOutcomes self.now.archive.now.days (O.device out.old) (O.device out.new)) }
+        ensures does { Goes (T.went tree.old) (T.went tree.new) (ChangesWithin self.now.archive.now.folders.out.now self.now.archive.now.folders.reports.now) }
     {
         let archive = self.archive;
-        let walk = FolderWalk {
-            rt: self.rt,
+        let walk = EntryWalk {
             alloc: self.alloc,
             root: archive.folders.root,
             below: archive.below.as_slice(),
             visitor: self,
         };
-        let visited = visit_folders(&walk, out, progress);
-        progress.settle();
+        let visited = visit_entries(&walk, tree, out, progress);
+        progress.batch.settle(tree, self);
         visited
-    }
-
-    /// Walks the archive, or the folders of it that are asked for, with this tally of nothing.
-    fn walk<O: Sink>(
-        &self,
-        out: &mut O,
-        progress: &mut Progress<'a, R>,
-    ) -> Result<Walked, ToolFault>
-        requires count { CanCountCall (O.device out.old) }
-        requires empty { IsTally [] progress.old.tally }
-        ensures answer { Walks self.now.archive.now.days (O.device out.old) (O.device out.new) result }
-        ensures write { IsErrOf result ToolFault.Write ↔ HasFailed (O.device out.old) (O.device out.new) }
-    {
-        self.visit(out, progress)?;
-        let tally = &progress.tally;
-        write_summary(self.alloc, out, &self.archive.days, tally)?;
-        let days = tally.done.saturating_add(tally.larger);
-        Ok(Walked {
-            found: WalkFound::of(tally.refused, days),
-            unopened: tally.unopened,
-        })
     }
 }
 
-impl<'a, R: Files> Visitor for Walker<'a, R>
-where
-    R::File: LockFile,
+/// The path of a folder as it is told.
+fn told_folder(folder: &str) -> &str
+    ensures { result.now ≡ told_folder folder.now }
 {
-    type Tally = Progress<'a, R>;
+    if folder.is_empty() { "." } else { folder }
+}
+
+impl<'a, C: Claims> EntryVisitor for Walker<'a, C> {
+    type Tally = Progress<C::Claim>;
 
     /// Whether what is made of the days of the folder stands outside the archive.
     type Folder = bool;
 
-    ghost tells = { λ walker. TellsAmong (λ of. of.tally) walker.archive.now.days };
+    ghost Line = { Entry };
 
-    ghost stops = { λ walker out0 out _ _. StopsTellingOutcomes walker.archive.now.days out0 out };
+    ghost tells = { λ walker. TellsOutcomesOf (λ of. of.tally) walker.archive.now.days };
 
-    ghost laws = { visitor_laws (λ walker. IsEntry walker.archive.now.days)
-        (λ walker. IsEntryLine walker.archive.now.days.bytes) (λ entries of. IsTally entries of.tally) };
+    ghost stops = { λ walker. StopsTellingOutcomes walker.archive.now.days };
 
-    fn enter_folder<O: Sink>(
-        &self,
-        folder: &str,
-        levels: u8,
-        _out: &mut O,
-        _progress: &mut Progress<'a, R>,
-    ) -> Result<Option<bool>, DeviceFault> {
+    ghost says = { λ walker. IsToldOfVisit walker.archive.now.folders.root.now walker.archive.now.folders.out.now walker.archive.now.folders.reports.now walker.archive.now.days };
+
+    ghost does = { λ walker. ChangesWithin walker.archive.now.folders.out.now walker.archive.now.folders.reports.now };
+
+    ghost holds = { λ walker progress past. AllWaitWithin walker.archive.now.folders.reports.now progress.batch.days.items };
+
+    ghost spared = { λ walker. walker.archive.now.folders.root.now };
+
+    ghost laws = { within_laws (λ walker. IsEntry walker.archive.now.days) (λ walker. IsEntryLine walker.archive.now.days.bytes)
+        (λ entries of. IsTally entries of.tally) (λ walker. walker.archive.now.folders.root.now) (λ walker. walker.archive.now.folders.out.now)
+        (λ walker. walker.archive.now.folders.reports.now) (λ walker. walker.apart) };
+
+    ghost listed = { record { stays = λ walker progress past place held. held } };
+
+    fn enter_folder(&self, folder: &str, levels: u8) -> Result<bool, AllocError> {
         // No folder above has days.
-        Ok(Some(0 < levels || self.stands_apart(folder)?))
+        if 0 < levels {
+            return Ok(true);
+        }
+        self.claims
+            .stand_apart(self.alloc, self.archive.folders, folder)
     }
 
-    fn leave_folder<O: Sink>(
+    fn visit_entry<T: Tree, O: Sink>(
         &self,
-        _folder: &str,
-        _levels: u8,
-        _out: &mut O,
-        progress: &mut Progress<'a, R>,
-    ) -> Result<(), DeviceFault> {
-        progress.settle();
-        Ok(())
-    }
-
-    fn visit_entry<O: Sink>(
-        &self,
+        tree: &mut T,
         apart: &bool,
         path: &str,
         kind: FileKind,
         out: &mut O,
-        progress: &mut Progress<'a, R>,
+        progress: &mut Progress<C::Claim>,
     ) -> Result<(), DeviceFault> {
-        if kind == FileKind::Gone {
-            return tell(
-                self,
-                path,
-                "",
-                Outcome::Refused(DayFault::Gone),
-                out,
-                progress,
-            );
-        }
-        match SdsName::parse(path) {
-            Ok(name) => self.tell_day(path, &name, *apart, out, progress),
-            Err(fault) => tell(self, path, "", Outcome::Skipped(fault), out, progress),
+        match kind {
+            FileKind::Gone => {
+                let gone = Outcome::Refused(DayFault::Gone);
+                tell(self, path, "", gone, out, progress)
+            }
+            _ => self.visit_found(tree, path, *apart, out, progress),
         }
     }
 
-    fn visit_unlisted<O: Sink>(
+    fn visit_unlisted<T: Tree, O: Sink>(
         &self,
+        _tree: &mut T,
         folder: &str,
         _place: &str,
         out: &mut O,
-        progress: &mut Progress<'a, R>,
+        progress: &mut Progress<C::Claim>,
     ) -> Result<(), DeviceFault> {
-        let path = if folder.is_empty() { "." } else { folder };
         let refused = Outcome::Refused(DayFault::Listing);
-        tell(self, path, "", refused, out, progress)
+        tell(self, told_folder(folder), "", refused, out, progress)
+    }
+
+    fn leave_folder<T: Tree>(&self, tree: &mut T, progress: &mut Progress<C::Claim>) {
+        progress.batch.settle(tree, self);
     }
 }
 
 /// Walks the archive, or the folders of it that are asked for, and tells whether an entry was refused, whether there
 /// was a day, and what of the first one could not be opened.
-pub fn walk<'a, R: Files, O: Sink>(
-    rt: &'a R,
+pub fn walk<'a, T: Tree, C: Claims, O: Sink>(
+    tree: &mut T,
+    claims: &'a C,
     alloc: Global,
     archive: &'a Archiving<'a>,
     out: &mut O,
 ) -> Result<Walked, ToolFault>
-where
-    R::File: LockFile,
-    requires { CanCountCall (O.device out.old) }
+    requires apart { StandApart archive.now.folders }
+    requires count { CanCountCall (O.device out.old) }
     ensures answer { Walks (archive.now.days) (O.device out.old) (O.device out.new) result }
 
     // A failure of the sink is answered as such, and nothing else is.
     ensures write { IsErrOf result ToolFault.Write ↔ HasFailed (O.device out.old) (O.device out.new) }
+
+    // What is told is so of what the names lead to, and of each entry.
+    ensures tree { IfOk result (WalksTree archive.now (T.went tree.old) (T.went tree.new)
+        (O.device out.old) (O.device out.new)) }
+
+    // At each moment the archive is as it was.
+    ensures root { Goes (T.went tree.old) (T.went tree.new) (StaysWithin archive.now.folders.root.now) }
 {
-    let mut progress = Progress {
-        tally: Tally::new(alloc),
-        batch: Batch::new(rt, alloc, archive.folders),
+    let mut progress = Progress::new(alloc);
+    let walker = Walker {
+        claims,
+        alloc,
+        archive,
     };
-    let walker = Walker { rt, alloc, archive };
-    walker.walk(out, &mut progress)
+    walker.visit(tree, out, &mut progress)?;
+    let tally = &progress.tally;
+    write_summary(alloc, out, &archive.days, tally)?;
+    let days = tally.done.saturating_add(tally.larger);
+    Ok(Walked {
+        found: WalkFound::of(tally.refused, days),
+        unopened: tally.unopened,
+    })
 }

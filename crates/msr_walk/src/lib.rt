@@ -3,15 +3,15 @@
 #![tactic(auto)]
 
 mod batch;
-mod claim;
+mod claims;
 mod day;
-mod files;
 mod folders;
-mod names;
 mod outcome;
-mod repacking;
-mod stamp;
 mod summary;
+mod system;
 mod tally;
+mod walker;
 
+pub use claims::{Asked, ClaimFault, Claims};
 pub use folders::{Walked, walk};
+pub use system::{SystemClaim, SystemClaims, SystemLeft};

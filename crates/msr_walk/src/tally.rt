@@ -2,8 +2,9 @@
 ghost use Rattle.std.specs.Prelude.{◌≡◌, ◌++◌, ◌∷◌, [], List, OnOk};
 ghost use Rattle.msr_walk.specs.Entries.{AddsDone, Entry, IsTally};
 
-use crate::outcome::{DayFault, Outcome, Repacked};
+use crate::outcome::Outcome;
 use msr_folders::Totals;
+use msr_making::{DayFault, Repacked};
 use msr_options::Unopened;
 use std::alloc::{AllocError, Global};
 

@@ -18,6 +18,7 @@ use crate::memory::writer::MemoryWriter;
 use crate::paths::{folder_above, is_within};
 use crate::tree::{Tree, TreeFault};
 use std::alloc::Global;
+use std::io;
 use std::marker::Model;
 
 /// What is told of the file that was made after so many steps, but for its bytes.
@@ -180,6 +181,21 @@ impl MemoryTree {
             Err(_) => {
                 self.deeds.pop();
                 TreeFault::Memory
+            }
+        }
+    }
+
+    /// Notes two things that were done, one after the other.
+    fn note_both(&mut self, first: Deed, second: Deed) -> Result<(), TreeFault>
+        ensures { MatchResult result (λ _. self.new ≡ step_of second ∷ step_of first ∷ self.old)
+            (λ fault. (fault ≡ Memory) × (self.new ≡ self.old)) }
+    {
+        self.note(first)?;
+        match self.note(second) {
+            Ok(()) => Ok(()),
+            Err(fault) => {
+                self.deeds.pop();
+                Err(fault)
             }
         }
     }
@@ -411,6 +427,10 @@ impl Tree for MemoryTree {
 
     ghost went = { λ tree past. past ≡ tree };
 
+    fn reason(&self) -> Option<io::Error> {
+        None
+    }
+
     fn look(&mut self, path: &str) -> Result<Option<Facts>, TreeFault> {
         self.tells()?;
         match find(self.deeds.as_slice(), path) {
@@ -418,6 +438,10 @@ impl Tree for MemoryTree {
             None if self.is_folder(path) => Ok(Some(FOLDER)),
             None => Ok(None),
         }
+    }
+
+    fn look_through(&mut self, path: &str) -> Result<Option<Facts>, TreeFault> {
+        self.look(path)
     }
 
     fn list(&mut self, folder: &str) -> Result<Vec<String>, TreeFault> {
@@ -446,6 +470,10 @@ impl Tree for MemoryTree {
         self.open(path)
     }
 
+    fn open_found(&mut self, path: &str, _facts: &Facts) -> Result<MemoryReader, TreeFault> {
+        self.open(path)
+    }
+
     fn open(&mut self, path: &str) -> Result<MemoryReader, TreeFault> {
         self.tells()?;
         match self.seen(path) {
@@ -470,6 +498,20 @@ impl Tree for MemoryTree {
         }
         let own = self.own(path)?;
         self.does(Deed::Made(own, writer.into_bytes()))
+    }
+
+    fn finish_stored(&mut self, path: &str, writer: MemoryWriter) -> Result<(), TreeFault> {
+        if writer.path.as_str() != path {
+            return Err(self.refuse());
+        }
+        let own = self.own(path)?;
+        let stored = Deed::FileStored(self.own(path)?);
+        let made = Deed::Made(own, writer.into_bytes());
+        match self.next_ending() {
+            None => self.note_both(made, stored),
+            Some(Ending::Nothing) => Err(self.refuse()),
+            Some(Ending::Part | Ending::All) => Err(self.refuse_after(made)),
+        }
     }
 
     fn is_same(&mut self, one: &str, other: &str) -> Result<bool, TreeFault> {

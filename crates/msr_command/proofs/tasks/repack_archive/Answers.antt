@@ -1,6 +1,11 @@
+use Rattle.std.proofs.Common.{inl, refl}
 use Rattle.std.proofs.lemmas.Result.{err_from_is_err_and}
+use Rattle.msr_command.specs.declared.task_fault.TaskFault.TheVariants.{Overlap}
 use Rattle.msr_command.proofs.Endings.{archive_done, archive_stops, archive_unbegun}
 use Rattle.msr_command.proofs.tasks.repack_archive.Goals as goal
+
+pub returns-then-not-stand_apart : goal.returns-then-not-stand_apart
+returns-then-not-stand_apart g c = archive_unbegun c.args.asked.now (g.O.Sink.device c.args.output.now) Overlap (inl refl)
 
 pub returns-in_err-require_apart : goal.returns-in_err-require_apart
 returns-in_err-require_apart g c =

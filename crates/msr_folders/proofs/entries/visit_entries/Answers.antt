@@ -6,9 +6,11 @@ use Rattle.msr_folders.proofs.WalkedLemmas.{next_below, no_folder_yet}
 use Rattle.msr_folders.proofs.entries.visit_entries.Goals as goal
 
 pub loop-folder-init : goal.loop-folder-init
-loop-folder-init g c =
-    no_folder_yet g.V.EntryVisitor.tells g.V.EntryVisitor.stops g.V.EntryVisitor.says g.V.EntryVisitor.does g.V.EntryVisitor.spared
-    g.met.V.EntryVisitor.laws c.args.walk.now.visitor.now c.args.walk.now.root.now (g.T.Tree.went c.args.tree.now) (g.O.Sink.device c.args.out.now) c.args.tally.now
+loop-folder-init g c = (
+  no_folder_yet g.V.EntryVisitor.tells g.V.EntryVisitor.stops g.V.EntryVisitor.says g.V.EntryVisitor.does g.V.EntryVisitor.spared
+      g.met.V.EntryVisitor.laws c.args.walk.now.visitor.now c.args.walk.now.root.now (g.T.Tree.went c.args.tree.now) (g.O.Sink.device c.args.out.now) c.args.tally.now,
+  c.requires.holds,
+)
 
 pub loop-folder-preserved : goal.loop-folder-preserved
 loop-folder-preserved g c =
@@ -17,9 +19,12 @@ loop-folder-preserved g c =
     let none : Bor Path = record { ref_ptr = (0, 0); now = [] } in
     let folder : Bor Path = get_or folders i none in
     let one_more : take (i + 1) folders ≡ take i folders ++ folder ∷ [] = take_more folders i none c.loop-folder-test.true in
-    rw one_more (next_below g.V.EntryVisitor.tells g.V.EntryVisitor.stops g.V.EntryVisitor.says g.V.EntryVisitor.does g.V.EntryVisitor.spared
-    g.met.V.EntryVisitor.laws c.args.walk.now.visitor.now c.args.walk.now.root.now _ c.levels_below.result folder (take i folders)
-    (g.T.Tree.went c.args.tree.now) (g.T.Tree.went c.loop-folder.tree) (g.T.Tree.went c.visit_folder-in-loop-folder.new.tree)
-    (g.O.Sink.device c.args.out.now) (g.O.Sink.device c.loop-folder.out) (g.O.Sink.device c.visit_folder-in-loop-folder.new.out)
-    c.args.tally.now c.loop-folder.tally c.visit_folder-in-loop-folder.new.tally
-    c.requires.spared c.levels_below.ensures c.unwrap_or-levels.ensures c.loop-folder.invariant c.in_ok-visit_folder.ensures.told)
+    rw one_more (
+      next_below g.V.EntryVisitor.tells g.V.EntryVisitor.stops g.V.EntryVisitor.says g.V.EntryVisitor.does g.V.EntryVisitor.spared
+          g.met.V.EntryVisitor.laws c.args.walk.now.visitor.now c.args.walk.now.root.now _ c.levels_below.result folder (take i folders)
+          (g.T.Tree.went c.args.tree.now) (g.T.Tree.went c.loop-folder.tree) (g.T.Tree.went c.visit_folder-in-loop-folder.new.tree)
+          (g.O.Sink.device c.args.out.now) (g.O.Sink.device c.loop-folder.out) (g.O.Sink.device c.visit_folder-in-loop-folder.new.out)
+          c.args.tally.now c.loop-folder.tally c.visit_folder-in-loop-folder.new.tally
+          c.requires.spared c.levels_below.ensures c.unwrap_or-levels.ensures c.loop-folder.invariant.0 c.in_ok-visit_folder.ensures.told,
+      c.visit_folder-in-loop-folder.ensures.holds,
+    )

@@ -1,5 +1,6 @@
 use Rattle.std.proofs.lemmas.Result.{err_from_is_err_and}
-use Rattle.msr_replace.specs.Work.{names_in, report_in}
+use Rattle.msr_replace.specs.Answers.{report_in}
+use Rattle.msr_exchange.specs.Work.{names_in}
 use Rattle.msr_replace.proofs.Judged.{replaced_none}
 use Rattle.msr_replace.proofs.day.replace_path.Goals as goal
 

@@ -1,5 +1,5 @@
 use Rattle.std.proofs.lemmas.Result.{err_from_is_err_and}
-use Rattle.msr_replace.specs.Work.{names_in}
+use Rattle.msr_exchange.specs.Work.{names_in}
 use Rattle.msr_replace.proofs.Restored.{restored_none, restored_ok, restored_stopped}
 use Rattle.msr_replace.proofs.day.restore_path.Goals as goal
 

@@ -3,7 +3,7 @@ use Rattle.std.proofs.lemmas.Result.{err_from_is_err_and}
 use Rattle.msr_tree.specs.declared.facts.Facts.{Facts}
 use Rattle.msr_tree.specs.Calls.{Looks}
 use Rattle.msr_tree.proofs.Acting.{giving, goes_tells, stopped_as, told_as}
-use Rattle.msr_replace.specs.Moves.{Anything}
+use Rattle.msr_exchange.specs.Moves.{Anything}
 use Rattle.msr_replace.proofs.looks.is_own.Goals as goal
 
 pub returns-in_err-original : goal.returns-in_err-original

@@ -2,7 +2,7 @@ use Rattle.std.proofs.Common.{[], Bool, Option, refl}
 use Rattle.std.proofs.lemmas.Result.{err_from_is_err_and}
 use Rattle.msr_tree.proofs.Acting.{giving, stopped_as, then_given, told_as}
 use Rattle.msr_replace.specs.Looks.{RefusesByNames}
-use Rattle.msr_replace.specs.Moves.{Anything}
+use Rattle.msr_exchange.specs.Moves.{Anything}
 use Rattle.msr_replace.specs.declared.answers.DayRefusal.{DayRefusal}
 use Rattle.msr_replace.proofs.looks.odd_day.Goals as goal
 

@@ -1,6 +1,6 @@
 use Rattle.std.proofs.Common.{[]}
-use Rattle.msr_replace.specs.Moves.{Anything}
-use Rattle.msr_replace.specs.Work.{parts_in}
+use Rattle.msr_exchange.specs.Moves.{Anything}
+use Rattle.msr_exchange.specs.Work.{parts_in}
 use Rattle.msr_replace.proofs.Quiet.{quiet_acts, quiet_more, quiet_then}
 use Rattle.msr_replace.proofs.ways.begin_folder.Goals as goal
 

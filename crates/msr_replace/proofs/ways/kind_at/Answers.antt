@@ -4,8 +4,8 @@ use Rattle.msr_tree.specs.Calls.{Looks}
 use Rattle.msr_tree.specs.declared.facts.Facts.{Facts}
 use Rattle.msr_tree.specs.declared.facts.Kind.{Kind}
 use Rattle.msr_tree.proofs.Acting.{giving, goes_tells, stopped_as, told_as}
-use Rattle.msr_replace.specs.Moves.{Anything}
-use Rattle.msr_replace.proofs.Making.{goes_none}
+use Rattle.msr_exchange.specs.Moves.{Anything}
+use Rattle.msr_exchange.proofs.Making.{goes_none}
 use Rattle.msr_replace.proofs.ways.kind_at.Goals as goal
 
 pub returns-in_err-place : goal.returns-in_err-place

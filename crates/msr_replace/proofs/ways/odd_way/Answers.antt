@@ -2,7 +2,7 @@ use Rattle.std.proofs.Common.{[], Option}
 use Rattle.std.proofs.lemmas.Result.{err_from_is_err_and}
 use Rattle.msr_tree.proofs.Acting.{stopped_as, then_ok, then_stopped}
 use Rattle.msr_replace.specs.Looks.{RefusesByNames}
-use Rattle.msr_replace.specs.Moves.{Anything}
+use Rattle.msr_exchange.specs.Moves.{Anything}
 use Rattle.msr_replace.specs.declared.answers.DayRefusal.{DayRefusal}
 use Rattle.msr_replace.specs.declared.ways.Way.{Way}
 use Rattle.msr_replace.proofs.ways.odd_way.Goals as goal

@@ -1,0 +1,23 @@
+use Rattle.std.proofs.Common.{[], Bool, Option, ◌∙◌, sym}
+use Rattle.std.proofs.lemmas.Result.{err_from_is_err_and}
+use Rattle.msr_tree.proofs.Acting.{then_ok, then_stopped}
+use Rattle.msr_tree.proofs.Changes.{seen_kept}
+use Rattle.msr_exchange.specs.Moves.{IsSeenAs, IsKeptAs, Stores}
+use Rattle.msr_exchange.specs.Names.{path_at}
+use Rattle.msr_exchange.specs.declared.moves.Hindrance.{Hindrance}
+use Rattle.msr_exchange.specs.declared.names.Place.TheVariants.{Day}
+use Rattle.msr_exchange.proofs.moves.is_kept.Goals as goal
+
+pub returns-in_err-settle : goal.returns-in_err-settle
+returns-in_err-settle g c =
+    let p = err_from_is_err_and c.from_residual-in_err-settle.result c.from_residual-in_err-settle.ensures.1 in
+    let day = path_at c.args.names.now Day in
+    let name = path_at c.args.names.now c.args.place in
+    rw (p.1, p.2) (then_stopped {A = Bool} {B = Unit {0}} {C = Option Hindrance} [] (IsSeenAs day name) (Stores name) (IsKeptAs day name) c.in_ok-is_copy.field-0 _ _ _ _ c.in_ok-is_copy.ensures c.in_err-settle.ensures)
+
+pub returns : goal.returns
+returns g c =
+    let day = path_at c.args.names.now Day in
+    let name = path_at c.args.names.now c.args.place in
+    then_ok {A = Bool} {B = Unit {0}} {C = Option Hindrance} [] (IsSeenAs day name) (Stores name) (IsKeptAs day name) c.in_ok-is_copy.field-0 _ _ _ _ _
+    (λ p q r same stores x y. λ none. (same c.if-not-branch.false, λ bytes is. stores bytes (seen_kept [] name p q tt x ∙ sym (same c.if-not-branch.false) ∙ is))) c.in_ok-is_copy.ensures c.in_ok-settle.ensures

@@ -1,0 +1,5 @@
+pub mod Moves
+pub mod Names
+pub mod Phases
+pub mod Promise
+pub mod Work

@@ -1,0 +1,193 @@
+-- What was made of a day goes.
+use Rattle.std.proofs.Common.{◌≡◌, ◌⊎◌, ◌≤◌, inl, inr, ⊎_elim, Bool, true, List, [], ◌∷◌, refl, ◌∙◌, ap, subst, Result, Ok, Err, None, OnOk, IfOk, option_map, arith}
+use Rattle.std.specs.declared.alloc.AllocError.{AllocError}
+use Rattle.msr_tree.specs.Calls.{DoesStep, Goes}
+use Rattle.msr_tree.specs.Folders.{ChangesFiles}
+use Rattle.msr_tree.specs.Steps.{IsNoneOf, Path, Removed, Step, failures, now, seen}
+use Rattle.msr_tree.specs.declared.tree.TreeFault.{TreeFault}
+use Rattle.msr_tree.specs.declared.tree.TreeFault.TheVariants as fault
+use Rattle.msr_tree.proofs.Acting.{goes_as}
+use Rattle.msr_tree.proofs.Moments.{at_end, joined}
+use Rattle.msr_tree.proofs.Filing.{acts_does, changes_more, changes_then, no_fewer, seen_kept}
+use Rattle.msr_naming.proofs.FallingBack.{goes_both}
+use Rattle.msr_naming.specs.Naming.{AreDayNames, day_paths, told}
+use Rattle.msr_naming.specs.Promise.{ClearsDay, HasOwn, HasReport}
+use Rattle.msr_naming.specs.declared.fallback.Naming.{Naming}
+use Rattle.msr_naming.specs.declared.files.DayFiles.{DayFiles}
+use Rattle.msr_making.specs.Clearing.{FindsNone, GivesUp, beside_paths}
+use Rattle.msr_making.specs.Looking.{FindsDay, IsDayLook, IsSightAt, IsUnfound}
+use Rattle.msr_making.specs.Places.{DayPaths, IsUnseen, paths_of}
+use Rattle.msr_making.specs.Told.{IsClearedThere}
+use Rattle.msr_making.specs.declared.answer.DayEnd.{DayEnd}
+use Rattle.msr_making.specs.declared.answer.DayFault.{DayFault}
+use Rattle.msr_making.specs.declared.answer.DayFault.TheVariants.{ClaimedByAnother}
+use Rattle.msr_making.specs.declared.answer.DayOutcome.{DayOutcome}
+use Rattle.msr_making.specs.declared.answer.DayOutcome.TheVariants.{Refused}
+use Rattle.msr_making.specs.declared.answer.Left.{Left}
+use Rattle.msr_making.specs.declared.answer.Left.TheVariants as left
+use Rattle.msr_making.specs.declared.looks.DayLook.{DayLook}
+use Rattle.msr_making.specs.declared.looks.Sight.{Sight}
+use Rattle.msr_making.specs.declared.looks.Sight.TheVariants.{Nothing}
+use Rattle.msr_making.proofs.Owns.{AreNone, more_beside, none_beside, none_empty, own_each, own_kept, report_each, report_kept}
+use Rattle.msr_making.proofs.Sights.{asks_as}
+
+abbrev pub ended : DayOutcome → Result DayOutcome AllocError
+ended outcome = Ok outcome
+
+-- three names go
+module _ (files : DayFiles) where
+  one_gone : {A : Type 0} (at : Path) (answer : Result A TreeFault) → ((name : Path) → IsNoneOf name (beside_paths files) → IsNoneOf name (at ∷ [])) → (old new : List Step) → DoesStep (Removed at) answer old new → ChangesFiles (beside_paths files) old new
+  one_gone at answer inside old new does = changes_more (at ∷ []) (beside_paths files) old new inside (acts_does (at ∷ []) (Removed at) answer old new (λ name none. none.0) tt does).changes
+
+  pub swept : {A B C : Type 0} (a : Result A TreeFault) (b : Result B TreeFault) (c : Result C TreeFault) (one two three four : List Step → Type 0)
+      → Goes one two (DoesStep (Removed files.records.part) a) → Goes two three (DoesStep (Removed files.report.part) b) → Goes three four (DoesStep (Removed files.stamp.part) c)
+      → Goes one four (λ old new. ChangesFiles (beside_paths files) old new)
+  swept a b c one two three four first second third =
+      goes_both _ _ _ one two four (λ p q r x y. changes_then (beside_paths files) p q r (one_gone files.records.part a (λ n none. (none.0, tt)) p q x) y) first
+      (goes_both _ _ (λ q s. ChangesFiles (beside_paths files) q s) two three four
+      (λ q m s x y. changes_then (beside_paths files) q m s (one_gone files.report.part b (λ n none. (none.1.0, tt)) q m x) (one_gone files.stamp.part c (λ n none. (none.1.1.0, tt)) m s y)) second third)
+
+-- of the same names
+pub finds_at : (a b : DayPaths) (result : Result Bool AllocError) (one two : List Step → Type 0) → a ≡ b → Goes one two (FindsNone a result) → Goes one two (FindsNone b result)
+finds_at a b result one two same goes = subst (λ (d : DayPaths). Goes one two (FindsNone d result)) same goes
+
+-- nothing was found
+pub unseen_by : (paths : DayPaths) (look : DayLook) (past : List Step) → IsUnfound look → IsDayLook paths look past → IsUnseen paths past
+unseen_by paths look past found is = (
+  none paths.records look.records found.0 is.records,
+  none paths.report look.report found.1 is.report,
+  none paths.stamp look.stamp found.2 is.stamp,
+)
+  where
+    none : (path : Path) (sight : Sight) → sight ≡ Nothing → IsSightAt path past sight → seen past path ≡ None
+    none path sight nothing at =
+        let here : now past path ≡ None = subst (λ (s : Sight). IsSightAt path past s) nothing at in
+        ap (λ found. option_map (λ file. file.bytes) found) here
+
+pub finds_none : (paths : DayPaths) (look : DayLook) (answer : Bool) (one two : List Step → Type 0) → (answer ≡ true → IsUnfound look) → Goes one two (FindsDay paths (Ok look)) → Goes one two (FindsNone paths (Ok answer))
+finds_none paths look answer one two so goes = asks_as _ _ (given look) (given answer) one two (λ p q x said. λ is. unseen_by paths look p (so is) said.are) goes
+  where
+    given : {A : Type 0} → A → Result A AllocError
+    given a = Ok a
+
+module _ (input : Path) (files : DayFiles) where
+  abbrev paths : DayPaths
+  paths = paths_of input files
+
+  unseen_later : (old new : List Step) → ChangesFiles [] old new → IsUnseen paths old → IsUnseen paths new
+  unseen_later old new changes is = (
+    seen_kept [] files.records.path old new tt changes ∙ is.0,
+    seen_kept [] files.report.path old new tt changes ∙ is.1,
+    seen_kept [] files.stamp.path old new tt changes ∙ is.2,
+  )
+
+  cleared_earlier : (old mid new : List Step) → failures old ≤ failures mid → IsClearedThere paths mid new → IsClearedThere paths old new
+  cleared_earlier old mid new few is = ⊎_elim (λ none. inl none) (λ failed. inr (omega arith)) is
+
+  -- names beside those of the day change before
+  pub then_gives : (names : List Path) (none : AreDayNames files → AreNone files names) (more : (name : Path) → IsNoneOf name (day_paths files) → IsNoneOf name names) (end : DayEnd) (one mid two : List Step → Type 0)
+      → Goes one mid (λ p q. ChangesFiles names p q) → Goes mid two (GivesUp paths files end) → Goes one two (GivesUp paths files end)
+  then_gives names none more end one mid two first second = goes_both _ _ _ one mid two
+      (λ p q r x y. record {
+        safe = λ stored is_own is_of are has. joined (HasOwn is_own is_of files) p q r (own_each files names (none are) p q x is_own is_of has) (y.safe stored is_own is_of are (own_kept files names (none are) p q x is_own is_of has));
+        killed = λ is_own are has. joined (HasReport is_own files) p q r (report_each files names (none are) p is_own has q x) (y.killed is_own are (report_kept files names (none are) p is_own has q x));
+        cleared = earlier end.outcome p q r (no_fewer names p q x) y.cleared;
+        unstamped = y.unstamped;
+        unstored = λ not. let few = no_fewer names p q x in let more = y.unstored not in omega arith;
+        changes = changes_then (day_paths files) p q r (changes_more names (day_paths files) p q more x) y.changes;
+      }) first second
+    where
+      earlier : (outcome : Result DayOutcome AllocError) (p q r : List Step) → failures p ≤ failures q → IfOk outcome (λ o. (o ≡ Refused ClaimedByAnother) ⊎ (AreDayNames files → IsClearedThere paths q r))
+          → IfOk outcome (λ o. (o ≡ Refused ClaimedByAnother) ⊎ (AreDayNames files → IsClearedThere paths p r))
+      earlier (Ok o) p q r few is = ⊎_elim (λ other. inl other) (λ so. inr (λ are. cleared_earlier p q r few (so are))) is
+      earlier (Err e) p q r few is = tt
+
+  -- nothing more is done
+  pub ends_beside : (names : List Path) (none : AreDayNames files → AreNone files names) (more : (name : Path) → IsNoneOf name (day_paths files) → IsNoneOf name names) (outcome : Result DayOutcome AllocError) (rest : Left) (one two : List Step → Type 0)
+      → (rest ≡ left.Stamp → ⊥) → ((p q : List Step) → ChangesFiles names p q → IfOk outcome (λ o. (o ≡ Refused ClaimedByAnother) ⊎ (AreDayNames files → IsClearedThere paths p q)))
+      → Goes one two (λ p q. ChangesFiles names p q) → Goes one two (GivesUp paths files (record { outcome = outcome; left = rest; is_stored = true }))
+  ends_beside names none more outcome rest one two unstamped cleared goes = goes_as _ _ one two
+      (λ p q x. record {
+        safe = λ stored is_own is_of are has. own_each files names (none are) p q x is_own is_of has;
+        killed = λ is_own are has. report_each files names (none are) p is_own has q x;
+        cleared = cleared p q x;
+        unstamped = unstamped;
+        unstored = λ not. absurd cc;
+        changes = changes_more names (day_paths files) p q more x;
+      }) goes
+
+  pub ends_unheld : (rest : Left) (one two : List Step → Type 0) → (rest ≡ left.Stamp → ⊥) → Goes one two (λ p q. ChangesFiles (beside_paths files) p q)
+      → Goes one two (GivesUp paths files (record { outcome = Ok (Refused ClaimedByAnother); left = rest; is_stored = true }))
+  ends_unheld rest one two unstamped goes = ends_beside (beside_paths files) (none_beside files) (more_beside files) (ended (Refused ClaimedByAnother)) rest one two unstamped (λ p q x. inl refl) goes
+
+  pub ends_gone : (why : DayFault) (rest : Left) (answer : Bool) (one two : List Step → Type 0) → answer ≡ true → (rest ≡ left.Stamp → ⊥) → Goes one two (FindsNone paths (Ok answer))
+      → Goes one two (GivesUp paths files (record { outcome = Ok (Refused why); left = rest; is_stored = true }))
+  ends_gone why rest answer one two so unstamped goes = goes_as _ _ one two
+      (λ p q x. record {
+        safe = λ stored is_own is_of are has. own_each files [] (none_empty files) p q x.changes is_own is_of has;
+        killed = λ is_own are has. report_each files [] (none_empty files) p is_own has q x.changes;
+        cleared = inr (λ are. inl (unseen_later p q x.changes (x.said so)));
+        unstamped = unstamped;
+        unstored = λ not. absurd cc;
+        changes = changes_more [] (day_paths files) p q (λ n none. tt) x.changes;
+      }) goes
+
+  pub ends_memory : (result : Result Bool AllocError) (e : AllocError) (one two : List Step → Type 0) → Goes one two (FindsNone paths result)
+      → Goes one two (GivesUp paths files (record { outcome = Err e; left = left.Parts; is_stored = true }))
+  ends_memory result e one two goes = goes_as _ _ one two
+      (λ p q x. record {
+        safe = λ stored is_own is_of are has. own_each files [] (none_empty files) p q x.changes is_own is_of has;
+        killed = λ is_own are has. report_each files [] (none_empty files) p is_own has q x.changes;
+        cleared = tt;
+        unstamped = λ is. cc;
+        unstored = λ not. absurd cc;
+        changes = changes_more [] (day_paths files) p q (λ n none. tt) x.changes;
+      }) goes
+
+  pub then_cleared : (end : DayEnd) (result : Result Bool AllocError) (one mid two : List Step → Type 0) → Goes one mid (FindsNone paths result) → Goes mid two (GivesUp paths files end) → Goes one two (GivesUp paths files end)
+  then_cleared end result one mid two first second =
+      then_gives [] (λ are. none_empty files) (λ n none. tt) end one mid two (goes_as _ _ one mid (λ p q x. x.changes) first) second
+
+  -- what has the names of the day went
+  pub cleared_well : (why : DayFault) (rest : Left) (naming : Naming) (one two : List Step → Type 0) → (rest ≡ left.Stamp → ⊥) → told naming.answer ≡ Ok tt → Goes one two (ClearsDay files naming)
+      → Goes one two (GivesUp paths files (record { outcome = Ok (Refused why); left = rest; is_stored = naming.is_stored }))
+  cleared_well why rest naming one two unstamped is goes = goes_as _ _ one two
+      (λ p q x. record {
+        safe = λ stored is_own is_of are has. x.safe stored is_own is_of are has;
+        killed = λ is_own are has. x.killed is_own are has;
+        cleared = inr (λ are. inl (sees p q x are));
+        unstamped = unstamped;
+        unstored = x.unstored;
+        changes = x.changes;
+      }) goes
+    where
+      sees : (p q : List Step) → ClearsDay files naming p q → AreDayNames files → IsUnseen paths q
+      sees p q x = subst (λ (a : Result (Unit {0}) TreeFault). OnOk a (AreDayNames files → IsUnseen paths q)) is x.sees
+
+  pub cleared_in_part : (why : DayFault) (rest : Left) (naming : Naming) (one mid two : List Step → Type 0) → (rest ≡ left.Stamp → ⊥) → told naming.answer ≡ Err fault.Failed → Goes one mid (ClearsDay files naming)
+      → Goes mid two (λ p q. ChangesFiles [] p q) → Goes one two (GivesUp paths files (record { outcome = Ok (Refused why); left = rest; is_stored = naming.is_stored }))
+  cleared_in_part why rest naming one mid two unstamped is first second = goes_both _ _ _ one mid two
+      (λ p q r x y. record {
+        safe = λ stored is_own is_of are has.
+            let so = x.safe stored is_own is_of are has in
+            joined (HasOwn is_own is_of files) p q r so (own_each files [] (none_empty files) q r y is_own is_of (at_end (HasOwn is_own is_of files) p q so));
+        killed = λ is_own are has.
+            let so = x.killed is_own are has in
+            joined (HasReport is_own files) p q r so (report_each files [] (none_empty files) q is_own (at_end (HasReport is_own files) p q so) r y);
+        cleared = inr (λ are. let few = no_fewer [] q r y in let more = x.cause is in inr (omega arith));
+        unstamped = unstamped;
+        unstored = λ not. let few = no_fewer [] q r y in let more = x.unstored not in omega arith;
+        changes = changes_then (day_paths files) p q r x.changes (changes_more [] (day_paths files) q r (λ n none. tt) y);
+      }) first second
+
+  pub cleared_memory : (e : AllocError) (naming : Naming) (one two : List Step → Type 0) → Goes one two (ClearsDay files naming)
+      → Goes one two (GivesUp paths files (record { outcome = Err e; left = left.Parts; is_stored = naming.is_stored }))
+  cleared_memory e naming one two goes = goes_as _ _ one two
+      (λ p q x. record {
+        safe = λ stored is_own is_of are has. x.safe stored is_own is_of are has;
+        killed = λ is_own are has. x.killed is_own are has;
+        cleared = tt;
+        unstamped = λ is. cc;
+        unstored = x.unstored;
+        changes = x.changes;
+      }) goes

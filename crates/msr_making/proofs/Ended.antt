@@ -1,0 +1,341 @@
+-- How a day ends.
+use Rattle.std.proofs.Common.{◌≡◌, ◌⊎◌, ◌≤◌, ◌&&◌, inl, inr, ⊎_elim, ℕ, Bool, true, false, List, [], ◌∷◌, refl, sym, ◌∙◌, subst, Result, Ok, Err, Some, None, Option, IfOk, IsSomeAnd, arith}
+use Rattle.std.specs.declared.alloc.AllocError.{AllocError}
+use Rattle.msr_options.specs.declared.days.DayOptions.{DayOptions}
+use Rattle.msr_tree.specs.Calls.{AreOneFile, Goes}
+use Rattle.msr_tree.specs.Folders.{ChangesFiles}
+use Rattle.msr_tree.specs.Steps.{Path, Step, failures, seen}
+use Rattle.msr_tree.proofs.Acting.{goes_as}
+use Rattle.msr_tree.proofs.Moments.{at_end, joined}
+use Rattle.msr_tree.proofs.Filing.{changes_more, changes_then, leaves_kept, no_fewer, now_kept, ready_kept, seen_kept}
+use Rattle.msr_naming.proofs.FallingBack.{goes_both}
+use Rattle.msr_naming.specs.Naming.{AreDayNames, day_paths}
+use Rattle.msr_naming.specs.Promise.{HasOwn, HasReport, IsFreeIf}
+use Rattle.msr_naming.specs.declared.files.DayFiles.{DayFiles}
+use Rattle.msr_making.specs.Clearing.{GivesUp, SaysEnd}
+use Rattle.msr_making.specs.Ending.{DoesFound, IsMade, MadeAs, MakesDay, SeeksDay}
+use Rattle.msr_making.specs.Looking.{IsDayLook, IsSightAt, IsUnfound}
+use Rattle.msr_making.specs.Making.{DoesDay, IsOwnOfFile}
+use Rattle.msr_making.specs.Places.{AreFileNames, DayPaths, ShowsAllLeft, paths_of}
+use Rattle.msr_making.specs.Stamping.{StampsAsked}
+use Rattle.msr_making.specs.Told.{IsClearedFor, IsClearedThere, IsOutcomeThere, IsRefusedThere}
+use Rattle.msr_making.specs.declared.answer.DayEnd.{DayEnd}
+use Rattle.msr_making.specs.declared.answer.DayFault.{DayFault}
+use Rattle.msr_making.specs.declared.answer.DayFault.TheVariants.{CannotOpen, ClaimedByAnother, Differs, Gone, Larger, Listing, NotShown, Tool}
+use Rattle.msr_making.specs.declared.answer.DayOutcome.{DayOutcome}
+use Rattle.msr_making.specs.declared.answer.DayOutcome.TheVariants.{Done, Refused, Same}
+use Rattle.msr_making.specs.declared.answer.Left.{Left}
+use Rattle.msr_making.specs.declared.answer.Left.TheVariants as left
+use Rattle.msr_making.specs.declared.answer.Repacked.{Repacked}
+use Rattle.msr_making.specs.declared.answer.Stop.{Stop}
+use Rattle.msr_making.specs.declared.answer.Stop.TheVariants as stop
+use Rattle.msr_making.specs.declared.looks.DayLook.{DayLook}
+use Rattle.msr_making.specs.declared.looks.Sight.{Sight}
+use Rattle.msr_making.specs.declared.looks.Sight.TheVariants.{Unknown}
+use Rattle.msr_making.specs.declared.making.Found.{Found}
+use Rattle.msr_making.specs.declared.making.Found.TheVariants.{Ended, Open}
+use Rattle.msr_making.specs.declared.making.Making.{Making}
+use Rattle.msr_making.proofs.Cleared.{unseen_by}
+use Rattle.msr_making.proofs.Owns.{free_kept, more_stamp, none_empty, none_stamp, own_each, own_kept, report_each, report_kept}
+use Rattle.msr_making.proofs.Sights.{day_look_later, looks_kept}
+
+-- a refusal said of a day is so later
+refused_later : (asked : DayOptions) (paths : DayPaths) (why : DayFault) (old mid new : List Step) → failures mid ≤ failures new → IsRefusedThere asked paths why old mid → IsRefusedThere asked paths why old new
+refused_later asked paths (CannotOpen u) old mid new few is = ⊎_elim (λ one. inl one) (λ failed. inr (omega arith)) is
+refused_later asked paths NotShown old mid new few is = is
+refused_later asked paths Differs old mid new few is = is
+refused_later asked paths (Larger repacked) old mid new few is = is
+refused_later asked paths (Tool fault) old mid new few is = is
+refused_later asked paths ClaimedByAnother old mid new few is = is
+refused_later asked paths Gone old mid new few is = is
+refused_later asked paths Listing old mid new few is = is
+
+cleared_for : (why : DayFault) (paths : DayPaths) (old new : List Step) → IsClearedThere paths old new → IsClearedFor why paths old new
+cleared_for (CannotOpen u) paths old new is = tt
+cleared_for ClaimedByAnother paths old new is = tt
+cleared_for why paths old new is = is
+
+module _ (input : Path) (look : DayLook) (files : DayFiles) (was_left : Bool) (asked : DayOptions) where
+  abbrev paths : DayPaths
+  paths = paths_of input files
+
+  -- of a day of which nothing is seen, nothing is left
+  free_if : (is_free : Bool) (past : List Step) → (is_free ≡ true → (was_left ≡ false) × IsUnfound look) → IsDayLook paths look past → ShowsAllLeft was_left input files past → IsFreeIf is_free files past
+  free_if is_free past so looked settled is = settled.free (so is).0 (unseen_by paths look past (so is).1 looked)
+
+  module _ (is_free : Bool) (free : is_free ≡ true → (was_left ≡ false) × IsUnfound look) (making : Making) where
+    -- it is done
+    pub done_so : (repacked : Repacked) (rest : Left) (one mid two : List Step → Type 0) → making.result ≡ Ok repacked
+        → Goes one mid (MakesDay input look.input files is_free asked making) → Goes mid two (StampsAsked look.input files making.is_stored rest)
+        → Goes one two (DoesFound input look files was_left asked (record { outcome = Ok (Done repacked); left = rest; is_stored = making.is_stored }))
+    done_so repacked rest one mid two is first second = goes_both _ _ _ one mid two
+        (λ p q r x y. record {
+          safe = λ stored is_own is_of names looked settled own has.
+              let so = x.safe stored is_own is_of names looked.input (free_if is_free p free looked settled) own has in
+              joined (HasOwn is_own is_of files) p q r so (own_each files (files.stamp.part ∷ []) (none_stamp files names.names) q r y.changes is_own is_of (at_end (HasOwn is_own is_of files) p q so));
+          killed = λ is_own names looked settled own has.
+              let so = x.killed is_own names looked.input (free_if is_free p free looked settled) own has in
+              joined (HasReport is_own files) p q r so (report_each files (files.stamp.part ∷ []) (none_stamp files names.names) q is_own (at_end (HasReport is_own files) p q so) r y.changes);
+          outcome = λ names looked.
+              let it = made p q x names looked in
+              let none = none_stamp files names.names in
+              inr (record {
+                records = it.records;
+                text = it.text;
+                repack = record { input = it.bytes; has_input = it.has_input; answers = it.fit.counted; bytes_read = it.fit.read };
+                has_records = seen_kept (files.stamp.part ∷ []) files.records.path q r none.records y.changes ∙ it.has_records;
+                has_report = seen_kept (files.stamp.part ∷ []) files.report.path q r none.report y.changes ∙ it.has_report;
+                verified = it.verified;
+                smaller = it.fit.smaller;
+              });
+          stamp = λ waits names looked settled.
+              let it = made p q x names looked in
+              let none = none_stamp files names.names in
+              let waiting = y.waits waits in
+              let named = it.named waiting.0 (free_if is_free p free looked settled) in
+              record {
+                facts = waiting.1.facts;
+                looked = subst (λ (s : Sight). IsSightAt input p s) waiting.1.found looked.input;
+                bytes = it.bytes;
+                records = it.records;
+                text = it.text;
+                report = it.fit.counted.report;
+                has_input = it.has_input;
+                reported = it.fit.counted.reported;
+                awaits = record {
+                  named = record {
+                    records_are = ready_kept (files.stamp.part ∷ []) files.records.path it.records q r none.records y.changes named.records_are;
+                    report_is = ready_kept (files.stamp.part ∷ []) files.report.path it.text q r none.report y.changes named.report_is;
+                    unstamped = leaves_kept (files.stamp.part ∷ []) files.stamp.path None q r none.stamp y.changes named.unstamped;
+                  };
+                  stamp_is = waiting.1.ready;
+                };
+              };
+          unstored = λ not. let few = no_fewer (files.stamp.part ∷ []) q r y.changes in let more = x.unstored not in omega arith;
+          changes = changes_then (day_paths files) p q r x.changes (changes_more (files.stamp.part ∷ []) (day_paths files) q r (λ n none. more_stamp files n none) y.changes);
+        }) first second
+      where
+        made : (p q : List Step) → MakesDay input look.input files is_free asked making p q → AreFileNames input files → IsDayLook paths look p → IsMade input files asked is_free making.is_stored repacked p q
+        made p q x names looked =
+            subst (λ (m : Result Repacked Stop). MadeAs input look.input files asked is_free making.is_stored m p q) is (x.said names looked.input)
+
+    refused_so : (why : DayFault) (outcome : Result DayOutcome AllocError) (p q r : List Step) → failures p ≤ failures q → failures q ≤ failures r → IfOk outcome (λ o. (o ≡ Refused ClaimedByAnother) ⊎ (o ≡ Refused why))
+        → IfOk outcome (λ o. (o ≡ Refused ClaimedByAnother) ⊎ (AreDayNames files → IsClearedThere paths q r)) → AreDayNames files → (look.input ≡ Unknown) ⊎ IsRefusedThere asked paths why p q
+        → IfOk outcome (λ o. (look.input ≡ Unknown) ⊎ IsOutcomeThere asked paths o p r)
+    refused_so why (Ok o) p q r few more says cleared are refused = ⊎_elim (λ u. inl u) (λ is. inr (told is)) refused
+      where
+        other : o ≡ Refused ClaimedByAnother → IsOutcomeThere asked paths o p r
+        other e = subst (λ (x : DayOutcome). IsOutcomeThere asked paths x p r) (sym e) (tt, tt)
+
+        told : IsRefusedThere asked paths why p q → IsOutcomeThere asked paths o p r
+        told is = ⊎_elim other
+            (λ e. ⊎_elim other
+            (λ so. subst (λ (x : DayOutcome). IsOutcomeThere asked paths x p r) (sym e)
+            (refused_later asked paths why p q r more is, cleared_for why paths p r (⊎_elim (λ none. inl none) (λ failed. inr (omega arith)) (so are))))
+            cleared) says
+    refused_so why (Err e) p q r few more says cleared are refused = tt
+
+    -- it is refused
+    pub given_up : (why : DayFault) (end : DayEnd) (is_stored : Bool) (one mid two : List Step → Type 0) → making.result ≡ Err (stop.Refused why) → SaysEnd why end → (is_stored ≡ true → (end.is_stored ≡ true) × (making.is_stored ≡ true)) → (is_stored ≡ false → (end.is_stored ≡ false) ⊎ (making.is_stored ≡ false))
+        → Goes one mid (MakesDay input look.input files is_free asked making) → Goes mid two (GivesUp paths files end)
+        → Goes one two (DoesFound input look files was_left asked (record { outcome = end.outcome; left = end.left; is_stored = is_stored }))
+    given_up why end is_stored one mid two is says both neither first second = goes_both _ _ _ one mid two
+        (λ p q r x y. record {
+          safe = λ stored is_own is_of names looked settled own has.
+              let so = x.safe (both stored).1 is_own is_of names looked.input (free_if is_free p free looked settled) own has in
+              joined (HasOwn is_own is_of files) p q r so (y.safe (both stored).0 is_own is_of names.names (at_end (HasOwn is_own is_of files) p q so));
+          killed = λ is_own names looked settled own has.
+              let so = x.killed is_own names looked.input (free_if is_free p free looked settled) own has in
+              joined (HasReport is_own files) p q r so (y.killed is_own names.names (at_end (HasReport is_own files) p q so));
+          outcome = λ names looked.
+              refused_so why end.outcome p q r (no_fewer (day_paths files) p q x.changes) (no_fewer (day_paths files) q r y.changes) says y.cleared names.names
+              (subst (λ (m : Result Repacked Stop). MadeAs input look.input files asked is_free making.is_stored m p q) is (x.said names looked.input));
+          stamp = λ waits names looked settled. absurd (y.unstamped waits);
+          unstored = λ not.
+              let few = no_fewer (day_paths files) p q x.changes in
+              let more = no_fewer (day_paths files) q r y.changes in
+              ⊎_elim (λ n. let fails = y.unstored n in omega arith) (λ n. let fails = x.unstored n in omega arith) (neither not);
+          changes = changes_then (day_paths files) p q r x.changes y.changes;
+        }) first second
+
+    -- memory was refused
+    pub stopped_so : (e : AllocError) (one two : List Step → Type 0) → Goes one two (MakesDay input look.input files is_free asked making)
+        → Goes one two (DoesFound input look files was_left asked (record { outcome = Err e; left = left.Parts; is_stored = making.is_stored }))
+    stopped_so e one two goes = goes_as _ _ one two
+        (λ p q x. record {
+          safe = λ stored is_own is_of names looked settled own has. x.safe stored is_own is_of names looked.input (free_if is_free p free looked settled) own has;
+          killed = λ is_own names looked settled own has. x.killed is_own names looked.input (free_if is_free p free looked settled) own has;
+          outcome = λ names looked. tt;
+          stamp = λ waits names looked settled. absurd cc;
+          unstored = x.unstored;
+          changes = x.changes;
+        }) goes
+
+-- what is said of a day by what was seen before is so by what was seen earlier, if nothing was changed
+module _ (paths : DayPaths) (asked : DayOptions) (old mid new : List Step) (changes : ChangesFiles [] old mid) where
+  seen_so : (path : Path) (what : Option (List ℕ)) → seen mid path ≡ what → seen old path ≡ what
+  seen_so path what is = sym (seen_kept [] path old mid tt changes) ∙ is
+
+  some_so : (path : Path) (P : List ℕ → Type 0) → IsSomeAnd (seen mid path) P → IsSomeAnd (seen old path) P
+  some_so path P is = subst (λ (x : Option (List ℕ)). IsSomeAnd x P) (seen_kept [] path old mid tt changes) is
+
+  one_so : (a b : Path) → AreOneFile a b mid → AreOneFile a b old
+  one_so a b is = (is.0, sym (now_kept [] a old mid tt changes) ∙ is.1, sym (now_kept [] b old mid tt changes) ∙ is.2)
+
+  few : failures old ≤ failures mid
+  few = no_fewer [] old mid changes
+
+  cleared_so : IsClearedThere paths mid new → IsClearedThere paths old new
+  cleared_so is = let f = few in ⊎_elim (λ none. inl none) (λ failed. inr (omega arith)) is
+
+  for_so : (why : DayFault) → IsClearedFor why paths mid new → IsClearedFor why paths old new
+  for_so (CannotOpen u) is = tt
+  for_so ClaimedByAnother is = tt
+  for_so why is = cleared_so is
+
+  refused_before : (why : DayFault) → IsRefusedThere asked paths why mid new → IsRefusedThere asked paths why old new
+  refused_before (CannotOpen u) is = let f = few in ⊎_elim
+      (λ one. inl (⊎_elim (λ a. inl (one_so paths.input paths.records a)) (λ b. inr (⊎_elim (λ a. inl (one_so paths.input paths.report a)) (λ a. inr (one_so paths.input paths.stamp a)) b)) one))
+      (λ failed. inr (omega arith)) is
+  refused_before NotShown is = record {
+    repacked = is.repacked;
+    records = is.records;
+    text = is.text;
+    repack = record { input = is.repack.input; has_input = seen_so paths.input _ is.repack.has_input; answers = is.repack.answers; bytes_read = is.repack.bytes_read };
+    check = is.check;
+    unshown = is.unshown;
+  }
+  refused_before Differs is = record {
+    repacked = is.repacked;
+    records = is.records;
+    text = is.text;
+    repack = record { input = is.repack.input; has_input = seen_so paths.input _ is.repack.has_input; answers = is.repack.answers; bytes_read = is.repack.bytes_read };
+    check = is.check;
+    other = is.other;
+  }
+  refused_before (Larger repacked) is = record {
+    records = is.records;
+    text = is.text;
+    repack = record { input = is.repack.input; has_input = seen_so paths.input _ is.repack.has_input; answers = is.repack.answers; bytes_read = is.repack.bytes_read };
+    only_smaller = is.only_smaller;
+    larger = is.larger;
+  }
+  refused_before (Tool fault) is = record { input = is.input; written = is.written; told = is.told; has_input = seen_so paths.input _ is.has_input; answers = is.answers }
+  refused_before ClaimedByAnother is = is
+  refused_before Gone is = is
+  refused_before Listing is = is
+
+  pub outcome_before : (outcome : DayOutcome) → IsOutcomeThere asked paths outcome mid new → IsOutcomeThere asked paths outcome old new
+  outcome_before (Done repacked) is = record {
+    records = is.records;
+    text = is.text;
+    repack = record { input = is.repack.input; has_input = seen_so paths.input _ is.repack.has_input; answers = is.repack.answers; bytes_read = is.repack.bytes_read };
+    has_records = is.has_records;
+    has_report = is.has_report;
+    verified = is.verified;
+    smaller = is.smaller;
+  }
+  outcome_before (Same repacked) is = record {
+    resume = is.resume;
+    left = record {
+      stamp = is.left.stamp;
+      has_stamp = seen_so paths.stamp _ is.left.has_stamp;
+      has_input = some_so paths.input _ is.left.has_input;
+      read = is.left.read;
+      kept = is.left.kept;
+      has_report = seen_so paths.report _ is.left.has_report;
+      has_records = some_so paths.records _ is.left.has_records;
+    };
+  }
+  outcome_before (Refused why) is = (refused_before why is.0, for_so why is.1)
+
+-- of the same names
+pub seeks_at : (a b : DayPaths) (asked : DayOptions) (result : Result Found AllocError) (one two : List Step → Type 0) → a ≡ b → Goes one two (SeeksDay a asked result) → Goes one two (SeeksDay b asked result)
+seeks_at a b asked result one two same goes = subst (λ (d : DayPaths). Goes one two (SeeksDay d asked result)) same goes
+
+-- the whole day
+module _ (input : Path) (files : DayFiles) (was_left : Bool) (asked : DayOptions) where
+  -- it is left as it is
+  pub day_left : (outcome : DayOutcome) (one two : List Step → Type 0) → Goes one two (SeeksDay (paths_of input files) asked (Ok (Ended outcome)))
+      → Goes one two (DoesDay input files was_left asked (record { outcome = Ok outcome; left = left.Nothing; is_stored = true }))
+  day_left outcome one two goes = goes_as _ _ one two
+      (λ p q x. record {
+        safe = λ stored is_own is_of names settled own has. own_each files [] (none_empty files) p q x.changes is_own is_of has;
+        killed = λ is_own names settled own has. report_each files [] (none_empty files) p is_own has q x.changes;
+        outcome = λ names. x.said;
+        stamp = λ waits names settled. absurd cc;
+        unstored = λ not. absurd cc;
+        changes = changes_more [] (day_paths files) p q (λ n none. tt) x.changes;
+      }) goes
+
+  pub day_stopped : (e f : AllocError) (one two : List Step → Type 0) → Goes one two (SeeksDay (paths_of input files) asked (Err e))
+      → Goes one two (DoesDay input files was_left asked (record { outcome = Err f; left = left.Nothing; is_stored = true }))
+  day_stopped e f one two goes = goes_as _ _ one two
+      (λ p q x. record {
+        safe = λ stored is_own is_of names settled own has. own_each files [] (none_empty files) p q x.changes is_own is_of has;
+        killed = λ is_own names settled own has. report_each files [] (none_empty files) p is_own has q x.changes;
+        outcome = λ names. tt;
+        stamp = λ waits names settled. absurd cc;
+        unstored = λ not. absurd cc;
+        changes = changes_more [] (day_paths files) p q (λ n none. tt) x.changes;
+      }) goes
+
+  module _ (old mid : List Step) (changes : ChangesFiles [] old mid) where
+    settled_later : ShowsAllLeft was_left input files old → ShowsAllLeft was_left input files mid
+    settled_later settled = record {
+      free = λ left_none unseen. free_kept files [] (none_empty files) old mid changes
+          (settled.free left_none (
+            sym (seen_kept [] files.records.path old mid tt changes) ∙ unseen.0,
+            sym (seen_kept [] files.report.path old mid tt changes) ∙ unseen.1,
+            sym (seen_kept [] files.stamp.path old mid tt changes) ∙ unseen.2,
+          ));
+    }
+
+    own_later : (is_own : (records report : List ℕ) → Bool) → IsOwnOfFile input asked.options is_own old → IsOwnOfFile input asked.options is_own mid
+    own_later is_own own bytes records text report has reported = own bytes records text report (sym (seen_kept [] input old mid tt changes) ∙ has) reported
+
+  outcome_known : (look : DayLook) (result : Result DayOutcome AllocError) (p q r : List Step) → (look.input ≡ Unknown → ⊥) → ChangesFiles [] p q
+      → IfOk result (λ o. (look.input ≡ Unknown) ⊎ IsOutcomeThere asked (paths_of input files) o q r) → IfOk result (λ o. IsOutcomeThere asked (paths_of input files) o p r)
+  outcome_known look (Ok o) p q r known changes is = ⊎_elim (λ u. absurd (known u)) (λ so. outcome_before (paths_of input files) asked p q r changes o so) is
+  outcome_known look (Err e) p q r known changes is = tt
+
+  -- it is done
+  pub day_found : (look : DayLook) (end : DayEnd) (one mid two : List Step → Type 0) → Goes one mid (SeeksDay (paths_of input files) asked (Ok (Open look))) → Goes mid two (DoesFound input look files was_left asked end)
+      → Goes one two (DoesDay input files was_left asked end)
+  day_found look end one mid two first second = goes_both _ _ _ one mid two
+      (λ p q r x y.
+      let looked = day_look_later (paths_of input files) look p q x.changes x.said.0.are in
+      record {
+        safe = λ stored is_own is_of names settled own has.
+            joined (HasOwn is_own is_of files) p q r (own_each files [] (none_empty files) p q x.changes is_own is_of has)
+            (y.safe stored is_own is_of names looked (settled_later p q x.changes settled) (own_later p q x.changes is_own own) (own_kept files [] (none_empty files) p q x.changes is_own is_of has));
+        killed = λ is_own names settled own has.
+            joined (HasReport is_own files) p q r (report_each files [] (none_empty files) p is_own has q x.changes)
+            (y.killed is_own names looked (settled_later p q x.changes settled) (own_later p q x.changes is_own own) (report_kept files [] (none_empty files) p is_own has q x.changes));
+        outcome = λ names. outcome_known look end.outcome p q r x.said.1 x.changes (y.outcome names looked);
+        stamp = λ waits names settled.
+            let it = y.stamp waits names looked (settled_later p q x.changes settled) in
+            record {
+              facts = it.facts;
+              looked = looks_kept input p q (Some it.facts) x.changes it.looked;
+              bytes = it.bytes;
+              records = it.records;
+              text = it.text;
+              report = it.report;
+              has_input = sym (seen_kept [] input p q tt x.changes) ∙ it.has_input;
+              reported = it.reported;
+              awaits = it.awaits;
+            };
+        unstored = λ not. let few = no_fewer [] p q x.changes in let more = y.unstored not in omega arith;
+        changes = changes_then (day_paths files) p q r (changes_more [] (day_paths files) p q (λ n none. tt) x.changes) y.changes;
+      }) first second
+
+-- whether both were stored
+pub both_true : (a b : Bool) → a && b ≡ true → (a ≡ true) × (b ≡ true)
+both_true true true is = (refl, refl)
+both_true true false is = absurd cc
+both_true false b is = absurd cc
+
+pub one_false : (a b : Bool) → a && b ≡ false → (a ≡ false) ⊎ (b ≡ false)
+one_false true b is = inr is
+one_false false b is = inl refl

@@ -1,0 +1,13 @@
+pub mod Begun
+pub mod Cleared
+pub mod Compared
+pub mod Days
+pub mod Ended
+pub mod Lefts
+pub mod Made
+pub mod Owns
+pub mod Seeking
+pub mod Sights
+pub mod Stamped
+pub mod Verified
+pub mod Written

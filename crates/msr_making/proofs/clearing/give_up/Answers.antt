@@ -1,0 +1,17 @@
+use Rattle.std.proofs.Common.{inl, refl}
+use Rattle.msr_making.specs.Clearing.{beside_paths}
+use Rattle.msr_making.proofs.Cleared.{ends_unheld, then_gives}
+use Rattle.msr_making.proofs.Owns.{more_beside, none_beside}
+use Rattle.msr_making.proofs.clearing.give_up.Goals as goal
+
+pub returns-then-not-is_held-clause-told : goal.returns-then-not-is_held-clause-told
+returns-then-not-is_held-clause-told g c = inl refl
+
+pub returns-then-not-is_held-clause-goes : goal.returns-then-not-is_held-clause-goes
+returns-then-not-is_held-clause-goes g c = ends_unheld c.args.input.now c.args.files.now c.of_swept.result _ _ c.of_swept.ensures c.sweep-is_swept.ensures
+
+pub returns-clause-told : goal.returns-clause-told
+returns-clause-told g c = c.clear_day.ensures.told
+
+pub returns-clause-goes : goal.returns-clause-goes
+returns-clause-goes g c = then_gives c.args.input.now c.args.files.now (beside_paths c.args.files.now) (none_beside c.args.files.now) (more_beside c.args.files.now) c.clear_day.result _ _ _ c.sweep-is_swept.ensures c.clear_day.ensures.goes

@@ -1,0 +1,39 @@
+-- What is done where a day is refused.
+use Rattle.std.specs.Prelude.{◌≡◌, ◌<◌, ◌⊎◌, ℕ, Bool, true, false, List, [], ◌∷◌, IfOk, Result}
+use Rattle.std.specs.declared.alloc.AllocError.{AllocError}
+use Rattle.msr_tree.specs.Folders.{ChangesFiles}
+use Rattle.msr_tree.specs.Steps.{AtEachMoment, Path, Step, failures}
+use Rattle.msr_naming.specs.Naming.{AreDayNames, day_paths}
+use Rattle.msr_naming.specs.Promise.{HasOwn, HasReport}
+use Rattle.msr_naming.specs.declared.files.DayFiles.{DayFiles}
+use Rattle.msr_making.specs.Looking.{Asks}
+use Rattle.msr_making.specs.Places.{DayPaths, IsUnseen}
+use Rattle.msr_making.specs.Told.{IsClearedThere}
+use Rattle.msr_making.specs.declared.answer.DayEnd.{DayEnd}
+use Rattle.msr_making.specs.declared.answer.DayFault.{DayFault}
+use Rattle.msr_making.specs.declared.answer.DayFault.TheVariants.{ClaimedByAnother}
+use Rattle.msr_making.specs.declared.answer.DayOutcome.TheVariants.{Refused}
+use Rattle.msr_making.specs.declared.answer.Left.TheVariants as left
+
+-- the names beside those of a day
+abbrev pub beside_paths : DayFiles → List Path
+beside_paths files = files.records.part ∷ files.report.part ∷ files.stamp.part ∷ []
+
+-- nothing is seen of what is made of a day
+abbrev pub FindsNone : DayPaths → Result Bool AllocError → (old new : List Step) → Type 0
+FindsNone paths result old new = Asks (λ sooner later answer. answer ≡ true → IsUnseen paths sooner) result old new
+
+-- what is told of it
+abbrev pub SaysEnd : DayFault → DayEnd → Type 0
+SaysEnd why end = IfOk end.outcome (λ outcome. (outcome ≡ Refused ClaimedByAnother) ⊎ (outcome ≡ Refused why))
+
+-- What was made of a day goes. If it has its own before, it has it at each moment since.
+pub record GivesUp (paths : DayPaths) (files : DayFiles) (end : DayEnd) (old new : List Step) : Type 0 where
+  pub safe : end.is_stored ≡ true → (is_own : (records report : List ℕ) → Bool) (is_of : (stamp records report : List ℕ) → Bool)
+      → AreDayNames files → HasOwn is_own is_of files old → AtEachMoment (HasOwn is_own is_of files) old new
+  pub killed : (is_own : (records report : List ℕ) → Bool) → AreDayNames files
+      → HasReport is_own files old → AtEachMoment (HasReport is_own files) old new
+  pub cleared : IfOk end.outcome (λ outcome. (outcome ≡ Refused ClaimedByAnother) ⊎ (AreDayNames files → IsClearedThere paths old new))
+  pub unstamped : end.left ≡ left.Stamp → ⊥
+  pub unstored : end.is_stored ≡ false → failures old < failures new
+  pub changes : ChangesFiles (day_paths files) old new

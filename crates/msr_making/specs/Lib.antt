@@ -1,0 +1,13 @@
+pub mod Clearing
+pub mod Day
+pub mod Ending
+pub mod Keeping
+pub mod Looking
+pub mod Making
+pub mod Parts
+pub mod Places
+pub mod Stamp
+pub mod Stamping
+pub mod Told
+pub mod Verifying
+pub mod Writing

@@ -1,0 +1,58 @@
+-- What is done with a day.
+use Rattle.std.specs.Prelude.{◌≡◌, ◌<◌, ℕ, Bool, true, false, List, [], Some, Option, IfOk, IfSome, Result}
+use Rattle.std.specs.declared.alloc.AllocError.{AllocError}
+use Rattle.msr_options.specs.Choice.{Choice}
+use Rattle.msr_options.specs.declared.days.DayOptions.{DayOptions}
+use Rattle.msr_report.specs.declared.report.Report.{Report}
+use Rattle.msr_tool.specs.Tasks.{IsReported}
+use Rattle.msr_tree.specs.Calls.{Looks}
+use Rattle.msr_tree.specs.Folders.{ChangesFiles}
+use Rattle.msr_tree.specs.Steps.{AtEachMoment, Path, Step, failures, seen}
+use Rattle.msr_tree.specs.declared.facts.Facts.{Facts}
+use Rattle.msr_naming.specs.Naming.{day_paths}
+use Rattle.msr_naming.specs.Promise.{HasOwn, HasReport, IsToBeStamped}
+use Rattle.msr_naming.specs.declared.files.DayFiles.{DayFiles}
+use Rattle.msr_making.specs.Places.{AreFileNames, DayPaths, ShowsAllLeft, paths_of}
+use Rattle.msr_making.specs.Stamp.{stamp_of, stamp_text}
+use Rattle.msr_making.specs.Told.{IsOutcomeThere, IsSameThere}
+use Rattle.msr_making.specs.declared.answer.DayEnd.{DayEnd}
+use Rattle.msr_making.specs.declared.answer.Left.TheVariants as left
+use Rattle.msr_making.specs.declared.answer.Repacked.{Repacked}
+
+-- the report of a repack of what the day's file has is that of its records
+abbrev pub IsOwnOfFile : Path → Choice → ((records report : List ℕ) → Bool) → List Step → Type 0
+IsOwnOfFile input choice is_own past = (bytes records text : List ℕ) (report : Report) → seen past input ≡ Some bytes
+    → IsReported choice bytes records text report → is_own records text ≡ true
+
+-- A stamp stands beside its name, on the disk: that of the day's file as a look found it before it was repacked. The names
+-- of records and report lead to those of a repack of what it had then.
+pub record AwaitsStamp (input : Path) (files : DayFiles) (choice : Choice) (old new : List Step) : Type 0 where
+  pub facts : Facts
+  pub looked : Looks input old (Some facts)
+  pub bytes : List ℕ
+  pub records : List ℕ
+  pub text : List ℕ
+  pub report : Report
+  pub has_input : seen old input ≡ Some bytes
+  pub reported : IsReported choice bytes records text report
+  pub awaits : IsToBeStamped files (stamp_text (stamp_of facts)) records text new
+
+-- A day is done, or left as it is, or refused. If it has its own before, it has it at each moment since: whatever a crash
+-- leaves then, if each folder was stored that was to be; and in any case if the walk is killed then.
+pub record DoesDay (input : Path) (files : DayFiles) (was_left : Bool) (asked : DayOptions) (end : DayEnd) (old new : List Step) : Type 0 where
+  pub safe : end.is_stored ≡ true → (is_own : (records report : List ℕ) → Bool) (is_of : (stamp records report : List ℕ) → Bool)
+      → AreFileNames input files → ShowsAllLeft was_left input files old → IsOwnOfFile input asked.options is_own old
+      → HasOwn is_own is_of files old → AtEachMoment (HasOwn is_own is_of files) old new
+  pub killed : (is_own : (records report : List ℕ) → Bool)
+      → AreFileNames input files → ShowsAllLeft was_left input files old → IsOwnOfFile input asked.options is_own old
+      → HasReport is_own files old → AtEachMoment (HasReport is_own files) old new
+  pub outcome : AreFileNames input files → IfOk end.outcome (λ outcome. IsOutcomeThere asked (paths_of input files) outcome old new)
+  pub stamp : end.left ≡ left.Stamp → AreFileNames input files → ShowsAllLeft was_left input files old
+      → AwaitsStamp input files asked.options old new
+  pub unstored : end.is_stored ≡ false → failures old < failures new
+  pub changes : ChangesFiles (day_paths files) old new
+
+-- A day is looked at, and nothing is changed: whether an earlier walk left it.
+pub record LooksForSame (paths : DayPaths) (asked : DayOptions) (result : Result (Option Repacked) AllocError) (old new : List Step) : Type 0 where
+  pub changes : ChangesFiles [] old new
+  pub same : IfOk result (λ found. IfSome found (λ repacked. IsSameThere asked paths repacked old))

@@ -1,0 +1,107 @@
+-- What an outcome says of a day by what its names lead to, while nobody else changes them.
+use Rattle.std.specs.Prelude.{◌≡◌, ◌<◌, ◌⊎◌, ℕ, IsTrue, List, length, Some, Ok, Err, IsSomeAnd}
+use Rattle.msr_tree.specs.Steps.{Step, failures, seen}
+use Rattle.msr_options.specs.declared.days.DayOptions.{DayOptions}
+use Rattle.msr_tool.specs.declared.fault.ToolFault.{ToolFault}
+use Rattle.msr_making.specs.Day.{CountAnswers, GotSmaller, IsKept, IsOtherData, IsVerifiedBy, ShowsWritten}
+use Rattle.msr_making.specs.Places.{DayPaths, IsOneOfMade, IsUnseen}
+use Rattle.msr_making.specs.Stamp.{stamp_text}
+use Rattle.msr_making.specs.declared.answer.DayFault.{DayFault}
+use Rattle.msr_making.specs.declared.answer.DayFault.TheVariants.{CannotOpen, ClaimedByAnother, Differs, Gone, Larger, Listing, NotShown, Tool}
+use Rattle.msr_making.specs.declared.answer.DayOutcome.{DayOutcome}
+use Rattle.msr_making.specs.declared.answer.DayOutcome.TheVariants.{Done, Refused, Same}
+use Rattle.msr_making.specs.declared.answer.Repacked.{Repacked}
+use Rattle.msr_making.specs.declared.stamp.Stamp.{Stamp}
+
+-- The bytes of the day's file were repacked, with these counts, to these records and this text.
+pub record IsRepackOf (asked : DayOptions) (paths : DayPaths) (repacked : Repacked) (records text : List ℕ) (old : List Step) : Type 0 where
+  pub input : List ℕ
+  pub has_input : seen old paths.input ≡ Some input
+  pub answers : CountAnswers asked.options input records text (Ok repacked)
+  pub bytes_read : repacked.bytes_read ≡ length input
+
+-- The names of records and report lead to the records and the report of a repack of what the day's file has.
+pub record IsDoneThere (asked : DayOptions) (paths : DayPaths) (repacked : Repacked) (old new : List Step) : Type 0 where
+  pub records : List ℕ
+  pub text : List ℕ
+  pub repack : IsRepackOf asked paths repacked records text old
+  pub has_records : seen new paths.records ≡ Some records
+  pub has_report : seen new paths.report ≡ Some text
+  pub verified : IsTrue asked.check → IsVerifiedBy asked.options repack.input records text
+  pub smaller : IsTrue asked.only_smaller → GotSmaller repacked
+
+-- An earlier walk left the day: its stamp is of a file as long as the day's own is, and records and report stand beside it.
+pub record IsLeftThere (asked : DayOptions) (paths : DayPaths) (repacked : Repacked) (past : List Step) : Type 0 where
+  pub stamp : Stamp
+  pub has_stamp : seen past paths.stamp ≡ Some (stamp_text stamp)
+  pub has_input : IsSomeAnd (seen past paths.input) (λ input. length input ≡ stamp.bytes)
+  pub read : repacked.bytes_read ≡ stamp.bytes
+  pub kept : IsKept asked repacked
+  pub has_report : seen past paths.report ≡ Some kept.report.text
+  pub has_records : IsSomeAnd (seen past paths.records) (λ records. length records ≡ repacked.bytes_written)
+
+-- and it was asked for that such a day is left alone
+pub record IsSameThere (asked : DayOptions) (paths : DayPaths) (repacked : Repacked) (past : List Step) : Type 0 where
+  pub resume : IsTrue asked.resume
+  pub left : IsLeftThere asked paths repacked past
+
+-- nothing is left of a day, or a call failed
+abbrev pub IsClearedThere : DayPaths → (old new : List Step) → Type 0
+IsClearedThere paths old new = IsUnseen paths new ⊎ (failures old < failures new)
+
+-- What the day's file has was not repacked, or not written or verified, for that.
+pub record IsFaultThere (asked : DayOptions) (paths : DayPaths) (fault : ToolFault) (old : List Step) : Type 0 where
+  pub input : List ℕ
+  pub written : List ℕ
+  pub told : List ℕ
+  pub has_input : seen old paths.input ≡ Some input
+  pub answers : CountAnswers asked.options input written told (Err fault)
+
+-- It was repacked, and it was asked for that what is written is verified: the report did not show it, or it is other data.
+pub record IsNotShownThere (asked : DayOptions) (paths : DayPaths) (old : List Step) : Type 0 where
+  pub repacked : Repacked
+  pub records : List ℕ
+  pub text : List ℕ
+  pub repack : IsRepackOf asked paths repacked records text old
+  pub check : IsTrue asked.check
+  pub unshown : ¬ (ShowsWritten asked.options records text)
+
+pub record IsDifferentThere (asked : DayOptions) (paths : DayPaths) (old : List Step) : Type 0 where
+  pub repacked : Repacked
+  pub records : List ℕ
+  pub text : List ℕ
+  pub repack : IsRepackOf asked paths repacked records text old
+  pub check : IsTrue asked.check
+  pub other : IsOtherData asked.options repack.input records text
+
+-- It was repacked, and did not get smaller.
+pub record IsLargerThere (asked : DayOptions) (paths : DayPaths) (repacked : Repacked) (old : List Step) : Type 0 where
+  pub records : List ℕ
+  pub text : List ℕ
+  pub repack : IsRepackOf asked paths repacked records text old
+  pub only_smaller : IsTrue asked.only_smaller
+  pub larger : ¬ (GotSmaller repacked)
+
+-- Why a day is refused. What could not be opened or made says that a call failed, or that the day's own file is one of
+-- those that are made; nothing is said of other processes.
+abbrev pub IsRefusedThere : DayOptions → DayPaths → DayFault → (old new : List Step) → Type 0
+IsRefusedThere asked paths (CannotOpen unopened) old new = IsOneOfMade paths old ⊎ (failures old < failures new)
+IsRefusedThere asked paths NotShown old new = IsNotShownThere asked paths old
+IsRefusedThere asked paths Differs old new = IsDifferentThere asked paths old
+IsRefusedThere asked paths (Larger repacked) old new = IsLargerThere asked paths repacked old
+IsRefusedThere asked paths (Tool fault) old new = IsFaultThere asked paths fault old
+IsRefusedThere asked paths ClaimedByAnother old new = Unit {0}
+IsRefusedThere asked paths Gone old new = ⊥
+IsRefusedThere asked paths Listing old new = ⊥
+
+-- whether what was made of a day goes if it is refused for that: unless nothing was made, or another walk has it
+abbrev pub IsClearedFor : DayFault → DayPaths → (old new : List Step) → Type 0
+IsClearedFor (CannotOpen unopened) paths old new = Unit {0}
+IsClearedFor ClaimedByAnother paths old new = Unit {0}
+IsClearedFor why paths old new = IsClearedThere paths old new
+
+-- what an outcome says of a day, by what its names lead to before it is done and after
+abbrev pub IsOutcomeThere : DayOptions → DayPaths → DayOutcome → (old new : List Step) → Type 0
+IsOutcomeThere asked paths (Done repacked) old new = IsDoneThere asked paths repacked old new
+IsOutcomeThere asked paths (Same repacked) old new = IsSameThere asked paths repacked old
+IsOutcomeThere asked paths (Refused why) old new = IsRefusedThere asked paths why old new × IsClearedFor why paths old new

@@ -1,0 +1,137 @@
+//! A day that is refused: what was made of it goes.
+ghost use Rattle.std.specs.Prelude.{◌≡◌, []};
+ghost use Rattle.msr_tree.specs.Calls.{Goes};
+ghost use Rattle.msr_tree.specs.Folders.{ChangesFiles};
+ghost use Rattle.msr_making.specs.Clearing.{FindsNone, GivesUp, SaysEnd, beside_paths};
+ghost use Rattle.msr_making.specs.Places.{paths_at, paths_of};
+
+use crate::answer::{DayEnd, DayFault, DayOutcome, Left};
+use crate::hold::Hold;
+use crate::looks::look_at_day;
+use crate::places::{Places, places_of};
+use msr_naming::{DayFiles, clear_files};
+use msr_tree::{Tree, TreeFault};
+use std::alloc::AllocError;
+
+impl Left {
+    /// What is left where all was removed, or not.
+    fn of_swept(is_swept: bool) -> Left
+        ensures { result ≡ Left.Stamp → ⊥ }
+    {
+        if is_swept { Left::Nothing } else { Left::Parts }
+    }
+}
+
+/// Removes what stands beside the names of a day, and tells whether nothing is there any more.
+fn sweep<T: Tree>(tree: &mut T, files: &DayFiles) -> bool
+    ensures { Goes (T.went tree.old) (T.went tree.new) (ChangesFiles (beside_paths files.now)) }
+{
+    let records = tree.remove(files.records.part.as_str()).is_ok();
+    let report = tree.remove(files.report.part.as_str()).is_ok();
+    let stamp = tree.remove(files.stamp.part.as_str()).is_ok();
+    records & report & stamp
+}
+
+/// Whether nothing is seen of what is made of a day, nor may come back after a crash.
+fn is_gone<T: Tree>(tree: &mut T, places: Places<'_>, was_left: bool) -> Result<bool, AllocError>
+    ensures { Goes (T.went tree.old) (T.went tree.new) (FindsNone (paths_at places.entry) result) }
+{
+    if was_left {
+        return Ok(false);
+    }
+    let look = look_at_day(tree, places)?;
+    Ok(look.is_free())
+}
+
+/// Whether something is seen of what is made of a day, so that the next walk sees it too.
+fn is_seen<T: Tree>(tree: &mut T, places: Places<'_>) -> bool
+    ensures { Goes (T.went tree.old) (T.went tree.new) (ChangesFiles []) }
+{
+    match look_at_day(tree, places) {
+        Ok(look) => !look.is_free(),
+        Err(_) => false,
+    }
+}
+
+/// What was made of a day goes.
+fn clear_made<T: Tree>(
+    tree: &mut T,
+    input: &str,
+    files: &DayFiles,
+    is_swept: bool,
+    why: DayFault,
+) -> DayEnd
+    ensures told { SaysEnd why result }
+    ensures goes { Goes (T.went tree.old) (T.went tree.new) (GivesUp (paths_of input.now files.now) files.now result) }
+{
+    let naming = clear_files(tree, files);
+    match naming.answer {
+        Ok(()) => DayEnd {
+            outcome: Ok(DayOutcome::Refused(why)),
+            left: Left::of_swept(is_swept),
+            is_stored: naming.is_stored,
+        },
+        Err(stopped) => match stopped.fault {
+            TreeFault::Failed => DayEnd {
+                outcome: Ok(DayOutcome::Refused(why)),
+                left: Left::of_swept(is_seen(tree, places_of(input, files)) & is_swept),
+                is_stored: naming.is_stored,
+            },
+            TreeFault::Memory => DayEnd {
+                outcome: Err(AllocError),
+                left: Left::Parts,
+                is_stored: naming.is_stored,
+            },
+        },
+    }
+}
+
+/// What was made of a day goes, unless nothing is there.
+fn clear_day<T: Tree>(
+    tree: &mut T,
+    input: &str,
+    files: &DayFiles,
+    was_left: bool,
+    is_swept: bool,
+    why: DayFault,
+) -> DayEnd
+    ensures told { SaysEnd why result }
+    ensures goes { Goes (T.went tree.old) (T.went tree.new) (GivesUp (paths_of input.now files.now) files.now result) }
+{
+    match is_gone(tree, places_of(input, files), was_left) {
+        Ok(true) => DayEnd {
+            outcome: Ok(DayOutcome::Refused(why)),
+            left: Left::of_swept(is_swept),
+            is_stored: true,
+        },
+        Ok(false) => clear_made(tree, input, files, is_swept, why),
+        Err(_) => DayEnd {
+            outcome: Err(AllocError),
+            left: Left::Parts,
+            is_stored: true,
+        },
+    }
+}
+
+/// A day is refused: what stands beside its names goes, and if it is this walk's still, what has its names.
+pub(crate) fn give_up<T: Tree, H: Hold>(
+    tree: &mut T,
+    input: &str,
+    files: &DayFiles,
+    hold: &H,
+    was_left: bool,
+    why: DayFault,
+) -> DayEnd
+    ensures told { SaysEnd why result }
+    ensures goes { Goes (T.went tree.old) (T.went tree.new) (GivesUp (paths_of input.now files.now) files.now result) }
+{
+    let is_swept = sweep(tree, files);
+    if !hold.is_held() {
+        return DayEnd {
+            outcome: Ok(DayOutcome::Refused(DayFault::ClaimedByAnother)),
+            left: Left::of_swept(is_swept),
+            is_stored: true,
+        };
+    }
+    clear_day(tree, input, files, was_left, is_swept, why)
+}

@@ -1,0 +1,134 @@
+//! What an earlier walk left of a day.
+ghost use Rattle.std.specs.Prelude.{◌≡◌, IfOk, IfSome, IsTrue, true};
+ghost use Rattle.msr_tree.specs.Calls.{Goes};
+ghost use Rattle.msr_making.specs.Day.{GotSmaller, IsKept, IsReportKept, IsSame};
+ghost use Rattle.msr_making.specs.Keeping.{AsksForKept, AsksForReport, AsksForText};
+ghost use Rattle.msr_making.specs.Making.{LooksForSame};
+ghost use Rattle.msr_making.specs.Places.{paths_at};
+ghost use Rattle.msr_making.specs.Stamp.{stamp_text};
+
+use crate::answer::Repacked;
+use crate::hold::Hold;
+use crate::looks::{DayLook, is_shared, look_at, look_beside};
+use crate::places::Places;
+use crate::repacking::counts_kept;
+use crate::stamp::{Stamp, gives_text};
+use msr_options::{DayOptions, Options};
+use msr_tree::{Facts, Tree, TreeFault};
+use std::alloc::{AllocError, Global};
+
+/// Whether what was found under a name is a stamp, and nothing else.
+fn has_stamp<T: Tree>(
+    tree: &mut T,
+    alloc: Global,
+    path: &str,
+    facts: &Facts,
+    stamp: Stamp,
+) -> Result<bool, AllocError>
+    ensures { Goes (T.went tree.old) (T.went tree.new) (AsksForText path.now (stamp_text stamp) result) }
+{
+    let text = stamp.text(alloc)?;
+    if facts.bytes != text.len() as u64 {
+        return Ok(false);
+    }
+    match tree.open_found(path, facts) {
+        Ok(mut source) => Ok(gives_text(alloc, &mut source, text.as_bytes())),
+        Err(TreeFault::Failed) => Ok(false),
+        Err(TreeFault::Memory) => Err(AllocError),
+    }
+}
+
+/// The counts of the report that was found under a name, if it is one of these options.
+fn kept_counts<T: Tree>(
+    tree: &mut T,
+    alloc: Global,
+    path: &str,
+    facts: &Facts,
+    options: Options,
+    bytes_read: u64,
+) -> Result<Option<Repacked>, AllocError>
+    ensures told { IfOk result (λ found. IfSome found (IsReportKept options)) }
+    ensures goes { Goes (T.went tree.old) (T.went tree.new) (AsksForReport path.now options bytes_read result) }
+{
+    match tree.open_found(path, facts) {
+        Ok(mut source) => Ok(counts_kept(alloc, &mut source, options, bytes_read)),
+        Err(TreeFault::Failed) => Ok(None),
+        Err(TreeFault::Memory) => Err(AllocError),
+    }
+}
+
+/// What is kept of a day, if it is whole, was made with these options, and from the input as it is.
+pub(crate) fn kept<T: Tree>(
+    tree: &mut T,
+    alloc: Global,
+    places: Places<'_>,
+    look: &DayLook,
+    asked: &DayOptions,
+) -> Result<Option<Repacked>, AllocError>
+    ensures told { IfOk result (λ found. IfSome found (IsKept asked.now)) }
+    ensures goes { Goes (T.went tree.old) (T.went tree.new) (AsksForKept (paths_at places.entry) look.now asked.now result) }
+{
+    let Some(facts) = look.regular() else {
+        return Ok(None);
+    };
+    let stamp = Stamp::of(&facts.input);
+    let is_stamped = has_stamp(tree, alloc, places.stamp, &facts.stamp, stamp)?;
+    if !is_stamped {
+        return Ok(None);
+    }
+    let bytes = facts.input.bytes;
+    let found = kept_counts(
+        tree,
+        alloc,
+        places.report,
+        &facts.report,
+        asked.options,
+        bytes,
+    )?;
+    let Some(repacked) = found else {
+        return Ok(None);
+    };
+    if !is_kept(asked, repacked, facts.records.bytes) {
+        return Ok(None);
+    }
+    Ok(Some(repacked))
+}
+
+/// Whether as many bytes of records are kept, and if that is asked for, they are fewer than were read.
+fn is_kept(asked: &DayOptions, repacked: Repacked, bytes: u64) -> bool
+    ensures { result ≡ true → (bytes ≡ repacked.bytes_written) × (IsTrue asked.now.only_smaller → GotSmaller repacked) }
+{
+    bytes == repacked.bytes_written
+        && (!asked.only_smaller || repacked.bytes_written < repacked.bytes_read)
+}
+
+/// The same as is kept of a day that nobody has claimed, if that is asked for and no walk has the day or left something.
+pub fn same_day<T: Tree, H: Hold>(
+    tree: &mut T,
+    alloc: Global,
+    places: Places<'_>,
+    hold: &H,
+    asked: &DayOptions,
+) -> Result<Option<Repacked>, AllocError>
+    ensures told { IfOk result (λ found. IfSome found (IsSame asked.now)) }
+    ensures goes { Goes (T.went tree.old) (T.went tree.new) (LooksForSame (paths_at places.entry) asked.now result) }
+{
+    if !asked.resume {
+        return Ok(None);
+    }
+    let stamp = look_at(tree, places.stamp)?;
+    if stamp.regular().is_none() {
+        return Ok(None);
+    }
+    let look = look_beside(tree, places, stamp)?;
+    if look.is_uncertain() {
+        return Ok(None);
+    }
+    if is_shared(tree, places, &look)? {
+        return Ok(None);
+    }
+    if !hold.is_held() {
+        return Ok(None);
+    }
+    kept(tree, alloc, places, &look, asked)
+}

@@ -1,0 +1,23 @@
+//! A day of an archive: its file is repacked to records and report, which are verified, and get their names.
+#![tactic(auto)]
+
+mod answer;
+mod clearing;
+mod hold;
+mod kept;
+mod looks;
+mod making;
+mod parts;
+mod places;
+mod repacking;
+mod stamp;
+mod stamping;
+mod verifying;
+mod writing;
+
+pub use answer::{DayEnd, DayFault, DayOutcome, Left, Repacked};
+pub use hold::Hold;
+pub use kept::same_day;
+pub use making::do_day;
+pub use places::Places;
+pub use repacking::day_length;

@@ -1,0 +1,11 @@
+//! The system's files as a tree of names.
+#![tactic(auto)]
+
+mod bytes;
+mod facts;
+mod listing;
+mod system;
+mod writer;
+
+pub use system::SystemTree;
+pub use writer::SystemWriter;

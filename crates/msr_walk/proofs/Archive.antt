@@ -1,0 +1,71 @@
+-- What a walk to its end told of an archive.
+use Rattle.std.proofs.Common.{◌≡◌, ℕ, List, ◌++◌, refl, subst}
+use Rattle.msr_devices.specs.Device.{Device, Takes}
+use Rattle.msr_devices.proofs.Chaining.{takes_append}
+use Rattle.std.specs.Borrow.{Bor}
+use Rattle.msr_folders.proofs.WalkedLemmas.{goes_then, walk_left}
+use Rattle.msr_folders.proofs.WithinLemmas.{within_laws, within_then}
+use Rattle.msr_folders.specs.Entries.{AreEntriesOf}
+use Rattle.msr_folders.specs.Visits.{IsWalk}
+use Rattle.msr_folders.specs.Walks.{TellsWalk as TellsVisits}
+use Rattle.msr_options.specs.declared.task.Archiving.{Archiving}
+use Rattle.msr_folders.specs.Within.{ChangesWithin, IsSeparate}
+use Rattle.msr_options.specs.declared.task.Folders.{Folders}
+use Rattle.msr_tree.specs.Calls.{Goes}
+use Rattle.msr_tree.specs.Steps.{Path, Step}
+use Rattle.msr_walk.proofs.EntriesTold.{none_among}
+use Rattle.msr_walk.specs.Entries.{IsEntry, IsEntryLine, IsTally}
+use Rattle.msr_walk.specs.Told.{IsToldOfVisit, TellsOutcomesOf, WalksTree, WorksFor}
+use Rattle.msr_walk.specs.Walk.{StopsTellingOutcomes, TellsWalk, summary}
+use Rattle.msr_walk.specs.declared.folders.Walked.{Walked}
+use Rattle.msr_walk.specs.declared.tally.Tally.{Tally}
+
+-- the visits of an archive were told
+abbrev pub TellsArchive : {P : Type 0} → (P → Tally) → Archiving → (before after : List Step → Type 0) (out0 out : Device) (of0 of : P) → Type 0
+TellsArchive tally archive =
+    TellsVisits (TellsOutcomesOf tally archive.days) (IsToldOfVisit archive.folders.root.now archive.folders.out.now archive.folders.reports.now archive.days)
+    (ChangesWithin archive.folders.out.now archive.folders.reports.now) archive.folders.root.now
+    (λ past. AreEntriesOf past archive.folders.root.now archive.below.items)
+
+pub tree_ends : {P : Type 0} (tally : P → Tally) (archive : Archiving) (before after : List Step → Type 0) (out0 out1 out : Device) (of0 of : P) (walked : Walked)
+    → (told : TellsArchive tally archive before after out0 out1 of0 of) → Takes out1 out (summary archive.days told.told.told.entries)
+    → TellsWalk told.told.told.entries walked → WalksTree archive before after out0 out walked
+tree_ends tally archive before after out0 out1 out of0 of walked told prints end =
+    let these = told.told.told in
+    let printed : List ℕ = these.lines ++ summary archive.days these.entries in
+    record {
+      visits = told.visits;
+      entries = told.lines;
+      printed = printed;
+      prints = takes_append out0 out1 out these.lines (summary archive.days these.entries) these.prints prints;
+      text = subst (λ entries. IsWalk (IsEntry archive.days) (IsEntryLine archive.days.bytes) (summary archive.days) printed entries) told.told.are
+          (record { lines = these.lines; are_entries = these.are_entries; are_lines = these.are_lines; whole = refl });
+      tells = subst (λ entries. TellsWalk entries walked) told.told.are end;
+      goes = told.goes;
+    }
+
+-- the visits were told, and then what waited was settled
+pub told_and_left : {P : Type 0} (tally : P → Tally) (archive : Archiving)
+    → IsSeparate archive.folders.root.now archive.folders.out.now archive.folders.reports.now
+    → (below : List (Bor Path)) (before mid after : List Step → Type 0) (out0 out : Device) (of0 of1 of : P) → below ≡ archive.below.items → tally of ≡ tally of1
+    → TellsVisits (TellsOutcomesOf tally archive.days) (IsToldOfVisit archive.folders.root.now archive.folders.out.now archive.folders.reports.now archive.days)
+    (ChangesWithin archive.folders.out.now archive.folders.reports.now) archive.folders.root.now
+    (λ past. AreEntriesOf past archive.folders.root.now below) before mid out0 out of0 of1
+    → Goes mid after (WorksFor archive.folders) → TellsArchive tally archive before after out0 out of0 of
+told_and_left tally archive apart below before mid after out0 out of0 of1 of is same told goes =
+    let root : Path = archive.folders.root.now in
+    subst (λ b. TellsVisits (TellsOutcomesOf tally archive.days) (IsToldOfVisit archive.folders.root.now archive.folders.out.now archive.folders.reports.now archive.days)
+    (ChangesWithin archive.folders.out.now archive.folders.reports.now) archive.folders.root.now
+    (λ past. AreEntriesOf past archive.folders.root.now b) before after out0 out of0 of) is
+    (walk_left {V = Unit {0}} (λ v. TellsOutcomesOf tally archive.days) (λ v. StopsTellingOutcomes archive.days)
+    (λ v. IsToldOfVisit archive.folders.root.now archive.folders.out.now archive.folders.reports.now archive.days)
+    (λ v. ChangesWithin archive.folders.out.now archive.folders.reports.now) (λ v. archive.folders.root.now)
+    (within_laws {V = Unit {0}} (λ v. IsEntry archive.days) (λ v. IsEntryLine archive.days.bytes) (λ entries counted. IsTally entries (tally counted))
+    (λ v. archive.folders.root.now) (λ v. archive.folders.out.now) (λ v. archive.folders.reports.now) (λ v. apart))
+    tt root (λ past. AreEntriesOf past root below) before mid after out0 out of0 of1 of told (λ at. none_among tally archive.days at of1 of same) goes)
+
+pub changes_and_left : (folders : Folders) (before mid after : List Step → Type 0)
+    → Goes before mid (ChangesWithin folders.out.now folders.reports.now) → Goes mid after (WorksFor folders)
+    → Goes before after (ChangesWithin folders.out.now folders.reports.now)
+changes_and_left folders before mid after one two = goes_then _ _ _ before mid after
+    (λ old middle new first second. within_then folders.out.now folders.reports.now old middle new first second.does) one two

@@ -1,0 +1,48 @@
+use Rattle.std.proofs.Common.{rules, refl, [], ◌∷◌}
+use Rattle.std.proofs.lemmas.Result.{err_from_is_err_and}
+use Rattle.msr_folders.proofs.WalkedLemmas.{on_ok_as}
+use Rattle.msr_walk.proofs.Days.{outcome_of, tells_works}
+use Rattle.msr_walk.proofs.EntriesTold.{counted_on, none_told}
+use Rattle.msr_walk.proofs.Visited.{visited_day}
+use Rattle.msr_walk.proofs.Working.{goes_works_none, goes_works_then, wait_after}
+use Rattle.msr_walk.specs.Entries.{Entry, IsDayOf}
+use Rattle.msr_walk.proofs.walker.Walker.visit_day.Goals as goal
+
+pub returns-in_err-channel-clause-stops : goal.returns-in_err-channel-clause-stops
+returns-in_err-channel-clause-stops g c =
+    let p = err_from_is_err_and c.from_residual.result c.from_residual.ensures.1 in
+    rw (p.1, p.2) (none_told _ _)
+
+pub returns-in_err-channel-clause-works : goal.returns-in_err-channel-clause-works
+returns-in_err-channel-clause-works g c = goes_works_none c.args.self.now.archive.now.folders.out.now c.args.self.now.archive.now.folders.reports.now _
+
+pub returns-in_err-handled-clause-stops : goal.returns-in_err-handled-clause-stops
+returns-in_err-handled-clause-stops g c =
+    let p = err_from_is_err_and c.from_residual-in_err-handled.result c.from_residual-in_err-handled.ensures.1 in
+    rw (p.1, p.2) (none_told _ _)
+
+pub returns-in_err-handled-clause-works : goal.returns-in_err-handled-clause-works
+returns-in_err-handled-clause-works g c = tells_works _ _ _ c.args.self.now.archive.now.folders.out.now c.args.self.now.archive.now.folders.reports.now _ _ _ c.in_err-handled.ensures.goes
+
+pub returns-in_err-handled-clause-days : goal.returns-in_err-handled-clause-days
+returns-in_err-handled-clause-days g c = wait_after c.args.self.now.archive.now.folders.out.now c.args.self.now.archive.now.folders.reports.now _ _ _ _ c.in_err-handled.ensures.goes c.requires.days
+
+pub returns-clause-told : goal.returns-clause-told
+returns-clause-told g c =
+    let day : IsDayOf c.args.path.now c.as_str.result.now = search rules in
+    let entry : Entry = record { path = c.args.path.now; channel = c.as_str.result.now; outcome = c.in_ok-handled.handled.outcome } in
+    let told = counted_on (λ of. of.tally) c.args.self.now.archive.now.days (entry ∷ []) (g.O.Sink.device c.args.out.now) (g.O.Sink.device c.tell-told.new.out) c.args.progress.now c.wait.new.self _ _ c.tell-told.result
+    (c.tell-told.ensures.told (outcome_of _ _ _ _ day c.in_ok-handled.ensures.told)) refl c.wait.ensures.tally in
+    λ kind there. on_ok_as c.tell-told.result (λ told. visited_day (λ of. of.tally) c.args.self.now.archive.now.days c.args.self.now.archive.now.folders.root.now c.args.self.now.archive.now.folders.out.now c.args.self.now.archive.now.folders.reports.now (λ told. told.outcome) c.in_ok-handled.handled
+    c.args.path.now c.as_str.result.now kind (g.T.Tree.went c.args.tree.now) (g.T.Tree.went c.handle.new.tree) (g.T.Tree.went c.wait.new.tree)
+    (g.O.Sink.device c.args.out.now) (g.O.Sink.device c.tell-told.new.out) c.args.progress.now c.wait.new.self
+    there (c.args.name.now, c.requires.day) c.in_ok-handled.ensures.goes c.wait.ensures.works told) told
+
+pub returns-clause-stops : goal.returns-clause-stops
+returns-clause-stops g c =
+    let day : IsDayOf c.args.path.now c.as_str.result.now = search rules in
+    c.tell-told.ensures.stops (outcome_of _ _ _ _ day c.in_ok-handled.ensures.told)
+
+pub returns-clause-works : goal.returns-clause-works
+returns-clause-works g c =
+    goes_works_then c.args.self.now.archive.now.folders.out.now c.args.self.now.archive.now.folders.reports.now _ _ _ (tells_works _ _ _ c.args.self.now.archive.now.folders.out.now c.args.self.now.archive.now.folders.reports.now _ _ _ c.in_ok-handled.ensures.goes) c.wait.ensures.works

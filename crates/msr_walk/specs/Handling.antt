@@ -1,0 +1,53 @@
+-- What is done with a day that may be another's.
+use Rattle.std.specs.Prelude.{◌≡◌, ℕ, List, Option, IfSome}
+use Rattle.std.specs.List.{AllByRecursion}
+use Rattle.msr_folders.specs.Entries.{StandsWithin}
+use Rattle.msr_making.specs.declared.answer.DayFault.{DayFault}
+use Rattle.msr_making.specs.declared.answer.DayFault.TheVariants.{CannotOpen, ClaimedByAnother}
+use Rattle.msr_making.specs.declared.answer.DayOutcome.{DayOutcome}
+use Rattle.msr_making.specs.declared.answer.DayOutcome.TheVariants.{Refused}
+use Rattle.msr_naming.specs.declared.batch.Waiting.{Waiting}
+use Rattle.msr_naming.specs.declared.files.DayFiles.{DayFiles}
+use Rattle.msr_options.specs.declared.hint.Unopened.{Unopened}
+use Rattle.msr_folders.specs.Walks.{HoldsAt}
+use Rattle.msr_tree.specs.Steps.{Path, Step}
+use Rattle.msr_walk.specs.Files.{DayNames, IsStampWithin, files_of}
+
+-- The names of a day's files, and those beside them, are within the folders of records and reports.
+pub record AreWithin (out reports : Path) (files : DayFiles) : Type 0 where
+  pub records : StandsWithin out files.records.path
+  pub records_part : StandsWithin out files.records.part
+  pub report : StandsWithin reports files.report.path
+  pub report_part : StandsWithin reports files.report.part
+  pub stamp : IsStampWithin reports files
+
+-- the same, whatever number the claim has
+pub record AreNamesWithin (out reports : Path) (names : DayNames) : Type 0 where
+  pub are : (number : ℕ) → AreWithin out reports (files_of names number)
+
+-- an outcome but for why something could not be opened
+abbrev pub IsSameBut : (outcome told : DayOutcome) → Type 0
+IsSameBut (Refused (CannotOpen unopened)) told = (other : Unopened) × (told ≡ Refused (CannotOpen other))
+IsSameBut outcome told = told ≡ outcome
+
+-- a fault of a day that is not claimed
+abbrev pub IsUnclaimed : DayFault → Type 0
+IsUnclaimed (CannotOpen unopened) = Unit {0}
+IsUnclaimed ClaimedByAnother = Unit {0}
+IsUnclaimed _ = ⊥
+
+-- what waits has its stamp within the folder of the reports
+abbrev pub WaitsWithin : {C : Type 0} → (reports : Path) → Option (Waiting C) → Type 0
+WaitsWithin reports waiting = IfSome waiting (λ day. IsStampWithin reports day.files)
+
+-- all that wait have
+pub record AllWaitWithin {C : Type 0} (reports : Path) (days : List (Waiting C)) : Type 0 where
+  pub all : AllByRecursion (λ day. IsStampWithin reports day.files) days
+
+-- whichever steps were done so far, a day that waits has
+abbrev pub IsWaitingAt : {C : Type 0} → (went : List Step → Type 0) → Path → Waiting C → Type 0
+IsWaitingAt went reports day = HoldsAt went (λ past. IsStampWithin reports day.files)
+
+-- all that wait have
+abbrev pub AreWaitingAt : {C : Type 0} → (went : List Step → Type 0) → Path → List (Waiting C) → Type 0
+AreWaitingAt went reports days = HoldsAt went (λ past. AllWaitWithin reports days)

@@ -1,0 +1,114 @@
+-- What a walk tells of an archive, by what its names lead to, and what it changes, while nobody else changes them.
+use Rattle.std.specs.Prelude.{◌≡◌, ◌≢◌, ℕ, List, [], ◌∷◌, ◌++◌, codes, IfOk, Result, Ok}
+use Rattle.std.specs.List.{AllByRecursion}
+use Rattle.std.specs.Borrow.{Bor}
+use Rattle.std.specs.declared.alloc.AllocError.{AllocError}
+use Rattle.msr_devices.specs.Device.{Device, Takes}
+use Rattle.msr_folders.specs.Days.{IsDay, IsNoDay}
+use Rattle.msr_folders.specs.Entries.{AreEntriesOf, Entry as Found, StandsWithin, Visit, WithoutList}
+use Rattle.msr_folders.specs.Paths.{joined, told_folder}
+use Rattle.msr_folders.specs.Visits.{IsWalk, TellsThese}
+use Rattle.msr_folders.specs.Walks.{IsWalked, VisitDoes}
+use Rattle.msr_folders.specs.Within.{ChangesWithin}
+use Rattle.msr_making.specs.Places.{DayPaths}
+use Rattle.msr_making.specs.Told.{IsOutcomeThere}
+use Rattle.msr_making.specs.declared.answer.DayFault.TheVariants.{CannotOpen, Gone as WasGone, Listing}
+use Rattle.msr_making.specs.declared.answer.DayOutcome.{DayOutcome}
+use Rattle.msr_making.specs.declared.answer.DayOutcome.TheVariants as outcomes
+use Rattle.msr_naming.specs.declared.files.DayFiles.{DayFiles}
+use Rattle.msr_options.specs.declared.days.DayOptions.{DayOptions}
+use Rattle.msr_options.specs.declared.task.Archiving.{Archiving}
+use Rattle.msr_options.specs.declared.task.Folders.{Folders}
+use Rattle.msr_sds.specs.declared.SdsFault.{SdsFault}
+use Rattle.msr_tree.specs.Calls.{Goes}
+use Rattle.msr_tree.specs.Steps.{AtEachMoment, Path, Step, now}
+use Rattle.msr_tree.specs.declared.kind.FileKind.{FileKind}
+use Rattle.msr_tree.specs.declared.kind.FileKind.TheVariants.{Gone}
+use Rattle.msr_walk.specs.Entries.{Entry, IsEntry, IsEntryLine, IsTally}
+use Rattle.msr_walk.specs.Files.{AreNamesOfDay, DayNames, day_names, paths_of_names}
+use Rattle.msr_walk.specs.Outcomes.{IsForDay, of_day}
+use Rattle.msr_walk.specs.Walk.{TellsWalk, summary}
+use Rattle.msr_walk.specs.declared.folders.Walked.{Walked}
+use Rattle.msr_walk.specs.declared.outcome.Outcome.{Outcome}
+use Rattle.msr_walk.specs.declared.outcome.Outcome.TheVariants.{Refused, Skipped}
+use Rattle.msr_walk.specs.declared.tally.Tally.{Tally}
+
+-- What an outcome says of a day by what its names lead to. No clause speaks of claims, links and missing folders, for which
+-- a day may not be opened.
+abbrev pub IsToldThere : DayOptions → DayPaths → DayOutcome → (old new : List Step) → Type 0
+IsToldThere asked paths (outcomes.Refused (CannotOpen unopened)) old new = Unit {0}
+IsToldThere asked paths outcome old new = IsOutcomeThere asked paths outcome old new
+
+-- What is done of an archive: only what stands within two folders is changed, and no folder is listed.
+abbrev pub WorksWithin : (out reports : Path) → (old new : List Step) → Type 0
+WorksWithin out reports = VisitDoes (ChangesWithin out reports)
+
+abbrev pub WorksFor : Folders → (old new : List Step) → Type 0
+WorksFor folders = WorksWithin folders.out.now folders.reports.now
+
+-- An outcome was so of a day between two moments.
+pub record ToldBetween (asked : DayOptions) (names : DayNames) (out reports : Path) (outcome : DayOutcome) (old new : List Step) : Type 0 where
+  pub from : List Step
+  pub to : List Step
+  pub before : ChangesWithin out reports old from
+  pub there : IsToldThere asked (paths_of_names names) outcome from to
+  pub after : ChangesWithin out reports to new
+
+-- A day of which this is asked was done, or left as it is, or refused.
+pub record HandlesDay {H E : Type 0} (outcome : H → DayOutcome) (names : DayNames) (out reports : Path) (asked : DayOptions)
+    (result : Result H E) (old new : List Step) : Type 0 where
+  pub works : WorksWithin out reports old new
+  pub says : AreNamesOfDay names → IfOk result (λ handled. ToldBetween asked names out reports (outcome handled) old new)
+
+-- The outcome of a day of an archive of whose days this is asked is told, where it is so.
+pub record IsDayTold (days : DayOptions) (names : DayNames) (out reports : Path) (outcome : Outcome) (old new : List Step) : Type 0 where
+  pub asked : DayOptions
+  pub for_day : IsForDay days asked
+  pub of : DayOutcome
+  pub same : outcome ≡ of_day of
+  pub there : AreNamesOfDay names → ToldBetween asked names out reports of old new
+
+-- A day was handled, and this is told of it.
+pub record TellsDay {H E : Type 0} (outcome : H → Outcome) (days : DayOptions) (names : DayNames) (out reports : Path)
+    (result : Result H E) (old new : List Step) : Type 0 where
+  pub works : WorksWithin out reports old new
+  pub says : IfOk result (λ told. IsDayTold days names out reports (outcome told) old new)
+
+-- What is told of an entry: that it is gone, what became of it if it is a day, and else why it is none.
+pub record IsToldOfPath (days : DayOptions) (names : DayNames) (out reports path : Path) (kind : FileKind) (outcome : Outcome) (old new : List Step) : Type 0 where
+  pub gone : kind ≡ Gone → outcome ≡ Refused WasGone
+  pub day : kind ≢ Gone → IsDay path → IsDayTold days names out reports outcome old new
+  pub other : kind ≢ Gone → ¬ (IsDay path) → (fault : SdsFault) × IsNoDay path fault × (outcome ≡ Skipped fault)
+
+-- the one entry that is told of a visit
+abbrev pub IsToldOfVisit : (root out reports : Path) → DayOptions → (old new : List Step) → Visit → List Entry → Type 0
+IsToldOfVisit root out reports days old new (Found path kind) entries = (channel : Path) × (outcome : Outcome)
+    × (entries ≡ record { path = path; channel = channel; outcome = outcome } ∷ [])
+    × IsToldOfPath days (day_names root out reports path) out reports path kind outcome old new
+IsToldOfVisit root out reports days old new (WithoutList folder) entries =
+    entries ≡ record { path = told_folder folder; channel = []; outcome = Refused Listing } ∷ []
+
+-- these entries were told, and are counted in a part of what changes
+abbrev pub TellsOutcomesOf : {P : Type 0} → (P → Tally) → DayOptions → List Entry → Device → Device → P → P → Type 0
+TellsOutcomesOf tally asked = TellsThese (IsEntry asked) (IsEntryLine asked.bytes) (λ entries counted. IsTally entries (tally counted))
+
+-- What was told of an archive: of each entry, in order, by what its names led to.
+abbrev pub IsArchiveTold : Archiving → List Visit → List Entry → (old new : List Step) → Type 0
+IsArchiveTold archive visits entries old new =
+    let folders = archive.folders in
+    IsWalked (IsToldOfVisit folders.root.now folders.out.now folders.reports.now archive.days) (ChangesWithin folders.out.now folders.reports.now)
+    folders.root.now (λ past. AreEntriesOf past folders.root.now archive.below.items) visits entries old new
+
+-- The whole text was printed: a line for each entry of the archive, in order, and then what these sum up to.
+pub record WalksTree (archive : Archiving) (before after : List Step → Type 0) (out0 out : Device) (walked : Walked) : Type 0 where
+  pub visits : List Visit
+  pub entries : List Entry
+  pub printed : List ℕ
+  pub prints : Takes out0 out printed
+  pub text : IsWalk (IsEntry archive.days) (IsEntryLine archive.days.bytes) (summary archive.days) printed entries
+  pub tells : TellsWalk entries walked
+  pub goes : Goes before after (IsArchiveTold archive visits entries)
+
+-- At each moment the names within a folder lead to what they led to.
+pub record StaysWithin (root : Path) (old new : List Step) : Type 0 where
+  pub each : AtEachMoment (λ past. (name : Path) → StandsWithin root name → now past name ≡ now old name) old new
