@@ -123,6 +123,13 @@ impl<W: Write> FromWrite<W> {
             interruptions: 0,
         }
     }
+
+    /// The writer, which holds the sink's bytes.
+    pub fn get_ref(&self) -> &W
+        ensures { W.contents result.now ≡ (⟦<FromWrite<W> as Sink>⟧.device self.now).bytes }
+    {
+        &self.inner
+    }
 }
 
 impl<W: Write> Sink for FromWrite<W> {
