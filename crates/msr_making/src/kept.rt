@@ -32,7 +32,7 @@ fn has_stamp<T: Tree>(
         return Ok(false);
     }
     match tree.open_found(path, facts) {
-        Ok(mut source) => Ok(gives_text(alloc, &mut source, text.as_bytes())),
+        Ok(mut source) => Ok(gives_text(&mut source, text.as_bytes())),
         Err(TreeFault::Failed) => Ok(false),
         Err(TreeFault::Memory) => Err(AllocError),
     }

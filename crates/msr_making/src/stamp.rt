@@ -4,9 +4,12 @@ ghost use Rattle.std.specs.String.{string_bytes};
 ghost use Rattle.msr_devices.specs.Device.{CanCountCall, HasLeft};
 ghost use Rattle.msr_making.specs.Stamp.{stamp_of, stamp_text};
 
-use msr_devices::{ReadBuffer, Source};
+use msr_devices::{Source, read_some};
 use msr_tree::Facts;
 use std::alloc::{AllocError, Global};
+
+/// How many bytes are read at a time: more than a stamp has, so that one call reads it.
+const ROOM: usize = 128;
 
 /// The size of a regular file, and the time at which it was last changed.
 #[derive(Clone, Copy, PartialEq, Eq)]
@@ -38,22 +41,24 @@ impl Stamp {
     }
 }
 
-/// Whether a source ended after this text.
-fn ends_with(front: &ReadBuffer, text: &[u8]) -> bool
-    ensures { result ≡ true → (front.now.ended ≡ true) × (front.now.bytes ≡ text.now) }
-{
-    front.has_ended() && front.bytes() == text
-}
-
 /// Whether a source gives this text, and nothing else.
-pub(crate) fn gives_text<S: Source>(alloc: Global, source: &mut S, text: &[u8]) -> bool
+pub(crate) fn gives_text<S: Source>(source: &mut S, text: &[u8]) -> bool
     requires { CanCountCall (S.device source.old) }
     ensures { result ≡ true → HasLeft (S.device source.old) text.now }
 {
-    let mut front = ReadBuffer::new(alloc);
-    let more = text.len().saturating_add(1);
-    match front.fill(source, more) {
-        Ok(()) => ends_with(&front, text),
-        Err(_) => false,
+    let mut room = [0; ROOM];
+    let mut rest = text;
+    loop {
+        let n = match read_some(source, &mut room) {
+            Ok(n) => n,
+            Err(_) => return false,
+        };
+        if n == 0 {
+            return rest.is_empty();
+        }
+        match rest.strip_prefix(&room[..n]) {
+            Some(after) => rest = after,
+            None => return false,
+        }
     }
 }

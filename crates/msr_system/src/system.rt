@@ -460,10 +460,12 @@ impl<'a, R: Files> Tree for SystemTree<'a, R> {
     }
 
     fn remove(&mut self, path: &str) -> Result<(), TreeFault> {
-        match fs::remove_file(self.rt, path) {
-            Err(error) if tells_none(error.kind()) => Ok(()),
-            removed => self.told(removed),
+        let removed = fs::remove_file(self.rt, path);
+        // Removing may be refused before the system looks whether something has the name.
+        if removed.is_err() && matches!(self.found(path), Ok(None)) {
+            return Ok(());
         }
+        self.told(removed)
     }
 
     fn store_file(&mut self, path: &str) -> Result<(), TreeFault> {
