@@ -1,7 +1,6 @@
 -- How lines tell a fault of a file.
 use Rattle.std.specs.Prelude.{ℕ, List, [], ◌++◌, codes, Option, None, Some}
 use Rattle.std.specs.Fmt.{decimal}
-use Rattle.msr_header.specs.declared.fault.HeaderFault.{HeaderFault}
 use Rattle.msr_header.specs.declared.fault.HeaderFault.TheVariants.{Truncated, NotARecord, BadTime, BadChain, OtherBlockette, TwiceBlockette, NoBlockette1000, BadExponent, BadOrder, RecordCut, ChainPastRecord}
 use Rattle.msr_rows.specs.declared.fault.FaultKind.{FaultKind}
 use Rattle.msr_rows.specs.declared.fault.FaultKind.TheVariants as kind
@@ -9,55 +8,33 @@ use Rattle.msr_input.specs.declared.fault.Fault.{Fault}
 use Rattle.msr_input.specs.declared.fault.ReadFault.{ReadFault}
 use Rattle.msr_input.specs.declared.fault.ReadFault.TheVariants as stop
 
--- the number of a refusal; want of memory is none, and has 0
-abbrev pub header_number : HeaderFault → ℕ
-header_number Truncated = 1
-header_number NotARecord = 2
-header_number BadTime = 3
-header_number BadChain = 4
-header_number (OtherBlockette blockette) = 5
-header_number (TwiceBlockette blockette) = 6
-header_number NoBlockette1000 = 7
-header_number BadExponent = 8
-header_number BadOrder = 9
-header_number RecordCut = 10
-header_number ChainPastRecord = 11
+-- the number of a refusal and its name; want of memory is none, and has 0
+abbrev pub fault_row : FaultKind → ℕ × List ℕ
+fault_row (kind.Header Truncated) = (1, codes "Truncated")
+fault_row (kind.Header NotARecord) = (2, codes "NotARecord")
+fault_row (kind.Header BadTime) = (3, codes "BadTime")
+fault_row (kind.Header BadChain) = (4, codes "BadChain")
+fault_row (kind.Header (OtherBlockette blockette)) = (5, codes "OtherBlockette")
+fault_row (kind.Header (TwiceBlockette blockette)) = (6, codes "TwiceBlockette")
+fault_row (kind.Header NoBlockette1000) = (7, codes "NoBlockette1000")
+fault_row (kind.Header BadExponent) = (8, codes "BadExponent")
+fault_row (kind.Header BadOrder) = (9, codes "BadOrder")
+fault_row (kind.Header RecordCut) = (10, codes "RecordCut")
+fault_row (kind.Header ChainPastRecord) = (11, codes "ChainPastRecord")
+fault_row kind.DataShort = (12, codes "DataShort")
+fault_row (kind.BadCode word) = (13, codes "BadCode")
+fault_row kind.NoRate = (14, codes "NoRate")
+fault_row (kind.OtherEncoding encoding) = (15, codes "OtherEncoding")
+fault_row kind.BadDataOffset = (16, codes "BadDataOffset")
+fault_row kind.TimeRange = (17, codes "TimeRange")
+fault_row kind.ReverseMismatch = (18, codes "ReverseMismatch")
+fault_row kind.Memory = (0, codes "Memory")
 
 abbrev pub fault_number : FaultKind → ℕ
-fault_number (kind.Header fault) = header_number fault
-fault_number kind.DataShort = 12
-fault_number (kind.BadCode word) = 13
-fault_number kind.NoRate = 14
-fault_number (kind.OtherEncoding encoding) = 15
-fault_number kind.BadDataOffset = 16
-fault_number kind.TimeRange = 17
-fault_number kind.ReverseMismatch = 18
-fault_number kind.Memory = 0
-
--- its name
-abbrev pub header_name : HeaderFault → List ℕ
-header_name Truncated = codes "Truncated"
-header_name NotARecord = codes "NotARecord"
-header_name BadTime = codes "BadTime"
-header_name BadChain = codes "BadChain"
-header_name (OtherBlockette blockette) = codes "OtherBlockette"
-header_name (TwiceBlockette blockette) = codes "TwiceBlockette"
-header_name NoBlockette1000 = codes "NoBlockette1000"
-header_name BadExponent = codes "BadExponent"
-header_name BadOrder = codes "BadOrder"
-header_name RecordCut = codes "RecordCut"
-header_name ChainPastRecord = codes "ChainPastRecord"
+fault_number kind = (fault_row kind).0
 
 abbrev pub fault_name : FaultKind → List ℕ
-fault_name (kind.Header fault) = header_name fault
-fault_name kind.DataShort = codes "DataShort"
-fault_name (kind.BadCode word) = codes "BadCode"
-fault_name kind.NoRate = codes "NoRate"
-fault_name (kind.OtherEncoding encoding) = codes "OtherEncoding"
-fault_name kind.BadDataOffset = codes "BadDataOffset"
-fault_name kind.TimeRange = codes "TimeRange"
-fault_name kind.ReverseMismatch = codes "ReverseMismatch"
-fault_name kind.Memory = codes "Memory"
+fault_name kind = (fault_row kind).1
 
 -- what is named with it: the type of a blockette, the number of a word, an encoding
 abbrev pub fault_value : FaultKind → Option ℕ

@@ -1,7 +1,7 @@
 //! How lines tell a fault of a file.
 ghost use Rattle.std.specs.Prelude.{◌≡◌, IfOk};
 ghost use Rattle.std.specs.String.{string_bytes};
-ghost use Rattle.msr_folders.specs.Faults.{fault_json, fault_name, fault_number, fault_value, header_name, header_number, numbered_text, read_fault_text, value_json, value_text};
+ghost use Rattle.msr_folders.specs.Faults.{fault_json, fault_name, fault_number, fault_value, numbered_text, read_fault_text, value_json, value_text};
 
 use msr_header::HeaderFault;
 use msr_input::{Fault, ReadFault};
@@ -9,72 +9,30 @@ use msr_rows::FaultKind;
 use std::alloc::{AllocError, Global};
 use std::fmt;
 
-fn header_number(fault: HeaderFault) -> u8
-    ensures { result ≡ header_number fault }
-{
-    match fault {
-        HeaderFault::Truncated => 1,
-        HeaderFault::NotARecord => 2,
-        HeaderFault::BadTime => 3,
-        HeaderFault::BadChain => 4,
-        HeaderFault::OtherBlockette(_) => 5,
-        HeaderFault::TwiceBlockette(_) => 6,
-        HeaderFault::NoBlockette1000 => 7,
-        HeaderFault::BadExponent => 8,
-        HeaderFault::BadOrder => 9,
-        HeaderFault::RecordCut => 10,
-        HeaderFault::ChainPastRecord => 11,
-    }
-}
-
-/// The number of a refusal; 0 for want of memory, which is none.
-fn fault_number(kind: FaultKind) -> u8
-    ensures { result ≡ fault_number kind }
+/// The number of a refusal and its name; want of memory is none, and has 0.
+fn fault_row<'a>(kind: FaultKind) -> (u8, &'a str)
+    ensures { (result.0 ≡ fault_number kind) × (result.1.now ≡ fault_name kind) }
 {
     match kind {
-        FaultKind::Header(fault) => header_number(fault),
-        FaultKind::DataShort => 12,
-        FaultKind::BadCode(_) => 13,
-        FaultKind::NoRate => 14,
-        FaultKind::OtherEncoding(_) => 15,
-        FaultKind::BadDataOffset => 16,
-        FaultKind::TimeRange => 17,
-        FaultKind::ReverseMismatch => 18,
-        FaultKind::Memory => 0,
-    }
-}
-
-fn header_name<'a>(fault: HeaderFault) -> &'a str
-    ensures { result.now ≡ header_name fault }
-{
-    match fault {
-        HeaderFault::Truncated => "Truncated",
-        HeaderFault::NotARecord => "NotARecord",
-        HeaderFault::BadTime => "BadTime",
-        HeaderFault::BadChain => "BadChain",
-        HeaderFault::OtherBlockette(_) => "OtherBlockette",
-        HeaderFault::TwiceBlockette(_) => "TwiceBlockette",
-        HeaderFault::NoBlockette1000 => "NoBlockette1000",
-        HeaderFault::BadExponent => "BadExponent",
-        HeaderFault::BadOrder => "BadOrder",
-        HeaderFault::RecordCut => "RecordCut",
-        HeaderFault::ChainPastRecord => "ChainPastRecord",
-    }
-}
-
-fn fault_name<'a>(kind: FaultKind) -> &'a str
-    ensures { result.now ≡ fault_name kind }
-{
-    match kind {
-        FaultKind::Header(fault) => header_name(fault),
-        FaultKind::DataShort => "DataShort",
-        FaultKind::BadCode(_) => "BadCode",
-        FaultKind::NoRate => "NoRate",
-        FaultKind::OtherEncoding(_) => "OtherEncoding",
-        FaultKind::BadDataOffset => "BadDataOffset",
-        FaultKind::TimeRange => "TimeRange",
-        FaultKind::ReverseMismatch => "ReverseMismatch",
-        FaultKind::Memory => "Memory",
+        FaultKind::Header(HeaderFault::Truncated) => (1, "Truncated"),
+        FaultKind::Header(HeaderFault::NotARecord) => (2, "NotARecord"),
+        FaultKind::Header(HeaderFault::BadTime) => (3, "BadTime"),
+        FaultKind::Header(HeaderFault::BadChain) => (4, "BadChain"),
+        FaultKind::Header(HeaderFault::OtherBlockette(_)) => (5, "OtherBlockette"),
+        FaultKind::Header(HeaderFault::TwiceBlockette(_)) => (6, "TwiceBlockette"),
+        FaultKind::Header(HeaderFault::NoBlockette1000) => (7, "NoBlockette1000"),
+        FaultKind::Header(HeaderFault::BadExponent) => (8, "BadExponent"),
+        FaultKind::Header(HeaderFault::BadOrder) => (9, "BadOrder"),
+        FaultKind::Header(HeaderFault::RecordCut) => (10, "RecordCut"),
+        FaultKind::Header(HeaderFault::ChainPastRecord) => (11, "ChainPastRecord"),
+        FaultKind::DataShort => (12, "DataShort"),
+        FaultKind::BadCode(_) => (13, "BadCode"),
+        FaultKind::NoRate => (14, "NoRate"),
+        FaultKind::OtherEncoding(_) => (15, "OtherEncoding"),
+        FaultKind::BadDataOffset => (16, "BadDataOffset"),
+        FaultKind::TimeRange => (17, "TimeRange"),
+        FaultKind::ReverseMismatch => (18, "ReverseMismatch"),
+        FaultKind::Memory => (0, "Memory"),
     }
 }
 
@@ -103,7 +61,7 @@ impl fmt::Display for ToldKind {
     ghost output = { λ told. Some (numbered_text told.kind) };
 
     fn fmt<W: fmt::Write>(&self, f: &mut fmt::Formatter<W>) -> fmt::Result {
-        let (number, name) = (fault_number(self.kind), fault_name(self.kind));
+        let (number, name) = fault_row(self.kind);
         match fault_value(self.kind) {
             Some(value) => write!(f, "{number} {name} {value}"),
             None => write!(f, "{number} {name}"),
@@ -148,8 +106,8 @@ fn value_json(alloc: Global, value: Option<u32>) -> Result<String, AllocError>
 pub fn fault_json(alloc: Global, fault: Fault) -> Result<String, AllocError>
     ensures { IfOk result (λ text. string_bytes text ≡ fault_json fault) }
 {
-    let (offset, number) = (fault.offset, fault_number(fault.kind));
-    let name = fault_name(fault.kind);
+    let offset = fault.offset;
+    let (number, name) = fault_row(fault.kind);
     let value = value_json(alloc, fault_value(fault.kind))?;
     format!(in alloc; ",\"offset\":{offset},\"number\":{number},\"name\":\"{name}\"{value}")
 }
