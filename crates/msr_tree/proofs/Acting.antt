@@ -1,12 +1,14 @@
--- One call, and then another.
+-- One call, and then another. Where `rest` stands, also over files alone.
 use Rattle.std.proofs.Common.{◌≡◌, ◌<◌, ◌≤◌, inl, inr, ⊎_elim, Bool, true, false, IsSome, List, [], ◌∷◌, ◌++◌, refl, sym, ap, subst, Result, Ok, Err, IsErrOf, IfOk, arith}
 use Rattle.msr_tree.specs.Acts.{Acts}
 use Rattle.msr_tree.specs.Calls.{IsSameAs, Copied, Copies, DoesStep, Goes, PerhapsCopied, PerhapsDone, RenamesNew, Stops, Tells, MakesFolders, AreOfFolders}
+use Rattle.msr_tree.specs.Folders.{ActsBut, Changes, Names, NamesAndFolders, Rest}
 use Rattle.std.specs.Str.{bytes_eq}
 use Rattle.msr_tree.specs.Steps.{ChangesOnly, Failed, FileStored, FolderMade, FolderStored, IsNoneOf, Linked, Made, Path, Removed, Renamed, Spares, Step, Unlisted, failures, now, touches}
 use Rattle.msr_tree.specs.declared.tree.TreeFault.{TreeFault}
 use Rattle.msr_tree.specs.declared.tree.TreeFault.TheVariants as fault
 use Rattle.msr_tree.proofs.Changes.{changes_more, changes_none, changes_then}
+use Rattle.msr_tree.proofs.Folders.{leaves_then}
 
 -- a step that touches no other names
 abbrev pub Within : List Path → Step → Type 0
@@ -78,12 +80,28 @@ acts_tells names Says (Ok x) old new tells = record {
 }
 acts_tells names Says (Err why) old new tells = stopped names _ why _ old new (λ left same. subst (λ l. ChangesOnly names old l) (sym same) (changes_none names old)) tells
 
+-- what was done changes these names only, whatever else it leaves
+only : (rest : Rest) (names : List Path) (old new : List Step) → Changes rest names old new → ChangesOnly names old new
+only Names names old new changes = changes
+only NamesAndFolders names old new changes = changes.changes
+
+pub rest_then : (rest : Rest) (names : List Path) (old mid new : List Step) → Changes rest names old mid → Changes rest names mid new → Changes rest names old new
+rest_then Names names old mid new one two = changes_then names old mid new one two
+rest_then NamesAndFolders names old mid new one two = record {
+  changes = changes_then names old mid new one.changes two.changes;
+  folders = leaves_then old mid new one.folders two.folders;
+}
+
+pub rest_more : (rest : Rest) (few more : List Path) (old new : List Step) → ((name : Path) → IsNoneOf name more → IsNoneOf name few) → Changes rest few old new → Changes rest more old new
+rest_more Names few more old new so changes = changes_more few more old new so changes
+rest_more NamesAndFolders few more old new so changes = record { changes = changes_more few more old new so changes.changes; folders = changes.folders }
+
 -- one call that succeeds, and then another
-module _ {A B C : Type 0} (names : List Path) (First : (old new : List Step) → A → Type 0) (Second : (old new : List Step) → B → Type 0) (Done : (old new : List Step) → C → Type 0) (a : A) (one mid two : List Step → Type 0) where
+module _ {A B C : Type 0} {rest : Rest} (names : List Path) (First : (old new : List Step) → A → Type 0) (Second : (old new : List Step) → B → Type 0) (Done : (old new : List Step) → C → Type 0) (a : A) (one mid two : List Step → Type 0) where
   pub and_then : (second : Result B TreeFault) (result : Result C TreeFault)
       → (IsErrOf result fault.Failed → IsErrOf second fault.Failed)
       → ((p q r : List Step) → First p q a → IfOk second (λ b. Second q r b) → ChangesOnly names p q → ChangesOnly names q r → IfOk result (λ c. Done p r c))
-      → Goes one mid (Acts names First (Ok a)) → Goes mid two (Acts names Second second) → Goes one two (Acts names Done result)
+      → Goes one mid (ActsBut rest names First (Ok a)) → Goes mid two (ActsBut rest names Second second) → Goes one two (ActsBut rest names Done result)
   and_then second result fails so first goes = record {
     from = λ new went.
         let later = goes.from new went in
@@ -91,12 +109,12 @@ module _ {A B C : Type 0} (names : List Path) (First : (old new : List Step) →
           sooner.0,
           sooner.1,
           record {
-            changes = changes_then names sooner.0 later.0 new sooner.2.changes later.2.changes;
+            changes = rest_then rest names sooner.0 later.0 new sooner.2.changes later.2.changes;
             cause = λ is.
-                let few = no_fewer names sooner.0 later.0 sooner.2.changes in
+                let few = no_fewer names sooner.0 later.0 (only rest names sooner.0 later.0 sooner.2.changes) in
                 let more = later.2.cause (fails is) in
                 omega arith;
-            does = so sooner.0 later.0 new sooner.2.does later.2.does sooner.2.changes later.2.changes;
+            does = so sooner.0 later.0 new sooner.2.does later.2.does (only rest names sooner.0 later.0 sooner.2.changes) (only rest names later.0 new later.2.changes);
           },
         );
   }
@@ -137,30 +155,30 @@ abbrev pub giving : {A : Type 0} → A → Result A TreeFault
 giving a = Ok a
 
 -- what stops is told
-pub stopped_as : {A B : Type 0} (names : List Path) (First : (old new : List Step) → A → Type 0) (Done : (old new : List Step) → B → Type 0) (why : TreeFault) (one two : List Step → Type 0)
-    → Goes one two (Acts names First (stopping A why)) → Goes one two (Acts names Done (stopping B why))
+pub stopped_as : {A B : Type 0} {rest : Rest} (names : List Path) (First : (old new : List Step) → A → Type 0) (Done : (old new : List Step) → B → Type 0) (why : TreeFault) (one two : List Step → Type 0)
+    → Goes one two (ActsBut rest names First (stopping A why)) → Goes one two (ActsBut rest names Done (stopping B why))
 stopped_as names First Done why one two goes = goes_as _ _ one two (λ p q acts. record { changes = acts.changes; cause = λ is. acts.cause (same why is); does = tt }) goes
   where
     same : {A B : Type 0} (why : TreeFault) → IsErrOf (stopping B why) fault.Failed → IsErrOf (stopping A why) fault.Failed
     same why is = let so : why ≡ fault.Failed = cc in ap (λ w. Err w) so
 
 -- one call that succeeds, and then another that stops
-pub then_stopped : {A B C : Type 0} (names : List Path) (First : (old new : List Step) → A → Type 0) (Second : (old new : List Step) → B → Type 0) (Done : (old new : List Step) → C → Type 0) (a : A) (why : TreeFault) (one mid two : List Step → Type 0)
-    → Goes one mid (Acts names First (giving a)) → Goes mid two (Acts names Second (stopping B why)) → Goes one two (Acts names Done (stopping C why))
+pub then_stopped : {A B C : Type 0} {rest : Rest} (names : List Path) (First : (old new : List Step) → A → Type 0) (Second : (old new : List Step) → B → Type 0) (Done : (old new : List Step) → C → Type 0) (a : A) (why : TreeFault) (one mid two : List Step → Type 0)
+    → Goes one mid (ActsBut rest names First (giving a)) → Goes mid two (ActsBut rest names Second (stopping B why)) → Goes one two (ActsBut rest names Done (stopping C why))
 then_stopped names First Second Done a why one mid two first goes =
     and_then names First Second Done a one mid two (Err why) (Err why) (λ is. let so : why ≡ fault.Failed = cc in ap (λ w. Err w) so) (λ p q r did none c d. tt) first goes
 
 -- one call that succeeds, and then another that does
-pub then_ok : {A B C : Type 0} (names : List Path) (First : (old new : List Step) → A → Type 0) (Second : (old new : List Step) → B → Type 0) (Done : (old new : List Step) → C → Type 0) (a : A) (b : B) (x : C) (one mid two : List Step → Type 0)
+pub then_ok : {A B C : Type 0} {rest : Rest} (names : List Path) (First : (old new : List Step) → A → Type 0) (Second : (old new : List Step) → B → Type 0) (Done : (old new : List Step) → C → Type 0) (a : A) (b : B) (x : C) (one mid two : List Step → Type 0)
     → ((p q r : List Step) → First p q a → Second q r b → ChangesOnly names p q → ChangesOnly names q r → Done p r x)
-    → Goes one mid (Acts names First (giving a)) → Goes mid two (Acts names Second (giving b)) → Goes one two (Acts names Done (giving x))
+    → Goes one mid (ActsBut rest names First (giving a)) → Goes mid two (ActsBut rest names Second (giving b)) → Goes one two (ActsBut rest names Done (giving x))
 then_ok names First Second Done a b x one mid two so first goes =
     and_then names First Second Done a one mid two (Ok b) (Ok x) (λ is. cc) so first goes
 
 -- one call that succeeds, and then one whose answer is handed on
-pub then_given : {A B : Type 0} (names : List Path) (First : (old new : List Step) → A → Type 0) (Second Done : (old new : List Step) → B → Type 0) (a : A) (result : Result B TreeFault) (one mid two : List Step → Type 0)
+pub then_given : {A B : Type 0} {rest : Rest} (names : List Path) (First : (old new : List Step) → A → Type 0) (Second Done : (old new : List Step) → B → Type 0) (a : A) (result : Result B TreeFault) (one mid two : List Step → Type 0)
     → ((p q r : List Step) (b : B) → First p q a → Second q r b → ChangesOnly names p q → ChangesOnly names q r → Done p r b)
-    → Goes one mid (Acts names First (giving a)) → Goes mid two (Acts names Second result) → Goes one two (Acts names Done result)
+    → Goes one mid (ActsBut rest names First (giving a)) → Goes mid two (ActsBut rest names Second result) → Goes one two (ActsBut rest names Done result)
 then_given names First Second Done a result one mid two so first goes =
     and_then names First Second Done a one mid two result result (λ is. is) (λ p q r did next c d. when_ok result (λ b second. so p q r b did second c d) next) first goes
   where
@@ -237,8 +255,8 @@ pub within_renamed : (from to : Path) → Within (to ∷ from ∷ []) (Renamed f
 within_renamed from to name none = rw (none.0, none.1.0) refl
 
 -- of more names
-pub goes_more : {T : Type 0} (few names : List Path) (Done : (old new : List Step) → T → Type 0) (result : Result T TreeFault) (one two : List Step → Type 0) → ((name : Path) → IsNoneOf name names → IsNoneOf name few) → Goes one two (Acts few Done result) → Goes one two (Acts names Done result)
-goes_more few names Done result one two more goes = goes_as _ _ one two (λ p q acts. record { changes = changes_more few names p q more acts.changes; cause = acts.cause; does = acts.does }) goes
+pub goes_more : {T : Type 0} {rest : Rest} (few names : List Path) (Done : (old new : List Step) → T → Type 0) (result : Result T TreeFault) (one two : List Step → Type 0) → ((name : Path) → IsNoneOf name names → IsNoneOf name few) → Goes one two (ActsBut rest few Done result) → Goes one two (ActsBut rest names Done result)
+goes_more {rest = rest} few names Done result one two more goes = goes_as _ _ one two (λ p q acts. record { changes = rest_more rest few names p q more acts.changes; cause = acts.cause; does = acts.does }) goes
 
 -- folders are made
 folders_spare : (name : Path) (made : List Step) → AreOfFolders made → Spares name made
@@ -265,12 +283,12 @@ goes_folders names result one two goes = goes_as _ _ one two (λ p q makes. reco
     any (Err why) = tt
 
 -- of more names, and what was done of few
-pub goes_within : {T : Type 0} (few names : List Path) (Done : (old new : List Step) → T → Type 0) (result : Result T TreeFault) (one two : List Step → Type 0) → ((name : Path) → IsNoneOf name names → IsNoneOf name few) → Goes one two (Acts few Done result)
-    → Goes one two (Acts names (λ old new answer. Done old new answer × ChangesOnly few old new) result)
-goes_within few names Done result one two more goes = goes_as _ _ one two (λ p q acts. record {
-  changes = changes_more few names p q more acts.changes;
+pub goes_within : {T : Type 0} {rest : Rest} (few names : List Path) (Done : (old new : List Step) → T → Type 0) (result : Result T TreeFault) (one two : List Step → Type 0) → ((name : Path) → IsNoneOf name names → IsNoneOf name few) → Goes one two (ActsBut rest few Done result)
+    → Goes one two (ActsBut rest names (λ old new answer. Done old new answer × ChangesOnly few old new) result)
+goes_within {rest = rest} few names Done result one two more goes = goes_as _ _ one two (λ p q acts. record {
+  changes = rest_more rest few names p q more acts.changes;
   cause = acts.cause;
-  does = beside (λ x. Done p q x) result acts.changes acts.does;
+  does = beside (λ x. Done p q x) result (only rest few p q acts.changes) acts.does;
 }) goes
   where
     beside : {T C : Type 0} (P : T → Type 0) (r : Result T TreeFault) → C → IfOk r P → IfOk r (λ x. P x × C)

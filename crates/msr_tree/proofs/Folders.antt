@@ -1,9 +1,9 @@
 -- What is done with files leaves the folders of a tree.
-use Rattle.std.proofs.Common.{◌≡◌, ⊎_elim, ℕ, zero, suc, List, [], ◌∷◌, ◌++◌, refl, ◌∙◌, sym, subst, append_assoc, take, reverse, Result, Ok, Err}
+use Rattle.std.proofs.Common.{◌≡◌, ⊎_elim, ℕ, zero, suc, List, [], ◌∷◌, ◌++◌, refl, ◌∙◌, sym, subst, take, reverse, Result, Ok, Err}
 use Rattle.std.proofs.lemmas.List.{reverse-append}
 use Rattle.msr_tree.specs.Calls.{DoesStep, PerhapsDone, Stops, Tells}
 use Rattle.msr_tree.specs.Folders.{AreOfFiles, IsOfFile, LeavesFolders}
-use Rattle.msr_tree.specs.Steps.{Failed, FileStored, FolderMade, FolderStored, Linked, Made, Path, Removed, Renamed, Step, Unlisted}
+use Rattle.msr_tree.specs.Steps.{Failed, FileStored, FolderMade, FolderStored, Linked, Made, Removed, Renamed, Step, Unlisted}
 use Rattle.msr_tree.specs.declared.tree.TreeFault.{TreeFault}
 use Rattle.msr_tree.specs.declared.tree.TreeFault.TheVariants as fault
 

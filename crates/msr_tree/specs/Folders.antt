@@ -25,8 +25,22 @@ pub record ChangesFiles (names : List Path) (old new : List Step) : Type 0 where
   pub changes : ChangesOnly names old new
   pub folders : LeavesFolders old new
 
--- The same, and it tells of a failure only if a call has failed; and if it succeeds, this is done.
-pub record ActsOnFiles {T : Type 0} (names : List Path) (Done : (old new : List Step) → T → Type 0) (result : Result T TreeFault) (old new : List Step) : Type 0 where
-  pub changes : ChangesFiles names old new
+-- what a function leaves as it is: all names but some, or the folders, too
+pub data Rest : Type 0 where
+  Names : Rest
+  NamesAndFolders : Rest
+
+abbrev pub Changes : Rest → List Path → (old new : List Step) → Type 0
+Changes Names names old new = ChangesOnly names old new
+Changes NamesAndFolders names old new = ChangesFiles names old new
+
+-- It changes what these names lead to, and leaves the rest; it tells of a failure only if a call has failed; and if it
+-- succeeds, this is done.
+pub record ActsBut {T : Type 0} (rest : Rest) (names : List Path) (Done : (old new : List Step) → T → Type 0) (result : Result T TreeFault) (old new : List Step) : Type 0 where
+  pub changes : Changes rest names old new
   pub cause : IsErrOf result Failed → failures old < failures new
   pub does : IfOk result (λ answer. Done old new answer)
+
+-- a function over files alone
+abbrev pub ActsOnFiles : {T : Type 0} → List Path → (Done : (old new : List Step) → T → Type 0) → Result T TreeFault → (old new : List Step) → Type 0
+ActsOnFiles names Done result = ActsBut NamesAndFolders names Done result

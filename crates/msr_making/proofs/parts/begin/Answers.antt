@@ -1,5 +1,5 @@
 use Rattle.std.proofs.Common.{◌∷◌, []}
-use Rattle.msr_tree.proofs.Filing.{goes_more, then_ok, then_stopped}
+use Rattle.msr_tree.proofs.Acting.{goes_more, then_ok, then_stopped}
 use Rattle.std.proofs.lemmas.Result.{err_from_is_err_and}
 use Rattle.msr_making.specs.Parts.{AreBegun, IsBegun, part_paths}
 use Rattle.msr_making.specs.declared.parts.Parts.{Parts}

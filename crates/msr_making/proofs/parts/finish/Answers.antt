@@ -1,5 +1,5 @@
 use Rattle.std.proofs.lemmas.Result.{err_from_is_err_and}
-use Rattle.msr_tree.proofs.Filing.{goes_more, goes_within, stopped_as, then_given}
+use Rattle.msr_tree.proofs.Acting.{goes_more, goes_within, stopped_as, then_given}
 use Rattle.std.proofs.Common.{rules, ◌≡◌, ◌∷◌, []}
 use Rattle.msr_making.specs.Parts.{AreFinished, LeadsToTaken, part_paths}
 use Rattle.msr_making.proofs.Begun.{goes_finished, taken_kept}
