@@ -47,17 +47,17 @@ pub fn is_gone<R: Files>(rt: &R, path: &str) -> bool {
 pub(crate) enum Look {
     Found(Metadata),
     /// Nothing stands there, or a link that leads nowhere.
-    Nothing(io::Error),
+    Nothing,
     /// The system does not tell.
-    Unknown(io::Error),
+    Unknown,
 }
 
 impl Look {
     pub(crate) fn at<R: Files>(rt: &R, path: &str) -> Look {
         match fs::metadata(rt, path) {
             Ok(metadata) => Look::Found(metadata),
-            Err(error) if tells_none(error.kind()) => Look::Nothing(error),
-            Err(error) => Look::Unknown(error),
+            Err(error) if tells_none(error.kind()) => Look::Nothing,
+            Err(_) => Look::Unknown,
         }
     }
 }

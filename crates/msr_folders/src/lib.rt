@@ -18,7 +18,7 @@ pub use faults::{ToldFault, fault_json};
 pub use files::{FileId, is_gone, settle};
 pub use found::WalkFound;
 pub use lock::{Lock, LockFile};
-pub use paths::{JsonText, Shown, ended, folder_of, join, shown_path};
+pub use paths::{JsonText, Shown, ended, folder_of, join, shown_path, told_folder};
 pub use places::{Place, folders_overlap, place_of};
 pub use stored::make_stored;
 pub use totals::{Total, Totals};

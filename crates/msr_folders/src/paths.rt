@@ -1,7 +1,7 @@
 //! The paths of folders and files.
 ghost use Rattle.std.specs.Prelude.{◌≡◌, IfOk};
 ghost use Rattle.std.specs.String.{string_bytes};
-ghost use Rattle.msr_folders.specs.Paths.{below, ended, folder_of, is_marked, joined, shown_path};
+ghost use Rattle.msr_folders.specs.Paths.{below, ended, folder_of, is_marked, joined, shown_path, told_folder};
 
 use std::alloc::{AllocError, Global};
 use std::fmt;
@@ -48,6 +48,13 @@ pub fn folder_of(path: &str) -> &str
         Some((folder, _)) => folder,
         None => "",
     }
+}
+
+/// The path of a folder of an archive as it is told: the archive's own is `.`.
+pub fn told_folder(folder: &str) -> &str
+    ensures { result.now ≡ told_folder folder.now }
+{
+    if folder.is_empty() { "." } else { folder }
 }
 
 /// A path, or the name of another file, as it is printed: a line feed in a name would begin another line.

@@ -61,8 +61,8 @@ fn nearest_folder<'a, R: Files>(rt: &R, path: &'a str) -> Option<Folder<'a>> {
                 path: place,
                 id: FileId::of(&metadata),
             }),
-            Look::Found(_) | Look::Nothing(_) => {}
-            Look::Unknown(_) => return None,
+            Look::Found(_) | Look::Nothing => {}
+            Look::Unknown => return None,
         }
         place = above(place);
     }

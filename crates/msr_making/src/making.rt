@@ -72,13 +72,13 @@ fn prepare_day<T: Tree, H: Hold>(
     input: &str,
     sight: Sight,
     files: &DayFiles,
-    hold: &H,
+    hold: &mut H,
     asked: &DayOptions,
 ) -> Result<Repacked, Stop>
     ensures told { IsRepackedAs asked.now result }
     ensures goes { Goes (T.went tree.old) (T.went tree.new) (PreparesDay input.now sight files.now asked.now result) }
 {
-    let repacked = write_day(tree, alloc, input, sight, files, asked)?;
+    let repacked = write_day(tree, alloc, input, sight, files, hold, asked)?;
     match verify_asked(tree, alloc, input, files, asked) {
         Ok(()) => {}
         Err(stop) => return Err(stop),
@@ -122,7 +122,7 @@ fn make_day<T: Tree, H: Hold>(
     input: &str,
     sight: Sight,
     files: &DayFiles,
-    hold: &H,
+    hold: &mut H,
     is_free: bool,
     asked: &DayOptions,
 ) -> Making
@@ -151,7 +151,7 @@ fn do_found<T: Tree, H: Hold>(
     input: &str,
     look: &DayLook,
     files: &DayFiles,
-    hold: &H,
+    hold: &mut H,
     was_left: bool,
     asked: &DayOptions,
 ) -> DayEnd
@@ -176,7 +176,7 @@ fn do_found<T: Tree, H: Hold>(
         },
         Err(stop) => match stop {
             Stop::Refused(why) => {
-                let end = give_up(tree, input, files, hold, was_left, why);
+                let end = give_up(tree, input, files, &*hold, was_left, why);
                 DayEnd {
                     outcome: end.outcome,
                     left: end.left,
@@ -200,7 +200,7 @@ pub fn do_day<T: Tree, H: Hold>(
     alloc: Global,
     input: &str,
     files: &DayFiles,
-    hold: &H,
+    hold: &mut H,
     was_left: bool,
     asked: &DayOptions,
 ) -> DayEnd

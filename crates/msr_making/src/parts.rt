@@ -6,6 +6,7 @@ ghost use Rattle.msr_tree.specs.Calls.{Goes};
 ghost use Rattle.msr_making.specs.Parts.{AreBegun, AreFinished, LeadsToTaken, IsBegun, IsUnopened, called_told, part_paths};
 
 use crate::answer::{DayFault, Stop};
+use crate::hold::Hold;
 use msr_devices::Sink;
 use msr_naming::{DayFiles, NewName};
 use msr_options::{Side, Unopened};
@@ -68,13 +69,18 @@ pub(crate) fn begin_part<T: Tree>(
 }
 
 /// Begins the files of a day, beside their names.
-pub(crate) fn begin<T: Tree>(tree: &mut T, files: &DayFiles) -> Result<Parts<T::Writer>, Stop>
+pub(crate) fn begin<T: Tree, H: Hold>(
+    tree: &mut T,
+    files: &DayFiles,
+    hold: &mut H,
+) -> Result<Parts<T::Writer>, Stop>
     ensures count { IfOk result (λ parts. CanCountCall (T.Writer.device parts.records) × CanCountCall (T.Writer.device parts.report)) }
     ensures refuses { IfErr result IsUnopened }
     ensures goes { Goes (T.went tree.old) (T.went tree.new)
         (ActsOnFiles (part_paths files.now) (AreBegun (λ writer. T.Writer.device writer)) (called_told result)) }
 {
     let records = begin_part(tree, Side::Records, &files.records)?;
+    hold.make_folder();
     let report = begin_part(tree, Side::Report, &files.report)?;
     Ok(Parts { records, report })
 }

@@ -1,4 +1,4 @@
-//! The part of a day file that is under contract: from a source to two sinks.
+//! The bytes of a day: from a source to two sinks, and back.
 ghost use Rattle.std.specs.Prelude.{◌≡◌, ◌↔◌, ◌⊎◌, ◌+◌, [], false, ◌*◌, IfOk, IfSome, IsErrOf};
 ghost use Rattle.msr_devices.specs.Device.{CanCountCall, HasFailed};
 ghost use Rattle.msr_tree.specs.Calls.{Goes};

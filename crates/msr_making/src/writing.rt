@@ -5,6 +5,7 @@ ghost use Rattle.msr_making.specs.Parts.{IsUnopened};
 ghost use Rattle.msr_making.specs.Writing.{RefusesNothing, RepacksParts, WasRepacked, WritesDay, WritesFrom};
 
 use crate::answer::{DayFault, Repacked, Stop};
+use crate::hold::Hold;
 use crate::looks::Sight;
 use crate::parts::{Parts, begin, called, finish};
 use crate::repacking::repack_day_of;
@@ -50,19 +51,20 @@ fn repack_to<S: Source, W: Sink>(
 }
 
 /// Repacks what a source has to records and report, beside their names.
-fn write_from<T: Tree, S: Source>(
+fn write_from<T: Tree, S: Source, H: Hold>(
     tree: &mut T,
     alloc: Global,
     source: &mut S,
     bytes_read: u64,
     files: &DayFiles,
+    hold: &mut H,
     asked: &DayOptions,
 ) -> Result<Repacked, Stop>
     requires { CanCountCall (S.device source.old) }
     ensures told { WasRepacked asked.now result }
     ensures goes { Goes (T.went tree.old) (T.went tree.new) (WritesFrom (S.device source.old) files.now asked.now bytes_read result) }
 {
-    let mut parts = begin(tree, files)?;
+    let mut parts = begin(tree, files, hold)?;
     let repacked = repack_to(alloc, source, bytes_read, &mut parts, asked)?;
     match finish(tree, files, parts) {
         Ok(()) => Ok(repacked),
@@ -73,12 +75,13 @@ fn write_from<T: Tree, S: Source>(
 
 /// Repacks the day's own file, of which a look told, to records and report, beside their names. It is opened before any file
 /// is made.
-pub(crate) fn write_day<T: Tree>(
+pub(crate) fn write_day<T: Tree, H: Hold>(
     tree: &mut T,
     alloc: Global,
     input: &str,
     sight: Sight,
     files: &DayFiles,
+    hold: &mut H,
     asked: &DayOptions,
 ) -> Result<Repacked, Stop>
     ensures told { WasRepacked asked.now result }
@@ -90,7 +93,7 @@ pub(crate) fn write_day<T: Tree>(
     let opened = tree.open_found(input, &facts);
     let why = tree.reason();
     let mut source = called(Side::File, opened, why)?;
-    write_from(tree, alloc, &mut source, facts.bytes, files, asked)
+    write_from(tree, alloc, &mut source, facts.bytes, files, hold, asked)
 }
 
 /// Why a file is not opened that a look did not find.

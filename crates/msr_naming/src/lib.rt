@@ -10,4 +10,4 @@ mod naming;
 pub use batch::{Waiting, name_stamps};
 pub use fallback::{Naming, clear_files, name_files};
 pub use files::{DayFiles, Name, NewName};
-pub use naming::{Act, Stopped, perform, records_without_a_report};
+pub use naming::{Act, Stopped, records_without_a_report};

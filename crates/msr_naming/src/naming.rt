@@ -25,7 +25,7 @@ pub struct Stopped {
 }
 
 /// Does what is to be done in order, up to what fails first.
-pub fn perform<T: Tree>(tree: &mut T, files: &DayFiles, acts: &[Act]) -> Result<(), Stopped>
+pub(crate) fn perform<T: Tree>(tree: &mut T, files: &DayFiles, acts: &[Act]) -> Result<(), Stopped>
     ensures { Goes (T.went tree.old) (T.went tree.new) (Performs (map (act_step files.now) acts.now) (told result)) }
 {
     for act in acts {

@@ -5,7 +5,6 @@ ghost use Rattle.msr_folders.proofs.ReadingLemmas.{none_holds, reading_laws};
 ghost use Rattle.msr_sds.specs.declared.SdsFault.{SdsFault};
 ghost use Rattle.msr_tree.specs.Reads.{OnlyReads};
 ghost use Rattle.msr_verify.specs.Entries.{IsJudgedEntry, IsJudgementOf, IsVerifyTally, JudgedEntry};
-ghost use Rattle.msr_folders.specs.Paths.{told_folder};
 ghost use Rattle.msr_verify.specs.Files.{IsToldOfOut, IsToldOfRoot, other_judgement};
 ghost use Rattle.msr_verify.specs.Lines.{IsToldLine};
 ghost use Rattle.msr_verify.specs.Walk.{StopsTellingJudged, TellsEntries};
@@ -14,7 +13,7 @@ use crate::day::{judge_day, may_have};
 use crate::judgement::{Judgement, Refusal};
 use crate::tally::VerifyTally;
 use msr_devices::{DeviceFault, Sink, write_all};
-use msr_folders::{EntryVisitor, join};
+use msr_folders::{EntryVisitor, join, told_folder};
 use msr_options::{Folders, Telling};
 use msr_sds::{SdsFault, SdsName};
 use msr_tree::{FileKind, Tree};
@@ -42,13 +41,6 @@ fn tell<O: Sink>(
     write_all(out, line.as_bytes())?;
     tally.add(judgement);
     Ok(())
-}
-
-/// The path of a folder as it is told.
-fn told_folder(folder: &str) -> &str
-    ensures { result.now ≡ told_folder folder.now }
-{
-    if folder.is_empty() { "." } else { folder }
 }
 
 /// What is told of what is no day.

@@ -110,7 +110,7 @@ impl<K: Drop> Batch<K> {
         }
     }
 
-    /// Notes the folder of the days that are to wait.
+    /// Notes the folder of the days that are to wait, and tells whether memory allowed it.
     fn begin(&mut self, alloc: Global, folder: &str) -> bool
         ensures { self.new.days ≡ self.old.days }
     {

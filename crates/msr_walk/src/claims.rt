@@ -1,4 +1,5 @@
-//! What a walk has to do with other processes. They change names of claims and folders alone, of which no clause speaks.
+//! What a walk has to do with other processes. These calls change names of claims and folders alone, of which no clause
+//! speaks.
 use msr_options::Folders;
 use msr_tree::TreeFault;
 use std::alloc::{AllocError, Global};

@@ -18,6 +18,7 @@ use msr_tree::Tree;
 use std::alloc::{AllocError, Global};
 use std::io;
 use std::marker::Model;
+use std::mem;
 
 /// The names of the files of a day.
 #[derive(Drop)]
@@ -53,16 +54,36 @@ pub(crate) struct Work<'a, C> {
     pub asked: DayOptions,
 }
 
-/// A day that this walk has.
+/// A day that this walk has, and the folder of its report.
 #[derive(Drop)]
 struct Held<'a, C: Claims> {
     claims: &'a C,
     claim: &'a C::Claim,
+    alloc: Global,
+    folder: &'a str,
+    /// The folder of a report that was made last.
+    made: String,
+    /// Why this one was not made, if the system gave a reason.
+    unmade: Option<io::Error>,
 }
 
 impl<C: Claims> Hold for Held<'_, C> {
     fn is_held(&self) -> bool {
         self.claims.is_ours(self.claim)
+    }
+
+    fn make_folder(&mut self) {
+        if self.made.as_str() == self.folder {
+            return;
+        }
+        match self.claims.make_folder(self.folder) {
+            Ok(()) => {
+                if let Ok(name) = String::from_str(self.alloc, self.folder) {
+                    self.made = name;
+                }
+            }
+            Err(why) => self.unmade = Some(why),
+        }
     }
 }
 
@@ -77,6 +98,8 @@ impl<C: Claims> Hold for Unclaimed<'_, C> {
     fn is_held(&self) -> bool {
         self.claims.is_free(self.path)
     }
+
+    fn make_folder(&mut self) {}
 }
 
 /// A day that this walk has, and whether a walk was killed that had it.
@@ -140,39 +163,18 @@ fn sweep<T: Tree>(tree: &mut T, files: &DayFiles) -> bool
     records & report & stamp
 }
 
-/// Makes the folder of a report, if that was not the last one. Gives the system's reason if it cannot.
-fn make_folder<C: Claims>(
-    claims: &C,
-    alloc: Global,
-    report: &str,
-    made: &mut String,
-) -> Option<io::Error> {
-    let folder = folder_of(report);
-    if made.as_str() == folder {
-        return None;
-    }
-    match claims.make_folder(folder) {
-        Ok(()) => {
-            if let Ok(name) = String::from_str(alloc, folder) {
-                *made = name;
-            }
-            None
-        }
-        Err(why) => Some(why),
-    }
-}
-
 /// What became of a day for whose report there is no folder for that reason.
 fn because(outcome: DayOutcome, why: Option<io::Error>) -> DayOutcome
     ensures { IsSameBut outcome result }
 {
     match outcome {
-        DayOutcome::Refused(DayFault::CannotOpen(unopened)) => {
-            DayOutcome::Refused(DayFault::CannotOpen(Unopened {
-                side: unopened.side,
-                why: why.or(unopened.why),
-            }))
-        }
+        DayOutcome::Refused(DayFault::CannotOpen(Unopened {
+            side: Side::Report,
+            why: told,
+        })) => DayOutcome::Refused(DayFault::CannotOpen(Unopened {
+            side: Side::Report,
+            why: why.or(told),
+        })),
         other => other,
     }
 }
@@ -333,21 +335,27 @@ impl Day {
             work.claims.release(&claim);
             return Err(AllocError);
         };
-        let unmade = make_folder(work.claims, work.alloc, self.report.as_str(), made);
-        let held = Held {
+        let mut held = Held {
             claims: work.claims,
             claim: &claim,
+            alloc: work.alloc,
+            folder: folder_of(self.report.as_str()),
+            made: mem::replace(made, String::new(work.alloc)),
+            unmade: None,
         };
         let end = do_day(
             tree,
             work.alloc,
             self.input.as_str(),
             &files,
-            &held,
+            &mut held,
             was_left,
             &work.asked,
         );
-        let outcome = because(end.outcome?, unmade);
+        let Held {
+            made: last, unmade, ..
+        } = held;
+        *made = last;
         let waiting = match end.left {
             Left::Stamp => Some(Waiting { files, claim }),
             Left::Nothing => {
@@ -356,6 +364,7 @@ impl Day {
             }
             Left::Parts => None,
         };
+        let outcome = because(end.outcome?, unmade);
         Ok(Handled { outcome, waiting })
     }
 
