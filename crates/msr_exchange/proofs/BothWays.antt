@@ -1,8 +1,8 @@
 -- What both ways say of a day: the one file has its name in ROOT, and the other comes.
-use Rattle.std.proofs.Common.{[], ◌∷◌, Bool, ℕ, List, Some, IsSome, IfSome, Result, true, false, ◌≡◌, ◌≢◌, ◌∙◌, sym, subst}
+use Rattle.std.proofs.Common.{[], ◌∷◌, Bool, ℕ, List, Some, IfSome, Result, true, false, ◌≡◌, ◌≢◌, ◌∙◌, sym, subst}
 use Rattle.msr_tree.specs.Acts.{Acts}
 use Rattle.msr_tree.specs.Calls.{Goes, IsSameAs, Tells}
-use Rattle.msr_tree.specs.Steps.{AtEachMoment, ChangesOnly, IsNoneOf, Leaves, Path, Step, now, seen}
+use Rattle.msr_tree.specs.Steps.{AtEachMoment, ChangesOnly, IsNoneOf, Leaves, Path, Step, seen}
 use Rattle.msr_tree.specs.declared.tree.TreeFault.{TreeFault}
 use Rattle.msr_tree.proofs.Acting.{giving, goes_same, stopping, then_ok, then_stopped}
 use Rattle.msr_tree.proofs.Changes.{leaves_kept, seen_kept}
@@ -64,32 +64,29 @@ module _ (names : Names) (one other : Place) where
     same_stopped why looked = asked_stopped why before after
         (then_stopped {A = Bool} {B = Bool} {C = Bool} [] (Anything {T = Bool}) _ (Anything {T = Bool}) x why before mid after first (looks (stopping Bool why) looked))
 
+    looked_then : (Next : (a b : List ℕ) → List Step → Type 0) (y : Bool) (result : Result Told TreeFault) (end : List Step → Type 0)
+        → ((a b : List ℕ) (p q : List Step) → AreKept names one other a b p → IsSameAs (path_at names Day) (path_at names other) q y → ChangesOnly [] p q → Next a b q)
+        → Looked (giving y) → Goes after end (Both Next result) → Goes before end (Both (AreKept names one other) result)
+    looked_then Next y result end next looked goes =
+        let Shown : (old new : List Step) → Bool → Type 0 = λ old new z. IsSameAs (path_at names Day) (path_at names other) new z in
+        still_then (AreKept names one other) (λ a b past kept. kept.keeps) Shown Next y result before after end next
+        (then_ok {A = Bool} {B = Bool} {C = Bool} [] (Anything {T = Bool}) _ Shown x y y before mid after
+        (λ p q r any same u v. subst (λ s. Shown s s y) (sym same.0) same.1) first (looks (giving y) looked)) goes
+
     pub same_then : (y : Bool) (result : Result Told TreeFault) (end : List Step → Type 0) → y ≡ true
         → Looked (giving y) → Goes after end (Both (HaveOneContent names one other) result) → Goes before end (Both (AreKept names one other) result)
-    same_then y result end is looked goes =
-        let d = path_at names Day in
-        let t = path_at names other in
-        let both = then_ok {A = Bool} {B = Bool} {C = Bool} [] (Anything {T = Bool}) _ (λ old new z. z ≡ true → seen new d ≡ seen new t) x y y before mid after
-        (λ p q r any same u v. λ yes. subst (λ s. seen s d ≡ seen s t) (sym same.0) (same.1.yes yes)) first (looks (giving y) looked) in
-        still_then (AreKept names one other) (λ a b past kept. kept.keeps) _ (HaveOneContent names one other) y result before after end
-        (λ a b p q kept same ch. record {
-          kept = record {
-            keeps = at_end (K a b) p q (quiet_moments names one other [] a b p q tt tt tt kept.keeps ch);
-            comes = subst (λ f. IfSome f (λ bytes. bytes ≡ b)) (sym (seen_kept [] t p q tt ch)) kept.comes;
-          };
-          same = same is;
-        }) both goes
+    same_then y result end is looked goes = looked_then (HaveOneContent names one other) y result end (λ a b p q kept same ch. record {
+      kept = record {
+        keeps = at_end (K a b) p q (quiet_moments names one other [] a b p q tt tt tt kept.keeps ch);
+        comes = subst (λ f. IfSome f (λ bytes. bytes ≡ b)) (sym (seen_kept [] (path_at names other) p q tt ch)) kept.comes;
+      };
+      same = same.yes is;
+    }) looked goes
 
     pub apart_then : (y : Bool) (result : Result Told TreeFault) (end : List Step → Type 0) → y ≡ false
         → Looked (giving y) → Goes after end (Both (AreSeenApart names one other) result) → Goes before end (Both (AreKept names one other) result)
     apart_then y result end is looked goes =
-        let d = path_at names Day in
-        let t = path_at names other in
-        let both = then_ok {A = Bool} {B = Bool} {C = Bool} [] (Anything {T = Bool}) _ (λ old new z. IsSome (now new t) × (z ≡ false → seen new d ≢ seen new t)) x y y before mid after
-        (λ p q r any same u v. (subst (λ s. IsSome (now s t)) (sym same.0) same.1.has_other, λ no. subst (λ s. seen s d ≢ seen s t) (sym same.0) (same.1.no no)))
-        first (looks (giving y) looked) in
-        still_then (AreKept names one other) (λ a b past kept. kept.keeps) _ (AreSeenApart names one other) y result before after end
-        (λ a b p q kept differ ch. seen_apart names one other a b p q kept ch differ.0 (differ.1 is)) both goes
+        looked_then (AreSeenApart names one other) y result end (λ a b p q kept same ch. seen_apart names one other a b p q kept ch same.has_other (same.no is)) looked goes
 
   -- The day's file is put on the disk.
   abbrev Settled : (place : Place) → Result (Unit {0}) TreeFault → (old new : List Step) → Type 0
