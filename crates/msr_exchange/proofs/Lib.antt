@@ -1,5 +1,6 @@
 pub mod Alone
 pub mod Back
+pub mod BothWays
 pub mod Making
 pub mod Moved
 pub mod NameLemmas

@@ -1,14 +1,5 @@
-use Rattle.std.proofs.Common.{[], Bool, IsSome, IfSome, true, false, ◌≡◌, ◌≢◌, sym, subst}
 use Rattle.std.proofs.lemmas.Result.{err_from_is_err_and}
-use Rattle.msr_tree.specs.Steps.{now, seen}
-use Rattle.msr_tree.proofs.Acting.{giving, goes_same, then_ok, then_stopped}
-use Rattle.msr_tree.proofs.Changes.{seen_kept}
-use Rattle.msr_exchange.specs.Moves.{Anything}
-use Rattle.msr_exchange.specs.Phases.{HaveOneContent, AreSeenApart}
-use Rattle.msr_exchange.specs.Promise.{AreKept, KeepsBoth}
-use Rattle.msr_tree.proofs.Moments.{at_end}
-use Rattle.msr_exchange.proofs.Alone.{all_end, all_stopped, all_then}
-use Rattle.msr_exchange.proofs.Phases.{quiet_moments, says_nothing, seen_apart}
+use Rattle.msr_exchange.proofs.BothWays.{apart_then, asked_stopped, asked_told, same_stopped, same_then}
 use Rattle.msr_exchange.specs.declared.told.Told.TheVariants as told
 use Rattle.msr_exchange.specs.declared.names.Place.TheVariants.{Original, Records}
 use Rattle.msr_exchange.proofs.restore.change_back.Goals as goal
@@ -16,48 +7,20 @@ use Rattle.msr_exchange.proofs.restore.change_back.Goals as goal
 pub returns-in_err-look_alike : goal.returns-in_err-look_alike
 returns-in_err-look_alike g c =
     let p = err_from_is_err_and c.from_residual.result c.from_residual.ensures.1 in
-    let names = c.args.names.now in
-    rw (p.1, p.2) (all_stopped names Records Original [] (AreKept names Records Original) (λ n none. tt)
-    (λ a b p q kept ch. quiet_moments names Records Original [] a b p q tt tt tt kept.keeps ch) tt tt (Anything {T = Bool}) _ _ _ c.in_err-look_alike.ensures)
+    rw (p.1, p.2) (asked_stopped c.args.names.now Records Original _ _ _ c.in_err-look_alike.ensures)
 
 pub returns-then-not-branch : goal.returns-then-not-branch
-returns-then-not-branch g c =
-    let names = c.args.names.now in
-    all_end names Records Original [] (AreKept names Records Original) (λ n none. tt)
-    (λ a b p q kept ch. quiet_moments names Records Original [] a b p q tt tt tt kept.keeps ch) tt tt (Anything {T = Bool}) (giving c.in_ok-look_alike.field-0) (giving (told.Refused _)) _ _ (λ is. cc)
-    (λ a b p q kept did ch. says_nothing names Records a b q (told.Refused _) (λ is. cc) (λ is. cc)) c.in_ok-look_alike.ensures
+returns-then-not-branch g c = asked_told c.args.names.now Records Original c.in_ok-look_alike.field-0 (told.Refused _) _ _ (λ is. cc) (λ is. cc) c.in_ok-look_alike.ensures
 
 pub returns-in_err-is_same : goal.returns-in_err-is_same
 returns-in_err-is_same g c =
     let p = err_from_is_err_and c.from_residual-in_err-is_same.result c.from_residual-in_err-is_same.ensures.1 in
-    let names = c.args.names.now in
-    let second = goes_same [] _ _ names.day names.original _ _ _ c.at.ensures c.at-2.ensures c.in_err-is_same.ensures in
-    let both = then_stopped {A = Bool} {B = Bool} {C = Bool} [] (Anything {T = Bool}) _ (Anything {T = Bool}) c.in_ok-look_alike.field-0 _ _ _ _ c.in_ok-look_alike.ensures second in
-    rw (p.1, p.2) (all_stopped names Records Original [] (AreKept names Records Original) (λ n none. tt)
-    (λ a b p q kept ch. quiet_moments names Records Original [] a b p q tt tt tt kept.keeps ch) tt tt (Anything {T = Bool}) _ _ _ both)
+    rw (p.1, p.2) (same_stopped c.args.names.now Records Original c.in_ok-look_alike.field-0 _ _ _ _ _ c.at.ensures c.at-2.ensures c.in_ok-look_alike.ensures _ c.in_err-is_same.ensures)
 
 pub returns-then-branch : goal.returns-then-branch
 returns-then-branch g c =
-    let names = c.args.names.now in
-    let second = goes_same [] _ _ names.day names.original _ _ _ c.at.ensures c.at-2.ensures c.in_ok-is_same.ensures in
-    let both = then_ok {A = Bool} {B = Bool} {C = Bool} [] (Anything {T = Bool}) _ (λ old new x. x ≡ true → seen new names.day ≡ seen new names.original) c.in_ok-look_alike.field-0 c.in_ok-is_same.field-0 c.in_ok-is_same.field-0 _ _ _
-    (λ p q r any same x y. λ is. subst (λ s. seen s names.day ≡ seen s names.original) (sym same.0) (same.1.yes is)) c.in_ok-look_alike.ensures second in
-    all_then names Records Original [] (AreKept names Records Original) (λ n none. tt)
-    (λ a b p q kept ch. quiet_moments names Records Original [] a b p q tt tt tt kept.keeps ch) tt tt _ (HaveOneContent names Records Original) c.in_ok-is_same.field-0 _ _ _ _
-    (λ a b p q kept same ch. record {
-      kept = record {
-        keeps = at_end (KeepsBoth names Records a Original b) p q (quiet_moments names Records Original [] a b p q tt tt tt kept.keeps ch);
-        comes = subst (λ f. IfSome f (λ bytes. bytes ≡ b)) (sym (seen_kept [] names.original p q tt ch)) kept.comes;
-      };
-      same = same c.if-branch.true;
-    }) both c.forget_same.ensures
+    same_then c.args.names.now Records Original c.in_ok-look_alike.field-0 _ _ _ _ _ c.at.ensures c.at-2.ensures c.in_ok-look_alike.ensures c.in_ok-is_same.field-0 _ _ c.if-branch.true c.in_ok-is_same.ensures c.forget_same.ensures
 
 pub returns : goal.returns
 returns g c =
-    let names = c.args.names.now in
-    let second = goes_same [] _ _ names.day names.original _ _ _ c.at.ensures c.at-2.ensures c.in_ok-is_same.ensures in
-    let both = then_ok {A = Bool} {B = Bool} {C = Bool} [] (Anything {T = Bool}) _ (λ old new x. IsSome (now new names.original) × (x ≡ false → seen new names.day ≢ seen new names.original)) c.in_ok-look_alike.field-0 c.in_ok-is_same.field-0 c.in_ok-is_same.field-0 _ _ _
-    (λ p q r any same x y. (subst (λ s. IsSome (now s names.original)) (sym same.0) same.1.has_other, λ is. subst (λ s. seen s names.day ≢ seen s names.original) (sym same.0) (same.1.no is))) c.in_ok-look_alike.ensures second in
-    all_then names Records Original [] (AreKept names Records Original) (λ n none. tt)
-    (λ a b p q kept ch. quiet_moments names Records Original [] a b p q tt tt tt kept.keeps ch) tt tt _ (AreSeenApart names Records Original) c.in_ok-is_same.field-0 _ _ _ _
-    (λ a b p q kept differ ch. seen_apart names Records Original a b p q kept ch differ.0 (differ.1 c.if-branch.false)) both c.settle_both.ensures
+    apart_then c.args.names.now Records Original c.in_ok-look_alike.field-0 _ _ _ _ _ c.at.ensures c.at-2.ensures c.in_ok-look_alike.ensures c.in_ok-is_same.field-0 _ _ c.if-branch.false c.in_ok-is_same.ensures c.settle_both.ensures
