@@ -67,13 +67,18 @@ struct Held<'a, C: Claims> {
     unmade: Option<io::Error>,
 }
 
+/// Whether a path is that of the folder. Each has a lifetime of its own, which the proof of a comparison in place lacks.
+fn is_folder(path: &str, folder: &str) -> bool {
+    path == folder
+}
+
 impl<C: Claims> Hold for Held<'_, C> {
     fn is_held(&self) -> bool {
         self.claims.is_ours(self.claim)
     }
 
     fn make_folder(&mut self) {
-        if self.made.as_str() == self.folder {
+        if is_folder(self.made.as_str(), self.folder) {
             return;
         }
         match self.claims.make_folder(self.folder) {

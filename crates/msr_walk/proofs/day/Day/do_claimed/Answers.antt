@@ -3,6 +3,7 @@ use Rattle.std.proofs.lemmas.Result.{err_from_is_err_and}
 use Rattle.msr_walk.proofs.Days.{does_named, does_work, handles_done, handles_works}
 use Rattle.msr_walk.proofs.Working.{goes_works_none}
 use Rattle.msr_walk.proofs.day.Day.do_claimed.Goals as goal
+use Rattle.msr_walk.proofs.day.Day.do_claimed.Goals.{in-Stamp, in-Nothing, in-Parts}
 
 pub returns-in_default-clause-goes : goal.returns-in_default-clause-goes
 returns-in_default-clause-goes g c = λ out reports within. handles_works (λ handled. handled.outcome) c.args.self.now out reports c.args.work.now.asked _ _ _ (λ old new. tt) (goes_works_none out reports _)
@@ -22,3 +23,10 @@ returns-clause-goes g c =
     λ out reports within.
     handles_done (λ handled. handled.outcome) c.args.self.now out reports c.args.work.now.asked c.number.result _ c.do_day-end.result _ _ _ within (c.in_ok-end.field-0, c.in_ok-end.was, c.because-outcome.ensures)
     (does_named c.args.self.now c.in-Ok.files c.args.work.now.asked c.as_str-2.result.now c.number.result _ c.do_day-end.result _ _ at c.in-Ok.ensures c.do_day-end.ensures.goes)
+
+pub returns-clause-waits : goal.returns-clause-waits
+returns-clause-waits g c = λ out reports within. elim c.match-end.branch [
+  | in-Stamp w ↦ rw w.waiting-is (search rules)
+  | in-Nothing w ↦ rw w.waiting-is tt
+  | in-Parts w ↦ rw w.waiting-is tt
+]
