@@ -1,4 +1,5 @@
-//! The files of a day change places in memory, there and back: one call fails, and then the power is cut.
+//! The files of a day change places in memory, there and back: one call fails, and then the power is cut. What is tried is
+//! the tree in memory, with its failures and crashes: of the exchange all of this is proved.
 ghost use Rattle.msr_exchange.specs.Names.{AreNames};
 
 use Way::{Back, There};

@@ -1,4 +1,4 @@
-//! What is to be done with the days of a folder.
+//! What is to be done with the days of an archive.
 
 use msr_tree::Time;
 use std::alloc::Global;

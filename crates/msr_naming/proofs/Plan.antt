@@ -3,10 +3,10 @@ use Rattle.std.proofs.Common.{◌≡◌, ◌<◌, ◌≤◌, ◌⊎◌, ◌+◌,
 use Rattle.std.proofs.lemmas.List.{length-append, length-map, map-append, reverse-append, take-append-drop, take-append-le, take-map}
 use Rattle.std.proofs.Math.Seq.{take-append-add, take-length, take-suc}
 use Rattle.msr_tree.specs.Calls.{DoesStep, Goes}
-use Rattle.msr_tree.specs.Steps.{AtEachMoment, Failed, FileStored, FolderMade, FolderStored, Linked, Made, Removed, Renamed, Step, Throughout, Unlisted, failures}
+use Rattle.msr_tree.specs.Steps.{AtEachMoment, Failed, Step, Throughout, failures}
 use Rattle.msr_tree.specs.declared.tree.TreeFault.{TreeFault}
 use Rattle.msr_tree.specs.declared.tree.TreeFault.TheVariants as fault
-use Rattle.msr_tree.proofs.Acting.{goes_as}
+use Rattle.msr_tree.proofs.Acting.{goes_as, more_fail}
 use Rattle.msr_tree.proofs.Moments.{at_end, done}
 use Rattle.msr_naming.specs.Naming.{DoesSome, Performs}
 
@@ -30,18 +30,6 @@ module _ (P : List Step → Type 0) (fails : (past : List Step) → P past → P
       ap reverse (sym (take-append-drop does.0 steps)) ∙ reverse-append (take does.0 steps) (drop does.0 steps) in
       ended old new (reverse (take does.0 steps))
       (cut old (reverse (take does.0 steps)) (reverse (drop does.0 steps)) (subst (λ l. Throughout P old l) parts holds)) does.2
-
-more_fail : (old made : List Step) → failures old ≤ failures (made ++ old)
-more_fail old [] = omega arith
-more_fail old (Made at bytes ∷ made) = more_fail old made
-more_fail old (Linked from to ∷ made) = more_fail old made
-more_fail old (Renamed from to ∷ made) = more_fail old made
-more_fail old (Removed at ∷ made) = more_fail old made
-more_fail old (FileStored at ∷ made) = more_fail old made
-more_fail old (FolderStored at ∷ made) = more_fail old made
-more_fail old (FolderMade at ∷ made) = more_fail old made
-more_fail old (Unlisted at ∷ made) = more_fail old made
-more_fail old (Failed ∷ made) = let so = more_fail old made in omega arith
 
 abbrev pub stopping : TreeFault → Result (Unit {0}) TreeFault
 stopping why = Err why

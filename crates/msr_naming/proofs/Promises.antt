@@ -8,7 +8,6 @@ use Rattle.msr_naming.specs.declared.files.DayFiles.{DayFiles}
 use Rattle.msr_naming.specs.declared.naming.Act.{Act}
 use Rattle.msr_naming.specs.declared.naming.Act.TheVariants.{Remove, Store, Rename}
 use Rattle.msr_naming.specs.declared.files.Name.TheVariants.{Records, RecordsPart, Report, ReportPart, Stamp}
-use Rattle.msr_naming.specs.Following.{unstored_acts}
 use Rattle.msr_naming.specs.Naming.{AreDayNames, Performs, act_step}
 use Rattle.msr_naming.specs.Promise.{AreNamed, AreReady, GivesNames, HasOwn, HasReport, HaveOwnParts, IsFree, KeepsOwn, KeepsIfKilled, NamesStamps, OverNothing}
 use Rattle.msr_naming.proofs.Names.{no_records_left, no_stamp_left, not_renamed, ready_gone, ready_still, removed_settled}

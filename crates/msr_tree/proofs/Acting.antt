@@ -17,7 +17,7 @@ Within names step = (name : Path) → IsNoneOf name names → touches step name 
 pub changes_step : (names : List Path) (step : Step) (old : List Step) → Within names step → ChangesOnly names old (step ∷ old)
 changes_step names step old within = record { made = step ∷ []; since = refl; spares = λ name none. (tt, within name none) }
 
-more_fail : (old made : List Step) → failures old ≤ failures (made ++ old)
+pub more_fail : (old made : List Step) → failures old ≤ failures (made ++ old)
 more_fail old [] = omega arith
 more_fail old (Made at bytes ∷ made) = more_fail old made
 more_fail old (Linked from to ∷ made) = more_fail old made

@@ -55,7 +55,7 @@ pub trait Tree {
     /// The steps so far may be these, the last one first. A tree of which no steps are known may have none.
     ghost went: { Self → List Step → Type 0 };
 
-    /// Why a call failed the last time that one did, if the system gave a reason. Of `kind` none is kept.
+    /// Why a call failed the last time that one did, if the system gave a reason or the tree has one. Of `kind` none is kept.
     fn reason(&self) -> Option<io::Error>;
 
     /// What stands under a name, links not followed.

@@ -16,9 +16,8 @@ use msr_naming::{DayFiles, NewName, Waiting};
 use msr_options::{DayOptions, Folders, Side, Unopened};
 use msr_tree::Tree;
 use std::alloc::{AllocError, Global};
-use std::io;
 use std::marker::Model;
-use std::mem;
+use std::{io, mem};
 
 /// The names of the files of a day.
 #[derive(Drop)]
@@ -173,10 +172,14 @@ fn because(outcome: DayOutcome, why: Option<io::Error>) -> DayOutcome
     ensures { IsSameBut outcome result }
 {
     match outcome {
-        DayOutcome::Refused(DayFault::CannotOpen(Unopened {
-            side: Side::Report,
-            why: told,
-        })) => DayOutcome::Refused(DayFault::CannotOpen(Unopened {
+        DayOutcome::Refused(
+            DayFault::CannotOpen(
+                Unopened {
+                    side: Side::Report,
+                    why: told,
+                },
+            ),
+        ) => DayOutcome::Refused(DayFault::CannotOpen(Unopened {
             side: Side::Report,
             why: why.or(told),
         })),
@@ -358,7 +361,9 @@ impl Day {
             &work.asked,
         );
         let Held {
-            made: last, unmade, ..
+            made: last,
+            unmade,
+            ..
         } = held;
         *made = last;
         let waiting = match end.left {
