@@ -2,7 +2,6 @@ pub mod AddLemmas
 pub mod EntryLemmas
 pub mod FirstNameLemmas
 pub mod FolderLemmas
-pub mod MemberLemmas
 pub mod ReadingLemmas
 pub mod RowLemmas
 pub mod VisitLemmas
