@@ -225,15 +225,7 @@ impl<'a, C: Claims> Walker<'a, C> {
     {
         match SdsName::parse(path) {
             Ok(name) => self.visit_day(tree, path, &name, apart, out, progress),
-            Err(fault) => tell(
-                self,
-                path,
-                "",
-                Outcome::Skipped(fault),
-                None,
-                out,
-                progress,
-            ),
+            Err(fault) => tell(self, path, "", Outcome::Skipped(fault), None, out, progress),
         }
     }
 
