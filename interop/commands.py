@@ -23,7 +23,7 @@ COMMANDS = {
     "list": (("--tolerance", "--strict", "--json"), (1, 1)),
     "check": ((), (2, 2)),
     "compare": (("--tolerance",), (2, 2)),
-    "archive": (("--length", "--no-int24", "--tolerance", "--strict", "--below", *OF_DAYS), (3, 3)),
+    "archive": (("--length", "--no-int24", "--tolerance", "--strict", "--below", *OF_DAYS, "--quiet", "--json"), (3, 3)),
     "verify": (("--quiet", "--json", "--below"), (3, 3)),
     "replace": (OF_ORIGINALS, (4, 4)),
 }

@@ -435,7 +435,7 @@ HELP = {
     "compare": [*STATUSES, "3", *TOLERANCE, *SAID, "ONE", "OTHER"],
     "archive": [*STATUSES, *LENGTH, *KINDS, *TOLERANCE, *REFUSES, *LINES, "--below", *commands.OF_DAYS, "same"],
 }
-HELP["archive"] += ["ROOT", "OUT", "REPORTS"]
+HELP["archive"] += ["--quiet", "--json", "ROOT", "OUT", "REPORTS"]
 FOUND = ["verified PATH", "missing PATH", "notshown PATH", "differs PATH", "refused PATH: file: TEXT", "orphan PATH"]
 FOUND += ["refused PATH: records: TEXT", "refused PATH: report: TEXT", "refused PATH: listing", "skipped PATH: TEXT"]
 FOUND += ["cannot open", "the file itself", "files N skipped N refused N missing N notshown N differs N orphan N"]

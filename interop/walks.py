@@ -23,6 +23,7 @@ Odd = namedtuple("Odd", ODD, defaults=(None,) * len(ODD.split()))
 # The names that a folder has by the word of the setting `names`, where it has any.
 NAMES = {
     "marked": [b"\t", b"a\nrefused b", b"\x7f\x1f", "\u00e9 ~".encode()],
+    "latin": [b"a", b"\xff"],
     "day": [b"XX.TEST.00.BHZ.D.2020.001"],
 }
 # Where the records, the report and the line of size and time of a day stand, and the claim of who has the day.
@@ -34,7 +35,7 @@ TAKEN = "another walk is at work"
 
 
 class NotDone(Exception):
-    """Why a day is not done, as its line tells it."""
+    """Why a day is not done, as its line tells it; then whose fault it is, and the system's reason, as far as they are told."""
 
 
 class NotKept(NotDone):
@@ -66,10 +67,18 @@ def read_to_end(file):
     return b"".join(pieces)
 
 
+def make_folder(path):
+    """Makes a folder and those that lead to it, if it is not there; a file in the way of one is no folder."""
+    try:
+        os.makedirs(path, exist_ok=True)
+    except FileExistsError:
+        raise NotADirectoryError(errno.ENOTDIR, os.strerror(errno.ENOTDIR)) from None
+
+
 def read_regular(path):
     """The bytes of a file; nothing else is opened."""
     if not stat.S_ISREG(os.stat(path).st_mode):
-        raise OSError
+        raise OSError("not a regular file")
     with open(path, "rb") as file:
         return file.read()
 
@@ -123,12 +132,13 @@ def reason_of(why):
     return f"{why.strerror} (os error {why.errno})" if why.errno else str(why)
 
 
-def json_line(word, path, why, reason):
+def json_line(word, path, why, reason, side=None):
     """The object of an entry. A refusal tells whose fault it is, and where it is, as far as its text says so."""
     members = [f'"what":"{word}"', f'"path":"{json_text(path)}"']
     if word == "refused":
-        side = re.match(r"(file|records|report): ", why)
-        members += [f'"side":"{side[1]}"'] if side else []
+        told = re.match(r"(file|records|report): ", why)
+        side = side or (told and told[1])
+        members += [f'"side":"{side}"'] if side else []
         line, place = re.search(r"report: line (\d+)$", why), re.search(r"offset (\d+): (\d+) (\w+)( \d+)?$", why)
         members += [f'"line":{line[1]}'] if line else []
         members += [f'"offset":{place[1]}', f'"number":{place[2]}', f'"name":"{place[3]}"'] if place else []
@@ -162,16 +172,44 @@ class Walk:
 
     def lines(self):
         for top in self.task.below or [""]:
-            yield from self.folder(top)
+            yield from filter(None, self.folder(top))
         for name, (files, *sums) in self.channels.items():
-            yield f"channel {name} files {files}{self.told(*sums)}"
-        bytes_read, bytes_written = (sum(sums[place] for sums in self.channels.values()) for place in (3, 4))
-        larger = f" larger {self.larger}" if self.task.only_smaller else ""
-        size = f" bytes {bytes_read} {bytes_written}" if self.task.bytes else ""
-        yield f"files {self.done} skipped {self.skips} refused {self.refused}{larger}{size}"
+            if self.task.json:
+                yield f'{{"what":"channel","id":"{name}","files":{files}{self.told(*sums)}}}'
+            else:
+                yield f"channel {name} files {files}{self.told(*sums)}"
+        sizes = [sum(sums[place] for sums in self.channels.values()) for place in (3, 4)]
+        larger = [("larger", self.larger)] if self.task.only_smaller else []
+        counts = [("files", self.done), ("skipped", self.skips), ("refused", self.refused), *larger]
+        if self.task.json:
+            yield '{"what":"files",' + ",".join(f'"{word}":{count}' for word, count in counts) + f"{self.told_bytes(*sizes)}}}"
+        else:
+            yield " ".join(f"{word} {count}" for word, count in counts) + self.told_bytes(*sizes)
 
-    def told(self, read, written, bytes_read, bytes_written):
-        return f" read {read} written {written}" + (f" bytes {bytes_read} {bytes_written}" if self.task.bytes else "")
+    def told(self, read, written, *sizes):
+        counts = f',"read":{read},"written":{written}' if self.task.json else f" read {read} written {written}"
+        return counts + self.told_bytes(*sizes)
+
+    def told_bytes(self, read, written):
+        if not self.task.bytes:
+            return ""
+        return f',"bytes_read":{read},"bytes_written":{written}' if self.task.json else f" bytes {read} {written}"
+
+    def line(self, word, path, why=None, side=None, reason=None):
+        """The line of an entry, or None if it is left out."""
+        if self.task.quiet and word == "skipped":
+            return None
+        if self.task.json:
+            return json_line(word, path, why, reason, side)
+        return f"{word} {in_one_line(path)}" + (f": {why}" if why else "")
+
+    def counted(self, word, path, *counts):
+        """The line of a day with these counts, or None if it is left out."""
+        if self.task.quiet and word != "larger":
+            return None
+        if self.task.json:
+            return f'{{"what":"{word}","path":"{path}"{self.told(*counts)}}}'
+        return f"{word} {path}{self.told(*counts)}"
 
     @staticmethod
     def names_in(top, odd):
@@ -189,8 +227,11 @@ class Walk:
         """The lines of a folder; the one of a day has four above it below ROOT."""
         try:
             names = self.names_in(f"{self.root}/{path}" if path else self.root, self.odd)
-        except (OSError, UnicodeDecodeError):
-            yield self.refuse(path or ".", "listing")
+        except UnicodeDecodeError:
+            yield self.refuse(path or ".", "listing", None, "invalid filename")
+            return
+        except OSError as why:
+            yield self.refuse(path or ".", "listing", None, reason_of(why))
             return
         for name in names:
             below = f"{path}/{name}" if path else name
@@ -200,43 +241,43 @@ class Walk:
             place = f"{self.root}/{below}"
             try:
                 told = found(place)
-            except OSError:
-                yield self.refuse(below, "listing")
+            except OSError as why:
+                yield self.refuse(below, "listing", None, reason_of(why))
                 continue
             if told and stat.S_ISDIR(told.st_mode):
                 yield from self.folder(below)
             elif told or os.path.lexists(place):
                 yield self.entry(below)
             else:
-                yield self.refuse(below, "cannot open")
+                yield self.refuse(below, "cannot open", "file")
 
     def has_no_day(self):
         return not (self.task.below or self.done or self.refused or self.larger)
 
-    def refuse(self, path, text):
+    def refuse(self, path, text, side=None, reason=None):
         self.refused += 1
-        return f"refused {in_one_line(path)}: {text}"
+        return self.line("refused", path, text, side, reason)
 
     def entry(self, path):
         why = skipped(path)
         if why:
             self.skips += 1
-            return f"skipped {in_one_line(path)}: {why}"
+            return self.line("skipped", path, why)
         try:
             word, *counts = self.day(path)
         except Larger as why:
             self.larger += 1
-            return f"larger {path}{self.told(*why.args)}"
+            return self.counted("larger", path, *why.args)
         except NotKept as why:
             self.refused += 1
-            return f"{why} {path}"
+            return self.line(str(why), path)
         except NotDone as why:
-            return self.refuse(path, str(why))
+            return self.refuse(path, *why.args)
         self.done += 1
         name = channel_of(path)
         sums = self.channels.get(name, (0, 0, 0, 0, 0))
         self.channels[name] = tuple(sum(pair) for pair in zip(sums, (1, *counts)))
-        return f"{word} {path}{self.told(*counts)}"
+        return self.counted(word, path, *counts)
 
     def day(self, path):
         """What was done with a day, and its counts."""
@@ -319,12 +360,12 @@ class Walk:
         """The claim of the day, which another walk may have; what is left by one that ended is removed."""
         path = places.claim
         try:
-            os.makedirs(os.path.dirname(path), exist_ok=True)
+            make_folder(os.path.dirname(path))
             if os.path.lexists(path):
                 self.clear(places)
             file = self.make(path)
-        except OSError:
-            raise NotDone("cannot open") from None
+        except OSError as why:
+            raise NotDone("cannot open", "records", reason_of(why)) from None
         fcntl.flock(file, fcntl.LOCK_EX | fcntl.LOCK_NB)
         return Claim(path, file, os.fstat(file).st_ino)
 
@@ -377,18 +418,18 @@ class Walk:
             if not stat.S_ISREG(os.stat(source).st_mode):
                 raise OSError
             file = os.open(source, os.O_RDONLY)
-        except OSError:
-            raise NotDone("cannot open") from None
+        except OSError as why:
+            raise NotDone("cannot open", "file", reason_of(why)) from None
         stamp, parts = stamp_of(source), self.parts(places, claim.number)
         content = read_to_end(file)
         length = self.length_for(content or b"")
         asked = self.task.tolerance, self.task.strict, self.task.kinds
         records, report, fault = model.repacked(content or b"", length, *asked)
         fault = "read fault" if content is None else fault
-        for path, text in zip(parts, (records, report.encode() if report else b"")):
-            self.write(path, text)
+        for path, text, side in zip(parts, (records, report.encode() if report else b""), ("records", "report")):
+            self.write(path, text, side)
         if fault:
-            raise NotDone(fault)
+            raise NotDone(fault, "file" if fault.startswith("offset") else None)
         read = parsed(report.encode())
         counts = read.counts[0], sum(line.records for line in read.lines), len(content), len(records)
         if self.task.only_smaller and len(content) <= len(records):
@@ -399,30 +440,30 @@ class Walk:
             raise NotDone(TAKEN)
         self.name(places, parts)
         if self.task.resume:
-            self.write(parts[2], stamp.encode())
+            self.write(parts[2], stamp.encode(), "report")
             with contextlib.suppress(OSError):
                 self.rename(parts[2], places.stamp)
         return counts
 
-    def write(self, path, content):
+    def write(self, path, content, side):
         """Makes a file with its folder, in the place of one that stands there; nothing is written to that one."""
         try:
-            os.makedirs(os.path.dirname(path), exist_ok=True)
+            make_folder(os.path.dirname(path))
             self.remove(path)
             file = self.make(path)
-        except OSError:
-            raise NotDone("cannot open") from None
+        except OSError as why:
+            raise NotDone("cannot open", side, reason_of(why)) from None
         with open(file, "wb") as opened:
             opened.write(content)
 
     def hold(self, source, parts):
         """The report that was written has to show the records that were, and these have to have the segments of the
         day's file; all are read again first, and another file may be read in the place of one of them."""
-        packed, report = (self.read_again(path) for path in parts[:2])
+        packed, report = (self.read_again(*of) for of in zip(parts, ("records", "report")))
         try:
             content = read_regular(source)
-        except OSError:
-            raise NotDone("cannot open") from None
+        except OSError as why:
+            raise NotDone("cannot open", "file", reason_of(why)) from None
         try:
             is_shown = verdict(packed, parsed(report))
         except (NotAReport, model.Refused):
@@ -432,11 +473,11 @@ class Walk:
         if model.compared(content, packed, self.task.tolerance).status != 0:
             raise NotKept("differs")
 
-    def read_again(self, path):
+    def read_again(self, path, side):
         try:
             file = os.open(self.odd.other if is_like(self.odd.made, path) else path, os.O_RDONLY)
-        except OSError:
-            raise NotDone("cannot open") from None
+        except OSError as why:
+            raise NotDone("cannot open", side, reason_of(why)) from None
         content = read_to_end(file)
         if content is None:
             raise NotDone("read fault")
@@ -445,18 +486,18 @@ class Walk:
     def name(self, places, parts):
         """The old stamp and the old records go; the report gets its name, and then the records."""
         try:
-            for path in (places.stamp, places.records):
+            for path, side in ((places.stamp, "report"), (places.records, "records")):
                 if os.path.lexists(path):
                     os.remove(path)
-            self.rename(parts[1], places.report)
-            self.rename(parts[0], places.records)
-        except OSError:
-            raise NotDone("cannot open") from None
+            for side, part, path in (("report", parts[1], places.report), ("records", parts[0], places.records)):
+                self.rename(part, path)
+        except OSError as why:
+            raise NotDone("cannot open", side, reason_of(why)) from None
 
     def rename(self, part, path):
         odd = self.odd
         if path == odd.later and (not os.path.exists(odd.earlier) or odd.gone and os.path.exists(odd.gone)):
-            raise OSError
+            raise OSError("other error")
         os.rename(part, path)
 
 

@@ -6,7 +6,7 @@ was asked for them.
 import json
 import re
 from dataclasses import dataclass
-from typing import Callable, ClassVar, Dict, Optional, Tuple, Union, cast
+from typing import Callable, ClassVar, Dict, Optional, Tuple, Union
 
 from msrepack.errors import FAULT, refusal
 
@@ -137,8 +137,9 @@ class Skipped:
 class Refused:
     """A file or a folder that was refused, and why.
 
-    `of` is `report`, `records` or `file` if `verify` tells of which the text is. `offset`, `number`, `name` and `value`
-    are those of a record that is refused, else None. `reason` is that of the system, if `verify` tells one.
+    `of` is `report`, `records` or `file` if `verify` tells of which the text is; `side` is the same of `archive` too, if it
+    tells which could not be opened or made, or has a fault. `offset`, `number`, `name` and `value` are those of a record that
+    is refused, else None. `reason` is that of the system, if it gave one. A line in words has no `side` and no `reason`.
 
     >>> refused = parse("refused 2020/XX/TEST/BHN.D/XX.TEST.00.BHN.D.2020.001: records: offset 512: 15 OtherEncoding 4")
     >>> refused.of, refused.offset, refused.number, refused.name, refused.value
@@ -149,6 +150,7 @@ class Refused:
     text: str
     of: Optional[str] = None
     reason: Optional[str] = None
+    side: Optional[str] = None
 
     @property
     def offset(self) -> Optional[int]:
@@ -310,21 +312,30 @@ def parse(line: str) -> Line:
     raise ValueError(f"no line of archive or verify: {line.rstrip()}")
 
 
-def parse_object(text: str) -> VerifyLine:
-    """The line of `verify` that an object of `verify --json` tells.
+def parse_object(text: str) -> Line:
+    """The line of `archive` or `verify` that an object of `--json` tells.
 
     >>> parse_object('{"what":"refused","path":"2020","side":"records","text":"records: listing"}')
-    Refused(path='2020', text='listing', of='records', reason=None)
+    Refused(path='2020', text='listing', of='records', reason=None, side='records')
+    >>> parse_object('{"what":"done","path":"2020/XX/TEST/BHN.D/XX.TEST.00.BHN.D.2020.001","read":5,"written":3}').written
+    3
     """
     members = json.loads(text)
     what = members.pop("what")
     if what == "files":
-        return VerifyTotals(**members)
-    path = re.sub("[\\x00-\\x1f\\x7f]", lambda found: f"%{ord(found[0]):02x}", members["path"])
+        return VerifyTotals(**members) if "missing" in members else ArchiveTotals(**members)
+    if what == "channel":
+        return Channel(**members)
+    path = re.sub("[\\x00-\\x1f\\x7f]", lambda found: f"%{ord(found[0]):02x}", members.pop("path"))
     if what == "skipped":
         return Skipped(path, members["text"])
     if what == "refused":
-        side = members.get("side")
-        told = members["text"][len(f"{side}: ") if side else 0 :]
-        return Refused(path, told, side, members.get("reason"))
-    return cast(VerifyLine, NAMED[what](path))
+        return _refused_object(path, members["text"], members.get("side"), members.get("reason"))
+    return COUNTED[what](path, **members) if what in COUNTED else NAMED[what](path)
+
+
+def _refused_object(path: str, text: str, side: Optional[str], reason: Optional[str]) -> Refused:
+    """`verify` begins its texts with the side."""
+    if side and text.startswith(f"{side}: "):
+        return Refused(path, text[len(f"{side}: ") :], side, reason, side)
+    return Refused(path, text, None, reason, side)

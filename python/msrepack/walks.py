@@ -4,13 +4,12 @@ import os
 import select
 import signal
 import subprocess
-from typing import IO, Callable, Iterable, Iterator, List, Optional, Union, cast
+from typing import IO, Iterable, Iterator, List, Optional, Union, cast
 
 from msrepack.errors import Failed, error_of
-from msrepack.lines import ArchiveLine, ArchiveTotals, Line, VerifyLine, VerifyTotals, parse, parse_object
+from msrepack.lines import ArchiveLine, ArchiveTotals, Line, VerifyLine, VerifyTotals, parse_object
 from msrepack.program import Limit, Path, complaint_of, find_program, options, send, started, word_of_path
 
-Reads = Callable[[str], Line]
 PIECE = 1 << 16
 # How many seconds a walk that is closed has for the file in hand, and then after SIGTERM.
 FOR_A_FILE, AFTER_SIGTERM = 1.0, 2.0
@@ -57,10 +56,10 @@ def archive(
         "--only-smaller": only_smaller,
         "--bytes": bytes,
     }
-    words = ["archive", f"--length={length}", f"--tolerance={tolerance}", *options(chosen)]
+    words = ["archive", "--json", f"--length={length}", f"--tolerance={tolerance}", *options(chosen)]
     none = (0 if bytes else None,) * 2
     nothing = ArchiveTotals(0, 0, 0, 0 if only_smaller else None, *none)
-    return cast(Iterator[ArchiveLine], _walk(words, parse, below, (root, out, reports), nothing, timeout))
+    return cast(Iterator[ArchiveLine], _walk(words, below, (root, out, reports), nothing, timeout))
 
 
 def verify(
@@ -78,27 +77,22 @@ def verify(
     """
     nothing = VerifyTotals(0, 0, 0, 0, 0, 0, 0)
     words = ["verify", "--json"]
-    return cast(Iterator[VerifyLine], _walk(words, parse_object, below, (root, out, reports), nothing, timeout))
+    return cast(Iterator[VerifyLine], _walk(words, below, (root, out, reports), nothing, timeout))
 
 
 def _walk(
-    words: List[str],
-    reads: Reads,
-    below: Optional[Iterable[str]],
-    folders: Iterable[Path],
-    nothing: Line,
-    timeout: Optional[float],
+    words: List[str], below: Optional[Iterable[str]], folders: Iterable[Path], nothing: Line, timeout: Optional[float]
 ) -> Iterator[Line]:
-    """The lines of a walk over the folders of `below`, or of all, each as it is read; `nothing` are the totals of no folder."""
+    """The lines of a walk over the folders of `below`, or of all; `nothing` are the totals of no folder."""
     if isinstance(below, (str, bytes)):
         raise TypeError("below is a list of folders")
     belows = None if below is None else [f"--below={folder}" for folder in below]
     if belows == []:
         return iter([nothing])
-    return _lines([*words, *(belows or ()), *map(word_of_path, folders)], reads, type(nothing), Limit(timeout))
+    return _lines([*words, *(belows or ()), *map(word_of_path, folders)], type(nothing), Limit(timeout))
 
 
-def _lines(words: List[str], reads: Reads, totals: type, limit: Limit) -> Iterator[Line]:
+def _lines(words: List[str], totals: type, limit: Limit) -> Iterator[Line]:
     """The lines of a walk. It failed if its totals did not come last, or if it complains."""
     last: Optional[Line] = None
     program = find_program(limit)
@@ -106,7 +100,7 @@ def _lines(words: List[str], reads: Reads, totals: type, limit: Limit) -> Iterat
         output = _Output(process)
         with process, contextlib.closing(output):
             for text in output.lines(limit):
-                last = _line_of(reads, text.decode(errors="surrogateescape"))
+                last = _line_of(text.decode(errors="surrogateescape"))
                 yield last
             status = limit.wait_for(process)
     complained = output.complained.decode(errors="replace")
@@ -160,8 +154,8 @@ class _Output:
         self.process.wait()
 
 
-def _line_of(reads: Reads, text: str) -> Line:
+def _line_of(text: str) -> Line:
     try:
-        return reads(text)
+        return parse_object(text)
     except (ValueError, KeyError, TypeError, AttributeError):
         raise Failed(f"a line that this package does not know: {text}", 0) from None

@@ -1,4 +1,5 @@
 """`archive` and `verify` over archives that are made here, line by line against the independent model."""
+import json
 import os
 import shutil
 import signal
@@ -19,6 +20,14 @@ from msrepack import BadCall, Failed, archive, lines, verify
 SDS = os.path.join(EXAMPLES, "sds")
 DAY = "2020/XX/TEST/BHZ.D/XX.TEST.00.BHZ.D.2020.{:03}"
 NOTHING = commands.Device(0, None)
+
+
+def echo(what, **members):
+    """A command of a shell that prints the object of a line."""
+    return f"echo '{json.dumps(dict(what=what, **members))}'"
+
+
+DONE, NONE = echo("done", path=DAY.format(1), read=2, written=1), echo("files", files=0, skipped=0, refused=0)
 TYPES = {
     "done": lines.Done, "same": lines.Same, "larger": lines.Larger, "notshown": lines.NotShown, "differs": lines.Differs,
     "skipped": lines.Skipped, "refused": lines.Refused, "channel": lines.Channel, "verified": lines.Verified,
@@ -141,11 +150,12 @@ class Archive(Walks):
     def test_what_a_refusal_tells(self):
         self.path(os.path.join("root", DAY.format(1)), read(example("two-segments.mseed"))[:600])
         [refused, _] = archive(self.root, *self.folders("found"))
-        told = (refused.path, refused.of, refused.offset, refused.number, refused.name, refused.value)
-        self.assertEqual(told, (DAY.format(1), None, 512, 10, "RecordCut", None))
+        told = (refused.path, refused.of, refused.side, refused.offset, refused.number, refused.name, refused.value)
+        self.assertEqual(told, (DAY.format(1), None, "file", 512, 10, "RecordCut", None))
 
     def test_what_only_a_fault_of_the_machine_brings(self):
-        with other_program(f"echo notshown {DAY.format(1)}; echo differs {DAY.format(2)}; echo files 0 skipped 0 refused 2; exit 1"):
+        days = echo("notshown", path=DAY.format(1)), echo("differs", path=DAY.format(2))
+        with other_program("; ".join((*days, echo("files", files=0, skipped=0, refused=2), "exit 1"))):
             found = list(archive("a", "b", "c", check=True))
         wanted = [lines.NotShown(DAY.format(1)), lines.Differs(DAY.format(2)), lines.ArchiveTotals(0, 0, 2)]
         self.assertEqual(found, wanted)
@@ -270,7 +280,7 @@ class AsTheyCome(Walks):
         self.hold_whole(1)
 
     def test_a_killed_walk(self):
-        with other_program(f"echo done {DAY.format(1)} read 2 written 1; printf 'done 2020'; kill -9 $$"):
+        with other_program(f"{DONE}; printf '{{'; kill -9 $$"):
             walk = archive("a", "b", "c")
             self.assertEqual(next(walk), lines.Done(DAY.format(1), 2, 1))
             with self.assertRaisesRegex(Failed, "^the program was ended by SIGKILL$"):
@@ -279,7 +289,7 @@ class AsTheyCome(Walks):
     def test_faults_of_a_walk(self):
         for script, wanted in (
             ("echo 'msrepack: write fault' >&2; exit 1", "^write fault$"),
-            ("echo files 0 skipped 0 refused 0; echo 'msrepack: out of memory' >&2; exit 1", "^out of memory$"),
+            (f"{NONE}; echo 'msrepack: out of memory' >&2; exit 1", "^out of memory$"),
             ("echo files 0 skipped 0", "^a line that this package does not know: files 0 skipped 0$"),
         ):
             with other_program(script), self.assertRaisesRegex(Failed, wanted):
@@ -289,7 +299,7 @@ class AsTheyCome(Walks):
         """By SIGTERM, for which a machine that has much to do gets time here, or by SIGKILL if that is of no use."""
         mark, waits = self.path("mark"), "while :; do sleep 0.05; done"
         for trap, seconds in ((f"trap 'echo ended > {mark}; exit' TERM", 30), ("trap '' TERM", 2)):
-            with other_program(f"{trap}; echo done {DAY.format(1)} read 2 written 1; {waits}"):
+            with other_program(f"{trap}; {DONE}; {waits}"):
                 with unittest.mock.patch("msrepack.walks.AFTER_SIGTERM", seconds):
                     walk = archive("a", "b", "c")
                     next(walk)
@@ -300,7 +310,7 @@ class AsTheyCome(Walks):
 
     def test_a_second_ctrl_c_does_not_wait(self):
         """A walk that does not come to its next line is killed."""
-        with other_program(f"echo done {DAY.format(1)} read 2 written 1; exec sleep 60"):
+        with other_program(f"{DONE}; exec sleep 60"):
             walk = archive("a", "b", "c")
             next(walk)
             began = time.monotonic()

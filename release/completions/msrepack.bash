@@ -7,7 +7,10 @@ _msrepack() {
         list) words='--tolerance --strict --json --help' ;;
         check) words='--help' ;;
         compare) words='--tolerance --help' ;;
-        archive) words='--length --no-int24 --tolerance --strict --below --resume --check --only-smaller --bytes --help' ;;
+        archive)
+            words='--length --no-int24 --tolerance --strict --below --resume --check --only-smaller --bytes'
+            words="$words --quiet --json --help"
+            ;;
         verify) words='--quiet --json --below --help' ;;
         replace) words='--undo --below --only-smaller --older-than --touch --int24 --help' ;;
     esac

@@ -92,10 +92,16 @@ pub record AsksFlags (found : Found) (days : DayOptions) : Type 0 where
   pub only_smaller : IsFlagOf (one_text found (codes "only-smaller")) days.only_smaller
   pub bytes : IsFlagOf (one_text found (codes "bytes")) days.bytes
 
--- days are to be repacked as was found; if each is to have the length of its first record, that of the options is the
+-- lines are to be told as was found
+pub record AsksTelling (found : Found) (telling : Telling) : Type 0 where
+  pub quiet : IsFlagOf (one_text found (codes "quiet")) telling.quiet
+  pub form : IsFormOf (one_text found (codes "json")) telling.form
+
+-- days are to be repacked and told as was found; if each is to have the length of its first record, that of the options is the
 -- one without a text
 pub record AsksDays (found : Found) (days : DayOptions) : Type 0 where
   pub flags : AsksFlags found days
+  pub telling : AsksTelling found days.telling
   pub same_length : IsTrue days.same_length ↔ (length_in found ≡ Some (codes "same"))
   pub own : IsTrue days.same_length → AsksOptions found None days.options
   pub one : ¬ (IsTrue days.same_length) → AsksOptions found (length_in found) days.options
@@ -105,11 +111,6 @@ pub record AsksArchive (found : Found) (asked : Archiving) : Type 0 where
   pub folders : AsksFolders found asked.folders
   pub below : AsksBelow found (map (λ folder. folder.now) asked.below.items)
   pub days : AsksDays found asked.days
-
--- lines are to be told as was found
-pub record AsksTelling (found : Found) (telling : Telling) : Type 0 where
-  pub quiet : IsFlagOf (one_text found (codes "quiet")) telling.quiet
-  pub form : IsFormOf (one_text found (codes "json")) telling.form
 
 -- the repack of an archive is to be verified as was found
 pub record AsksVerify (found : Found) (asked : Verifying) : Type 0 where

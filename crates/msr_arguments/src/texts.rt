@@ -211,6 +211,8 @@ Status 0 if all was walked and nothing refused, else 1; 2 if the command line is
         CHECKED,
         ONLY_SMALLER,
         BYTES,
+        DAYS_QUIET,
+        DAYS_JSON,
         ROOT,
         Argument::File(
             "OUT",
@@ -461,8 +463,27 @@ const LINES_JSON: Argument = Argument::Flag(
 which is the name itself. A refusal and what is skipped have `text` too, what stands
 after the path in words, and before it `side`, that is file, records or report, with
 `offset`, `number`, `name` and `value` of a fault of a record, or `line` of one of the
-report, as far as there are these; last `reason`, the system's, if it gave one. The last
+report, as far as there are these; last `reason`, if one is known. The last
 object has the counts",
+);
+
+const DAYS_QUIET: Argument = Argument::Flag(
+    "quiet",
+    "Print only what is to be looked at, the channels and the counts",
+    "Print only what is to be looked at, the channels and the counts: the lines `done`, `same`
+and `skipped` are left out. Counts and status are as without it",
+);
+
+const DAYS_JSON: Argument = Argument::Flag(
+    "json",
+    "Print each line as an object of JSON",
+    "Print each line as an object of JSON (JSON Lines): `what`, its first word, and `path`,
+which is the name itself; then its numbers by their names, `read` and `written`, with
+--bytes `bytes_read` and `bytes_written`. A refusal and what is skipped have `text`, what
+stands after the path in words, and a refusal before it `side`, that is file, records or
+report, and `offset`, `number`, `name` and `value` of a fault of a record, as far as there
+are these; last `reason`, if one is known. A channel has `id`, and no `path`;
+the last object has the counts",
 );
 
 const STRICT: Argument = Argument::Flag(

@@ -212,6 +212,16 @@ fn below_in<'a>(alloc: Global, found: &ArgMatches<'a>) -> Result<Vec<&'a str>, L
     Ok(folders)
 }
 
+/// How lines are to be told, as clap found it.
+fn telling_in(found: &ArgMatches<'_>) -> Telling
+    ensures { AsksTelling (found_of found.now) result }
+{
+    Telling {
+        form: ListForm::asked(flag_in(found, "json")),
+        quiet: flag_in(found, "quiet"),
+    }
+}
+
 /// What is asked of the days of an archive. If each is to have the length of its first record, that of the options is
 /// the one without a text.
 fn days_in<'a>(found: &ArgMatches<'a>) -> Result<DayOptions, LineFault<'a>>
@@ -229,6 +239,7 @@ fn days_in<'a>(found: &ArgMatches<'a>) -> Result<DayOptions, LineFault<'a>>
         check: flag_in(found, "check"),
         only_smaller: flag_in(found, "only-smaller"),
         bytes: flag_in(found, "bytes"),
+        telling: telling_in(found),
     })
 }
 
@@ -245,16 +256,6 @@ fn archiving_in<'a>(alloc: Global, found: &ArgMatches<'a>) -> Result<Task<'a>, L
         below,
         days,
     }))
-}
-
-/// How lines are to be told, as clap found it.
-fn telling_in(found: &ArgMatches<'_>) -> Telling
-    ensures { AsksTelling (found_of found.now) result }
-{
-    Telling {
-        form: ListForm::asked(flag_in(found, "json")),
-        quiet: flag_in(found, "quiet"),
-    }
 }
 
 /// The archive that clap found, whose repack is to be verified.

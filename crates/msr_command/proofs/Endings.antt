@@ -15,7 +15,8 @@ use Rattle.msr_options.specs.declared.task.Replacing.{Replacing}
 use Rattle.msr_options.specs.declared.task.Verifying.{Verifying}
 use Rattle.msr_folders.specs.declared.found.WalkFound.{WalkFound}
 use Rattle.msr_folders.specs.Visits.{IsWalk}
-use Rattle.msr_walk.specs.Entries.{IsEntry, IsEntryLine}
+use Rattle.msr_walk.specs.Entries.{IsEntry}
+use Rattle.msr_walk.specs.Lines.{IsEntryLine}
 use Rattle.msr_walk.specs.Walk.{Walks, summary}
 use Rattle.msr_walk.specs.declared.folders.Walked.{Walked}
 use Rattle.msr_walk.proofs.EntriesTold.{none_told, stops_entries, walk_stops}
@@ -357,7 +358,7 @@ task_unsettled (Compare asked) standard out0 out done does =
     compare_unsettled asked.options asked standard out0 out done does
 task_unsettled (Archive asked) standard out0 out done does =
     let P : List ℕ → Type 0 = λ text.
-    IsWalk (IsEntry asked.days) (IsEntryLine asked.days.bytes) (summary asked.days) text does.ends.walk.0 in
+    IsWalk (IsEntry asked.days) (IsEntryLine asked.days) (summary asked.days) text does.ends.walk.0 in
     record {
       printed = does.printed;
       prints = does.prints;

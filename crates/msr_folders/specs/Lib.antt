@@ -3,6 +3,7 @@ pub mod Days
 pub mod Entries
 pub mod Faults
 pub mod Found
+pub mod Members
 pub mod Named
 pub mod Totals
 pub mod Visits

@@ -1,14 +1,10 @@
 -- What a walk through folders tells: entries, a line for each, and their counts.
-use Rattle.std.specs.Prelude.{◌≡◌, ℕ, List, [], ◌∷◌, ◌++◌, codes}
+use Rattle.std.specs.Prelude.{◌≡◌, ℕ, List, [], ◌∷◌, ◌++◌}
 use Rattle.std.specs.List.{AllByRecursion}
 use Rattle.msr_devices.specs.Device.{Device, HasFailed, IsCalm, IsSteady, Takes}
 use Rattle.msr_devices.specs.declared.fault.DeviceFault.{DeviceFault}
 use Rattle.msr_devices.specs.declared.fault.DeviceFault.TheVariants.{Failed, Memory}
 use Rattle.msr_report.specs.Writing.{TakesPrefix}
-
--- a line that says why: a word, the path as it is shown, and the reason
-abbrev pub IsLineWithReason : (word shown line : List ℕ) → Type 0
-IsLineWithReason word shown line = (why : List ℕ) × (line ≡ word ++ (shown ++ (codes ": " ++ (why ++ codes "\n"))))
 
 -- a line for each entry, in order
 abbrev pub AreLines : {E : Type 0} → (is_line : E → List ℕ → Type 0) → List E → List ℕ → Type 0

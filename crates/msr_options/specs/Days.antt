@@ -21,4 +21,5 @@ in_length record_length days = record {
   check = days.check;
   only_smaller = days.only_smaller;
   bytes = days.bytes;
+  telling = days.telling;
 }

@@ -2,6 +2,7 @@
 ghost use Rattle.std.specs.Prelude.{◌≡◌};
 
 use crate::options::Options;
+use crate::telling::Telling;
 use msr_kinds::Length;
 
 /// How the days of an archive are repacked, which of them are kept, and what is told of them.
@@ -19,6 +20,7 @@ pub struct DayOptions {
     pub only_smaller: bool,
     /// Whether lines tell bytes too.
     pub bytes: bool,
+    pub telling: Telling,
 }
 
 impl DayOptions {

@@ -3,12 +3,11 @@ use Rattle.std.specs.Prelude.{◌≡◌, ◌⊎◌, ◌||◌, ℕ, ⊤, not, Boo
 use Rattle.std.specs.Fmt.{decimal}
 use Rattle.msr_input.specs.declared.fault.ReadFault.TheVariants as stop
 use Rattle.msr_folders.specs.Faults.{fault_json, read_fault_text}
+use Rattle.msr_folders.specs.Members.{IsReasonMember, skip_text}
 use Rattle.msr_folders.specs.Paths.{shown_path, text_json}
 use Rattle.msr_options.specs.declared.task.ListForm.{ListForm}
 use Rattle.msr_options.specs.declared.task.ListForm.TheVariants.{Words, Json}
 use Rattle.msr_options.specs.declared.telling.Telling.{Telling}
-use Rattle.msr_sds.specs.declared.SdsFault.{SdsFault}
-use Rattle.msr_sds.specs.declared.SdsFault.TheVariants.{BadDay, NotSds, NotWaveform}
 use Rattle.msr_verify.specs.Entries.{JudgedEntry, is_unverified}
 use Rattle.msr_verify.specs.declared.judging.VerifyFault.{VerifyFault}
 use Rattle.msr_verify.specs.declared.judging.VerifyFault.TheVariants as fault
@@ -33,11 +32,6 @@ refusal_text SameFile = codes "records: the file itself"
 refusal_text Listing = codes "listing"
 refusal_text RecordsListing = codes "records: listing"
 refusal_text (Day why) = verify_fault_text why
-
-abbrev pub skip_text : SdsFault → List ℕ
-skip_text NotSds = codes "not an SDS path"
-skip_text NotWaveform = codes "not waveform data"
-skip_text BadDay = codes "bad day"
 
 -- the first word of a line
 abbrev pub what_text : Judgement → List ℕ
@@ -98,11 +92,6 @@ IsOfSystem (Refused ReportUnopened) = ⊤
 IsOfSystem (Refused Listing) = ⊤
 IsOfSystem (Refused RecordsListing) = ⊤
 IsOfSystem _ = ⊥
-
--- The member that tells why, in the system's words, which may be any.
-pub record IsReasonMember (text : List ℕ) : Type 0 where
-  pub reason : List ℕ
-  pub is : text ≡ codes ",\"reason\":\"" ++ (text_json reason ++ codes "\"")
 
 -- there is none, or a call of the system has failed
 abbrev pub IsReasonJson : Judgement → List ℕ → Type 0

@@ -2,10 +2,10 @@
 ghost use Rattle.std.specs.Prelude.{◌≡◌, ◌↔◌, IfOk, IsTrue};
 ghost use Rattle.std.specs.String.{string_bytes};
 ghost use Rattle.msr_verify.specs.Entries.{is_unverified, judgement_of};
-ghost use Rattle.msr_verify.specs.Lines.{IsJudgementJson, IsJudgementLine, IsOfSystem, IsReasonJson, IsReasonMember, IsToldLine, place_json, refusal_json, side_json, skip_text, what_text, why_json, why_text, words_line};
+ghost use Rattle.msr_verify.specs.Lines.{IsJudgementJson, IsJudgementLine, IsOfSystem, IsReasonJson, IsToldLine, place_json, refusal_json, side_json, what_text, why_json, why_text, words_line};
 
 use crate::judging::{Finding, VerifyFault};
-use msr_folders::{JsonText, Shown, fault_json};
+use msr_folders::{JsonText, Shown, fault_json, reason_json, skip_text};
 use msr_input::ReadFault;
 use msr_options::{ListForm, Telling};
 use msr_sds::SdsFault;
@@ -139,28 +139,6 @@ pub(crate) fn judgement_of(answer: Result<Finding, VerifyFault>) -> Judgement
     }
 }
 
-/// The member of JSON that tells why a call of the system failed.
-fn reason_json(alloc: Global, reason: io::Error) -> Result<String, AllocError>
-    ensures { IfOk result (λ text. IsReasonMember (string_bytes text)) }
-{
-    let text = reason.to_string(alloc)?;
-    let text = JsonText {
-        text: text.as_str(),
-    };
-    format!(in alloc; ",\"reason\":\"{text}\"")
-}
-
-/// Why an entry is skipped.
-fn skip_text<'a>(fault: SdsFault) -> &'a str
-    ensures { result.now ≡ skip_text fault }
-{
-    match fault {
-        SdsFault::NotSds => "not an SDS path",
-        SdsFault::NotWaveform => "not waveform data",
-        SdsFault::BadDay => "bad day",
-    }
-}
-
 impl Judgement {
     /// The first word of its line.
     fn what<'a>(self) -> &'a str
@@ -229,7 +207,7 @@ impl Judgement {
         ensures { IfOk result (λ text. IsReasonJson self (string_bytes text)) }
     {
         match reason {
-            Some(reason) if self.is_of_system() => reason_json(alloc, reason),
+            Some(reason) if self.is_of_system() => reason_json(alloc, Some(reason)),
             _ => Ok(String::new(alloc)),
         }
     }

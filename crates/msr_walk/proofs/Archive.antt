@@ -14,7 +14,8 @@ use Rattle.msr_options.specs.declared.task.Folders.{Folders}
 use Rattle.msr_tree.specs.Calls.{Goes}
 use Rattle.msr_tree.specs.Steps.{Path, Step}
 use Rattle.msr_walk.proofs.EntriesTold.{none_among}
-use Rattle.msr_walk.specs.Entries.{IsEntry, IsEntryLine, IsTally}
+use Rattle.msr_walk.specs.Entries.{IsEntry, IsTally}
+use Rattle.msr_walk.specs.Lines.{IsEntryLine}
 use Rattle.msr_walk.specs.Told.{IsToldOfVisit, TellsOutcomesOf, WalksTree, WorksFor}
 use Rattle.msr_walk.specs.Walk.{StopsTellingOutcomes, TellsWalk, summary}
 use Rattle.msr_walk.specs.declared.folders.Walked.{Walked}
@@ -38,7 +39,7 @@ tree_ends tally archive before after out0 out1 out of0 of walked told prints end
       entries = told.lines;
       printed = printed;
       prints = takes_append out0 out1 out these.lines (summary archive.days these.entries) these.prints prints;
-      text = subst (λ entries. IsWalk (IsEntry archive.days) (IsEntryLine archive.days.bytes) (summary archive.days) printed entries) told.told.are
+      text = subst (λ entries. IsWalk (IsEntry archive.days) (IsEntryLine archive.days) (summary archive.days) printed entries) told.told.are
           (record { lines = these.lines; are_entries = these.are_entries; are_lines = these.are_lines; whole = refl });
       tells = subst (λ entries. TellsWalk entries walked) told.told.are end;
       goes = told.goes;
@@ -60,7 +61,7 @@ told_and_left tally archive apart below before mid after out0 out of0 of1 of is 
     (walk_left {V = Unit {0}} (λ v. TellsOutcomesOf tally archive.days) (λ v. StopsTellingOutcomes archive.days)
     (λ v. IsToldOfVisit archive.folders.root.now archive.folders.out.now archive.folders.reports.now archive.days)
     (λ v. ChangesWithin archive.folders.out.now archive.folders.reports.now) (λ v. archive.folders.root.now)
-    (within_laws {V = Unit {0}} (λ v. IsEntry archive.days) (λ v. IsEntryLine archive.days.bytes) (λ entries counted. IsTally entries (tally counted))
+    (within_laws {V = Unit {0}} (λ v. IsEntry archive.days) (λ v. IsEntryLine archive.days) (λ entries counted. IsTally entries (tally counted))
     (λ v. archive.folders.root.now) (λ v. archive.folders.out.now) (λ v. archive.folders.reports.now) (λ v. apart))
     tt root (λ past. AreEntriesOf past root below) before mid after out0 out of0 of1 of told (λ at. none_among tally archive.days at of1 of same) goes)
 

@@ -13,7 +13,8 @@ use Rattle.msr_folders.proofs.WalkLemmas as walks
 use Rattle.msr_tool.specs.Fault.{fault_of_writing}
 use Rattle.msr_tool.specs.declared.fault.ToolFault.TheVariants.{Write}
 use Rattle.msr_options.specs.declared.days.DayOptions.{DayOptions}
-use Rattle.msr_walk.specs.Entries.{Entry, IsEntry, IsEntryLine, IsTally, first_unopened}
+use Rattle.msr_walk.specs.Entries.{Entry, IsEntry, IsTally, first_unopened}
+use Rattle.msr_walk.specs.Lines.{IsEntryLine}
 use Rattle.msr_walk.specs.Told.{TellsOutcomesOf}
 use Rattle.msr_walk.specs.Walk.{StopsTellingOutcomes, TellsEnd, TellsOutcomes, Walks, summary}
 use Rattle.msr_walk.specs.declared.folders.Walked.{Walked}
@@ -21,20 +22,20 @@ use Rattle.msr_walk.specs.declared.tally.Tally.{Tally}
 
 -- nothing was printed
 pub none_told : (asked : DayOptions) (out : Device) → StopsTellingOutcomes asked out out Memory
-none_told asked out = (part_none (IsEntry asked) (IsEntryLine asked.bytes) out, (calm_same out).steady)
+none_told asked out = (part_none (IsEntry asked) (IsEntryLine asked) out, (calm_same out).steady)
 
 -- a prefix of the text of a walk was printed
 abbrev pub WalksInPart : DayOptions → Device → Device → Type 0
-WalksInPart asked out0 out = walks.WalksInPart (IsEntry asked) (IsEntryLine asked.bytes) (summary asked) out0 out
+WalksInPart asked out0 out = walks.WalksInPart (IsEntry asked) (IsEntryLine asked) (summary asked) out0 out
 
 pub stops_entries : (asked : DayOptions) (out0 out : Device) (fault : DeviceFault)
     → StopsTellingOutcomes asked out0 out fault → StopsAt (WalksInPart asked out0 out) out0 out fault
-stops_entries asked = walks.stops_entries (IsEntry asked) (IsEntryLine asked.bytes) (summary asked)
+stops_entries asked = walks.stops_entries (IsEntry asked) (IsEntryLine asked) (summary asked)
 
 pub stops_summary : (asked : DayOptions) (out0 out1 out : Device) (tally0 tally : Tally) (fault : DeviceFault)
     (told : TellsOutcomes asked out0 out1 tally0 tally) → StopsPrefix out1 out (summary asked told.entries) fault
     → StopsAt (WalksInPart asked out0 out) out0 out fault
-stops_summary asked = walks.stops_summary (IsEntry asked) (IsEntryLine asked.bytes) (summary asked) IsTally
+stops_summary asked = walks.stops_summary (IsEntry asked) (IsEntryLine asked) (summary asked) IsTally
 
 pub walk_stops : (asked : DayOptions) (out0 out : Device) (fault : DeviceFault)
     → StopsAt (WalksInPart asked out0 out) out0 out fault → Walks asked out0 out (Err (fault_of_writing fault))
@@ -107,7 +108,7 @@ counted_same tally asked entries out0 out of0 of1 of same these = record {
 -- nothing is told, and the counts stay
 pub none_among : {P : Type 0} (tally : P → Tally) (asked : DayOptions) (out : Device) (of0 of : P) → tally of ≡ tally of0 → TellsOutcomesOf tally asked [] out out of0 of
 none_among tally asked out of0 of same =
-    counted_same tally asked [] out out of0 of0 of same (these_none (IsEntry asked) (IsEntryLine asked.bytes) (λ entries counted. IsTally entries (tally counted)) out of0)
+    counted_same tally asked [] out out of0 of0 of same (these_none (IsEntry asked) (IsEntryLine asked) (λ entries counted. IsTally entries (tally counted)) out of0)
 
 -- the same, of a part that has the same counts
 pub counted_on : {P E : Type 0} (tally : P → Tally) (asked : DayOptions) (entries : List Entry) (out0 out : Device) (from0 to0 from1 to1 : P) (result : Result (Unit {0}) E)

@@ -1,6 +1,5 @@
--- The entries of a walk: what became of each, its line, and what they sum up to.
+-- The entries of a walk: what became of each, and what they sum up to.
 use Rattle.std.specs.Prelude.{◌≡◌, ◌+◌, ℕ, ⊤, Bool, true, false, List, [], ◌∷◌, ◌++◌, map, codes, Option, None, Some}
-use Rattle.std.specs.Fmt.{decimal}
 use Rattle.std.specs.List.{count_by, flat_map, sum_by}
 use Rattle.std.specs.Option.{option_or}
 use Rattle.msr_sds.specs.SdsPath.{SdsPath, ReadsAsDay}
@@ -10,12 +9,9 @@ use Rattle.msr_options.specs.declared.days.DayOptions.{DayOptions}
 use Rattle.msr_options.specs.declared.hint.Unopened.{Unopened}
 use Rattle.msr_walk.specs.Outcomes.{IsOutcomeOfDay}
 use Rattle.msr_folders.specs.Days.{IsNoDay}
-use Rattle.msr_folders.specs.Paths.{shown_path}
-use Rattle.msr_folders.specs.Visits.{IsLineWithReason}
 use Rattle.msr_walk.specs.declared.outcome.Outcome.{Outcome}
 use Rattle.msr_walk.specs.declared.outcome.Outcome.TheVariants.{Done, Same, Skipped, Refused}
-use Rattle.msr_making.specs.declared.answer.DayFault.{DayFault}
-use Rattle.msr_making.specs.declared.answer.DayFault.TheVariants.{CannotOpen, Gone, Listing, NotShown, Differs, Larger}
+use Rattle.msr_making.specs.declared.answer.DayFault.TheVariants.{CannotOpen, Gone, Listing, Larger}
 use Rattle.msr_making.specs.declared.answer.Repacked.{Repacked}
 use Rattle.msr_walk.specs.declared.tally.Tally.{Tally}
 
@@ -59,34 +55,6 @@ unopened_of _ = None
 abbrev pub first_unopened : List Entry → Option Unopened
 first_unopened [] = None
 first_unopened (entry ∷ entries) = option_or (unopened_of entry.outcome) (first_unopened entries)
-
--- what a line says of bytes that were read and written: nothing, unless that is asked for
-abbrev pub bytes_told : (told : Bool) → (read written : ℕ) → List ℕ
-bytes_told false read written = []
-bytes_told true read written = codes " bytes " ++ (decimal read ++ (codes " " ++ decimal written))
-
--- the end of the line of a day with these counts
-abbrev pub counts_told : (bytes : Bool) → Repacked → List ℕ
-counts_told bytes repacked =
-    codes " read " ++ (decimal repacked.read ++ (codes " written " ++ (decimal repacked.written
-    ++ (bytes_told bytes repacked.bytes_read repacked.bytes_written ++ codes "\n"))))
-
--- The line of an entry that is refused or not kept, whose path is shown so. The texts of faults are shown by tests.
-abbrev pub IsRefusedLine : (bytes : Bool) → List ℕ → DayFault → List ℕ → Type 0
-IsRefusedLine bytes shown NotShown line = line ≡ codes "notshown " ++ (shown ++ codes "\n")
-IsRefusedLine bytes shown Differs line = line ≡ codes "differs " ++ (shown ++ codes "\n")
-IsRefusedLine bytes shown (Larger repacked) line = line ≡ codes "larger " ++ (shown ++ counts_told bytes repacked)
-IsRefusedLine bytes shown _ line = IsLineWithReason (codes "refused ") shown line
-
--- The line of an entry, with bytes or without.
-abbrev pub IsOutcomeLine : (bytes : Bool) → List ℕ → Outcome → List ℕ → Type 0
-IsOutcomeLine bytes path (Done repacked) line = line ≡ codes "done " ++ (shown_path path ++ counts_told bytes repacked)
-IsOutcomeLine bytes path (Same repacked) line = line ≡ codes "same " ++ (shown_path path ++ counts_told bytes repacked)
-IsOutcomeLine bytes path (Skipped fault) line = IsLineWithReason (codes "skipped ") (shown_path path) line
-IsOutcomeLine bytes path (Refused why) line = IsRefusedLine bytes (shown_path path) why line
-
-abbrev pub IsEntryLine : (bytes : Bool) → Entry → List ℕ → Type 0
-IsEntryLine bytes entry line = IsOutcomeLine bytes entry.path entry.outcome line
 
 -- done in this walk or an earlier one
 abbrev pub is_done : Outcome → Bool

@@ -24,8 +24,9 @@ use Rattle.msr_tree.specs.Calls.{Goes}
 use Rattle.msr_tree.specs.Steps.{AtEachMoment, Path, Step, now}
 use Rattle.msr_tree.specs.declared.kind.FileKind.{FileKind}
 use Rattle.msr_tree.specs.declared.kind.FileKind.TheVariants.{Gone}
-use Rattle.msr_walk.specs.Entries.{Entry, IsEntry, IsEntryLine, IsTally}
+use Rattle.msr_walk.specs.Entries.{Entry, IsEntry, IsTally}
 use Rattle.msr_walk.specs.Files.{AreNamesOfDay, DayNames, day_names, paths_of_names}
+use Rattle.msr_walk.specs.Lines.{IsEntryLine}
 use Rattle.msr_walk.specs.Outcomes.{IsForDay, of_day}
 use Rattle.msr_walk.specs.Walk.{TellsWalk, summary}
 use Rattle.msr_walk.specs.declared.folders.Walked.{Walked}
@@ -90,7 +91,7 @@ IsToldOfVisit root out reports days old new (WithoutList folder) entries =
 
 -- these entries were told, and are counted in a part of what changes
 abbrev pub TellsOutcomesOf : {P : Type 0} → (P → Tally) → DayOptions → List Entry → Device → Device → P → P → Type 0
-TellsOutcomesOf tally asked = TellsThese (IsEntry asked) (IsEntryLine asked.bytes) (λ entries counted. IsTally entries (tally counted))
+TellsOutcomesOf tally asked = TellsThese (IsEntry asked) (IsEntryLine asked) (λ entries counted. IsTally entries (tally counted))
 
 -- What was told of an archive: of each entry, in order, by what its names led to.
 abbrev pub IsArchiveTold : Archiving → List Visit → List Entry → (old new : List Step) → Type 0
@@ -99,13 +100,14 @@ IsArchiveTold archive visits entries old new =
     IsWalked (IsToldOfVisit folders.root.now folders.out.now folders.reports.now archive.days) (ChangesWithin folders.out.now folders.reports.now)
     folders.root.now (λ past. AreEntriesOf past folders.root.now archive.below.items) visits entries old new
 
--- The whole text was printed: a line for each entry of the archive, in order, and then what these sum up to.
+-- The whole text was printed: a line for each entry of the archive, in order, but for those that are left out, and then what
+-- all of these sum up to.
 pub record WalksTree (archive : Archiving) (before after : List Step → Type 0) (out0 out : Device) (walked : Walked) : Type 0 where
   pub visits : List Visit
   pub entries : List Entry
   pub printed : List ℕ
   pub prints : Takes out0 out printed
-  pub text : IsWalk (IsEntry archive.days) (IsEntryLine archive.days.bytes) (summary archive.days) printed entries
+  pub text : IsWalk (IsEntry archive.days) (IsEntryLine archive.days) (summary archive.days) printed entries
   pub tells : TellsWalk entries walked
   pub goes : Goes before after (IsArchiveTold archive visits entries)
 

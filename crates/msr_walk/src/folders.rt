@@ -12,12 +12,12 @@ ghost use Rattle.msr_tree.specs.Calls.{Goes};
 ghost use Rattle.msr_tree.specs.Steps.{Path};
 ghost use Rattle.msr_tree.specs.declared.kind.FileKind.{FileKind};
 ghost use Rattle.msr_tree.specs.declared.kind.FileKind.TheVariants.{Gone};
-ghost use Rattle.msr_walk.specs.Entries.{Entry, IsEntry, IsEntryLine, IsOutcomeOf, IsTally, channel_of};
+ghost use Rattle.msr_walk.specs.Entries.{Entry, IsEntry, IsOutcomeOf, IsTally, channel_of};
 ghost use Rattle.msr_walk.specs.Files.{day_names};
 ghost use Rattle.msr_walk.specs.Handling.{AllWaitWithin, AreWaitingAt, WaitsWithin};
+ghost use Rattle.msr_walk.specs.Lines.{IsEntryLine};
 ghost use Rattle.msr_walk.specs.Outcomes.{IsOutcomeOfDay};
 ghost use Rattle.msr_folders.specs.Days.{IsDay};
-ghost use Rattle.msr_folders.specs.Paths.{told_folder};
 ghost use Rattle.msr_walk.specs.Told.{IsToldOfVisit, StaysWithin, TellsDay, TellsOutcomesOf, WalksTree, WorksFor};
 ghost use Rattle.msr_walk.specs.Walk.{StopsTellingOutcomes, Walks};
 
@@ -29,7 +29,7 @@ use crate::summary::write_summary;
 use crate::tally::Tally;
 use crate::walker::Walker;
 use msr_devices::{DeviceFault, Sink, write_all};
-use msr_folders::{EntryVisitor, EntryWalk, WalkFound, visit_entries};
+use msr_folders::{EntryVisitor, EntryWalk, WalkFound, told_folder, visit_entries};
 use msr_making::{DayFault, DayOutcome, day_length};
 use msr_naming::Waiting;
 use msr_options::{Archiving, Unopened};
@@ -37,6 +37,7 @@ use msr_sds::SdsName;
 use msr_tool::ToolFault;
 use msr_tree::{FileKind, Tree};
 use std::alloc::{AllocError, Global};
+use std::io;
 
 /// What a walk found that came to its end.
 #[derive(Clone, Copy)]
@@ -94,12 +95,14 @@ impl<K: Drop> Progress<K> {
     }
 }
 
-/// Prints the line of an entry, and counts it. The channel is that of a day.
+/// Prints the line of an entry, unless it is left out, and counts it. The channel is that of a day, the reason that of the
+/// system, if it did not list a folder.
 fn tell<K, C, O: Sink>(
     walker: &Walker<'_, C>,
     path: &str,
     channel: &str,
     outcome: Outcome,
+    listing: Option<io::Error>,
     out: &mut O,
     progress: &mut Progress<K>,
 ) -> Result<(), DeviceFault>
@@ -112,7 +115,7 @@ fn tell<K, C, O: Sink>(
         IfErr result (StopsTellingOutcomes walker.now.archive.now.days (O.device out.old) (O.device out.new)) }
     ensures batch { progress.new.batch ≡ progress.old.batch }
 {
-    let line = outcome.line(walker.alloc, path, walker.archive.days.bytes)?;
+    let line = outcome.told(walker.alloc, &walker.archive.days, path, listing)?;
     write_all(out, line.as_bytes())?;
     progress.tally.add(channel, outcome)?;
     Ok(())
@@ -188,7 +191,15 @@ impl<'a, C: Claims> Walker<'a, C> {
     {
         let channel = channel_text(self.alloc, name)?;
         let handled = self.handle(tree, path, apart, &mut progress.made)?;
-        let told = tell(self, path, channel.as_str(), handled.outcome, out, progress);
+        let told = tell(
+            self,
+            path,
+            channel.as_str(),
+            handled.outcome,
+            None,
+            out,
+            progress,
+        );
         progress.wait(tree, self, path, handled.waiting);
         told
     }
@@ -213,7 +224,7 @@ impl<'a, C: Claims> Walker<'a, C> {
     {
         match SdsName::parse(path) {
             Ok(name) => self.visit_day(tree, path, &name, apart, out, progress),
-            Err(fault) => tell(self, path, "", Outcome::Skipped(fault), out, progress),
+            Err(fault) => tell(self, path, "", Outcome::Skipped(fault), None, out, progress),
         }
     }
 
@@ -245,13 +256,6 @@ impl<'a, C: Claims> Walker<'a, C> {
     }
 }
 
-/// The path of a folder as it is told.
-fn told_folder(folder: &str) -> &str
-    ensures { result.now ≡ told_folder folder.now }
-{
-    if folder.is_empty() { "." } else { folder }
-}
-
 impl<'a, C: Claims> EntryVisitor for Walker<'a, C> {
     type Tally = Progress<C::Claim>;
 
@@ -272,7 +276,7 @@ impl<'a, C: Claims> EntryVisitor for Walker<'a, C> {
 
     ghost spared = { λ walker. walker.archive.now.folders.root.now };
 
-    ghost laws = { within_laws (λ walker. IsEntry walker.archive.now.days) (λ walker. IsEntryLine walker.archive.now.days.bytes)
+    ghost laws = { within_laws (λ walker. IsEntry walker.archive.now.days) (λ walker. IsEntryLine walker.archive.now.days)
         (λ entries of. IsTally entries of.tally) (λ walker. walker.archive.now.folders.root.now) (λ walker. walker.archive.now.folders.out.now)
         (λ walker. walker.archive.now.folders.reports.now) (λ walker. walker.apart) };
 
@@ -299,7 +303,7 @@ impl<'a, C: Claims> EntryVisitor for Walker<'a, C> {
         match kind {
             FileKind::Gone => {
                 let gone = Outcome::Refused(DayFault::Gone);
-                tell(self, path, "", gone, out, progress)
+                tell(self, path, "", gone, None, out, progress)
             }
             _ => self.visit_found(tree, path, *apart, out, progress),
         }
@@ -307,14 +311,23 @@ impl<'a, C: Claims> EntryVisitor for Walker<'a, C> {
 
     fn visit_unlisted<T: Tree, O: Sink>(
         &self,
-        _tree: &mut T,
+        tree: &mut T,
         folder: &str,
         _place: &str,
         out: &mut O,
         progress: &mut Progress<C::Claim>,
     ) -> Result<(), DeviceFault> {
         let refused = Outcome::Refused(DayFault::Listing);
-        tell(self, told_folder(folder), "", refused, out, progress)
+        let reason = tree.reason();
+        tell(
+            self,
+            told_folder(folder),
+            "",
+            refused,
+            reason,
+            out,
+            progress,
+        )
     }
 
     fn leave_folder<T: Tree>(&self, tree: &mut T, progress: &mut Progress<C::Claim>) {

@@ -1,50 +1,17 @@
 //! What becomes of an entry of a folder, and its line.
-ghost use Rattle.std.specs.Prelude.{◌≡◌, ◌++◌, IfOk, codes};
+ghost use Rattle.std.specs.Prelude.{◌≡◌, ℕ, List, IfOk};
 ghost use Rattle.std.specs.String.{string_bytes};
-ghost use Rattle.msr_folders.specs.Visits.{IsLineWithReason};
-ghost use Rattle.msr_walk.specs.Entries.{IsOutcomeLine, IsRefusedLine, bytes_told, counts_told};
+ghost use Rattle.msr_walk.specs.Lines.{IsOutcomeJson, IsOutcomeLine, IsOutcomeReason, IsEntryLine, bytes_json, bytes_told, repacked_json, counts_told, is_to_look_at, day_place_json, day_refusal_json, day_refusal_text, unopened_json, outcome_word, outcome_members, outcome_rest, outcome_words};
 ghost use Rattle.msr_walk.specs.Outcomes.{of_day};
 
-use msr_folders::shown_path;
+use msr_folders::{JsonText, Shown, ToldFault, fault_json, reason_json, skip_text};
+use msr_input::ReadFault;
 use msr_making::{DayFault, DayOutcome, Repacked};
+use msr_options::{DayOptions, ListForm, Side};
 use msr_sds::SdsFault;
+use msr_tool::ToolFault;
 use std::alloc::{AllocError, Global};
-
-/// The line of an entry whose path is shown so, and that is refused for that.
-fn refused_line(alloc: Global, path: &str, why: &str) -> Result<String, AllocError>
-    ensures { IfOk result (λ line. IsLineWithReason (codes "refused ") path.now (string_bytes line)) }
-{
-    format!(in alloc; "refused {path}: {why}\n")
-}
-
-/// The line that tells that fault of the entry whose path is shown so, with bytes or without.
-fn fault_line(fault: DayFault, alloc: Global, path: &str, bytes: bool) -> Result<String, AllocError>
-    ensures { IfOk result (λ line. IsRefusedLine bytes path.now fault (string_bytes line)) }
-{
-    match fault {
-        DayFault::NotShown => format!(in alloc; "notshown {path}\n"),
-        DayFault::Differs => format!(in alloc; "differs {path}\n"),
-        DayFault::Larger(repacked) => repacked_line(repacked, alloc, "larger ", path, bytes),
-        DayFault::CannotOpen(_) | DayFault::Gone => refused_line(alloc, path, "cannot open"),
-        DayFault::Listing => refused_line(alloc, path, "listing"),
-        DayFault::ClaimedByAnother => refused_line(alloc, path, "another walk is at work"),
-        DayFault::Tool(fault) => {
-            let why = fault.to_string(alloc)?;
-            refused_line(alloc, path, why.as_str())
-        }
-    }
-}
-
-/// What became of an entry.
-#[derive(Clone, Copy)]
-pub(crate) enum Outcome {
-    Done(Repacked),
-    /// An earlier walk had done it, and it was left alone.
-    Same(Repacked),
-    Skipped(SdsFault),
-    /// It was refused, or repacked and not kept.
-    Refused(DayFault),
-}
+use std::{fmt, io};
 
 /// What a line says of bytes: nothing, unless that is asked for.
 pub(crate) fn bytes_told(
@@ -61,19 +28,129 @@ pub(crate) fn bytes_told(
     format!(in alloc; " bytes {read} {written}")
 }
 
-/// The line that begins so, with these counts.
-fn repacked_line(
-    repacked: Repacked,
+/// The members of JSON that tell bytes.
+pub(crate) fn bytes_json(
     alloc: Global,
-    word: &str,
-    path: &str,
-    bytes: bool,
+    told: bool,
+    read: u64,
+    written: u64,
 ) -> Result<String, AllocError>
-    ensures { IfOk result (λ line. string_bytes line ≡ word.now ++ (path.now ++ counts_told bytes repacked)) }
+    ensures { IfOk result (λ text. string_bytes text ≡ bytes_json told read written) }
+{
+    if !told {
+        return Ok(String::new(alloc));
+    }
+    format!(in alloc; ",\"bytes_read\":{read},\"bytes_written\":{written}")
+}
+
+/// The counts of a day, with bytes or without.
+fn counts_told(alloc: Global, repacked: Repacked, bytes: bool) -> Result<String, AllocError>
+    ensures { IfOk result (λ text. string_bytes text ≡ counts_told bytes repacked) }
 {
     let Repacked { read, written, .. } = repacked;
     let size = bytes_told(alloc, bytes, repacked.bytes_read, repacked.bytes_written)?;
-    format!(in alloc; "{word}{path} read {read} written {written}{size}\n")
+    format!(in alloc; " read {read} written {written}{size}")
+}
+
+/// The members of JSON that tell the counts of a day, with bytes or without.
+fn repacked_json(alloc: Global, repacked: Repacked, bytes: bool) -> Result<String, AllocError>
+    ensures { IfOk result (λ text. string_bytes text ≡ repacked_json bytes repacked) }
+{
+    let Repacked { read, written, .. } = repacked;
+    let size = bytes_json(alloc, bytes, repacked.bytes_read, repacked.bytes_written)?;
+    format!(in alloc; ",\"read\":{read},\"written\":{written}{size}")
+}
+
+/// Why the tool stopped.
+#[derive(Clone, Copy, Debug)]
+struct ToldStop {
+    fault: ToolFault,
+}
+
+impl fmt::Display for ToldStop {
+    ghost use Rattle.std.specs.Prelude.{Some};
+    ghost use Rattle.msr_walk.specs.Lines.{tool_text};
+
+    ghost output = { λ told. Some (tool_text told.fault) };
+
+    fn fmt<W: fmt::Write>(&self, f: &mut fmt::Formatter<W>) -> fmt::Result {
+        match self.fault {
+            ToolFault::Input(fault) => {
+                let told = ToldFault {
+                    fault: ReadFault::Input(fault),
+                };
+                write!(f, "{told}")
+            }
+            ToolFault::Report(line) => write!(f, "report line {line}"),
+            ToolFault::Read => f.write_str("read fault"),
+            ToolFault::Write => f.write_str("write fault"),
+            ToolFault::Memory => f.write_str("out of memory"),
+        }
+    }
+}
+
+/// Why an entry is refused; nothing if its first word tells that.
+fn day_refusal_text(alloc: Global, why: DayFault) -> Result<String, AllocError>
+    ensures { IfOk result (λ text. string_bytes text ≡ day_refusal_text why) }
+{
+    let text = match why {
+        DayFault::CannotOpen(_) | DayFault::Gone => "cannot open",
+        DayFault::Listing => "listing",
+        DayFault::ClaimedByAnother => "another walk is at work",
+        DayFault::Tool(fault) => return ToldStop { fault }.to_string(alloc),
+        DayFault::NotShown | DayFault::Differs | DayFault::Larger(_) => "",
+    };
+    String::from_str(alloc, text)
+}
+
+/// The member of JSON that tells what could not be opened or made.
+fn unopened_json<'a>(side: Side) -> &'a str
+    ensures { result.now ≡ unopened_json side }
+{
+    match side {
+        Side::File => ",\"side\":\"file\"",
+        Side::Records => ",\"side\":\"records\"",
+        Side::Report => ",\"side\":\"report\"",
+        Side::Outputs => "",
+    }
+}
+
+/// The members of JSON that tell whose fault it is, and where it is and what is there.
+fn day_place_json(alloc: Global, why: DayFault) -> Result<String, AllocError>
+    ensures { IfOk result (λ text. string_bytes text ≡ day_place_json why) }
+{
+    match why {
+        DayFault::CannotOpen(unopened) => String::from_str(alloc, unopened_json(unopened.side)),
+        DayFault::Gone => String::from_str(alloc, ",\"side\":\"file\""),
+        DayFault::Tool(ToolFault::Input(fault)) => {
+            let place = fault_json(alloc, fault)?;
+            format!(in alloc; ",\"side\":\"file\"{place}")
+        }
+        _ => Ok(String::new(alloc)),
+    }
+}
+
+/// The members of JSON that tell why an entry is refused.
+fn day_refusal_json(alloc: Global, why: DayFault) -> Result<String, AllocError>
+    ensures { IfOk result (λ text. string_bytes text ≡ day_refusal_json why) }
+{
+    let place = day_place_json(alloc, why)?;
+    let text = day_refusal_text(alloc, why)?;
+    let text = JsonText {
+        text: text.as_str(),
+    };
+    format!(in alloc; "{place},\"text\":\"{text}\"")
+}
+
+/// What became of an entry.
+#[derive(Clone, Copy)]
+pub(crate) enum Outcome {
+    Done(Repacked),
+    /// An earlier walk had done it, and it was left alone.
+    Same(Repacked),
+    Skipped(SdsFault),
+    /// It was refused, or repacked and not kept.
+    Refused(DayFault),
 }
 
 impl Outcome {
@@ -88,31 +165,135 @@ impl Outcome {
         }
     }
 
-    /// The line that tells it of the entry with this path, with bytes or without.
-    pub(crate) fn line(self, alloc: Global, path: &str, bytes: bool) -> Result<String, AllocError>
-        ensures { IfOk result (λ line. IsOutcomeLine bytes path.now self (string_bytes line)) }
+    /// The first word of its line.
+    fn what<'a>(self) -> &'a str
+        ensures { result.now ≡ outcome_word self }
     {
-        let path = shown_path(alloc, path)?;
         match self {
-            Outcome::Done(repacked) => repacked_line(
-                repacked,
-                alloc,
-                "done ",
-                path.as_str(),
-                bytes,
-            ),
-            Outcome::Same(repacked) => repacked_line(
-                repacked,
-                alloc,
-                "same ",
-                path.as_str(),
-                bytes,
-            ),
-            Outcome::Skipped(fault) => {
-                let why = fault.to_string(alloc)?;
-                format!(in alloc; "skipped {path}: {why}\n")
-            }
-            Outcome::Refused(refusal) => fault_line(refusal, alloc, path.as_str(), bytes),
+            Outcome::Done(_) => "done",
+            Outcome::Same(_) => "same",
+            Outcome::Skipped(_) => "skipped",
+            Outcome::Refused(DayFault::NotShown) => "notshown",
+            Outcome::Refused(DayFault::Differs) => "differs",
+            Outcome::Refused(DayFault::Larger(_)) => "larger",
+            Outcome::Refused(_) => "refused",
         }
+    }
+
+    /// What stands after the path.
+    fn why(self, alloc: Global, bytes: bool) -> Result<String, AllocError>
+        ensures { IfOk result (λ text. string_bytes text ≡ outcome_rest bytes self) }
+    {
+        match self {
+            Outcome::Done(repacked) => counts_told(alloc, repacked, bytes),
+            Outcome::Same(repacked) => counts_told(alloc, repacked, bytes),
+            Outcome::Skipped(fault) => format!(in alloc; ": {}", skip_text(fault)),
+            Outcome::Refused(DayFault::NotShown) => Ok(String::new(alloc)),
+            Outcome::Refused(DayFault::Differs) => Ok(String::new(alloc)),
+            Outcome::Refused(DayFault::Larger(repacked)) => counts_told(alloc, repacked, bytes),
+            Outcome::Refused(why) => {
+                let text = day_refusal_text(alloc, why)?;
+                format!(in alloc; ": {text}")
+            }
+        }
+    }
+
+    /// The line in words.
+    fn words(self, alloc: Global, bytes: bool, path: &str) -> Result<String, AllocError>
+        ensures { IfOk result (λ line. string_bytes line ≡ outcome_words bytes path.now self) }
+    {
+        let what = self.what();
+        let why = self.why(alloc, bytes)?;
+        let shown = Shown { path };
+        format!(in alloc; "{what} {shown}{why}\n")
+    }
+
+    /// The members of JSON that stand after the path.
+    fn members(self, alloc: Global, bytes: bool) -> Result<String, AllocError>
+        ensures { IfOk result (λ text. string_bytes text ≡ outcome_members bytes self) }
+    {
+        match self {
+            Outcome::Done(repacked) => repacked_json(alloc, repacked, bytes),
+            Outcome::Same(repacked) => repacked_json(alloc, repacked, bytes),
+            Outcome::Skipped(fault) => {
+                let text = JsonText {
+                    text: skip_text(fault),
+                };
+                format!(in alloc; ",\"text\":\"{text}\"")
+            }
+            Outcome::Refused(DayFault::NotShown) => Ok(String::new(alloc)),
+            Outcome::Refused(DayFault::Differs) => Ok(String::new(alloc)),
+            Outcome::Refused(DayFault::Larger(repacked)) => repacked_json(alloc, repacked, bytes),
+            Outcome::Refused(why) => day_refusal_json(alloc, why),
+        }
+    }
+
+    /// The member of JSON that tells the reason, if one is known. Of a folder without a list it is the one given.
+    fn reason_json(self, alloc: Global, listing: Option<io::Error>) -> Result<String, AllocError>
+        ensures { IfOk result (λ text. IsOutcomeReason self (string_bytes text)) }
+    {
+        match self {
+            Outcome::Refused(DayFault::CannotOpen(unopened)) => reason_json(alloc, unopened.why),
+            Outcome::Refused(DayFault::Listing) => reason_json(alloc, listing),
+            _ => Ok(String::new(alloc)),
+        }
+    }
+
+    /// The line in JSON.
+    fn json(
+        self,
+        alloc: Global,
+        bytes: bool,
+        path: &str,
+        listing: Option<io::Error>,
+    ) -> Result<String, AllocError>
+        ensures { IfOk result (λ line. IsOutcomeJson bytes path.now self (string_bytes line)) }
+    {
+        let what = self.what();
+        let why = self.members(alloc, bytes)?;
+        let reason = self.reason_json(alloc, listing)?;
+        let shown = JsonText { text: path };
+        format!(in alloc; "{{\"what\":\"{what}\",\"path\":\"{shown}\"{why}{reason}}}\n")
+    }
+
+    /// The line that tells it of the entry with this path.
+    fn line(
+        self,
+        alloc: Global,
+        asked: &DayOptions,
+        path: &str,
+        listing: Option<io::Error>,
+    ) -> Result<String, AllocError>
+        ensures { IfOk result (λ line. IsOutcomeLine asked.now.telling.form asked.now.bytes path.now self (string_bytes line)) }
+    {
+        match asked.telling.form {
+            ListForm::Words => self.words(alloc, asked.bytes, path),
+            ListForm::Json => self.json(alloc, asked.bytes, path, listing),
+        }
+    }
+
+    /// Whether it is to be looked at.
+    fn is_to_look_at(self) -> bool
+        ensures { result ≡ is_to_look_at self }
+    {
+        matches!(self, Outcome::Refused(_))
+    }
+
+    /// What is printed of the entry with this path: its line, or nothing if it is left out. Of a folder without a list the
+    /// system's reason is given.
+    pub(crate) fn told(
+        self,
+        alloc: Global,
+        asked: &DayOptions,
+        path: &str,
+        listing: Option<io::Error>,
+    ) -> Result<String, AllocError>
+        ensures { (channel : List ℕ) → IfOk result (λ line.
+            IsEntryLine asked.now (record { path = path.now; channel = channel; outcome = self }) (string_bytes line)) }
+    {
+        if asked.telling.quiet && !self.is_to_look_at() {
+            return Ok(String::new(alloc));
+        }
+        self.line(alloc, asked, path, listing)
     }
 }

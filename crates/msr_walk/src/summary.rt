@@ -4,44 +4,78 @@ ghost use Rattle.std.specs.List.{flat_map};
 ghost use Rattle.std.specs.String.{string_bytes};
 ghost use Rattle.msr_devices.specs.Device.{CanCountCall, IsCalm, Takes};
 ghost use Rattle.msr_folders.specs.Visits.{StopsPrefix};
-ghost use Rattle.msr_walk.specs.Entries.{Entry, IsTally, bytes_told};
-ghost use Rattle.msr_walk.specs.Walk.{channel_line, files_line, larger_told, summary, with_bytes};
+ghost use Rattle.msr_walk.specs.Entries.{Entry, IsTally};
+ghost use Rattle.msr_walk.specs.Walk.{channel_json, channel_line, channel_words, files_json, files_line, files_words, larger_json, larger_told, summary, with_bytes};
 
-use crate::outcome::bytes_told;
+use crate::outcome::{bytes_json, bytes_told};
 use crate::tally::Tally;
 use msr_devices::{DeviceFault, Sink, write_all};
-use msr_folders::{Total, Totals};
-use msr_options::DayOptions;
+use msr_folders::{JsonText, Total, Totals};
+use msr_options::{DayOptions, ListForm};
 use std::alloc::{AllocError, Global};
 
-/// The line of a channel, with the totals of its records and of its bytes.
-fn channel_line(
+/// The line of a channel in words, with the totals of its records and of its bytes.
+fn channel_words(
     alloc: Global,
     told: bool,
     name: &str,
     total: Total,
     bytes: Total,
 ) -> Result<String, AllocError>
-    ensures { IfOk result (λ line. string_bytes line ≡ channel_line told ((name.now, total), bytes)) }
+    ensures { IfOk result (λ line. string_bytes line ≡ channel_words told ((name.now, total), bytes)) }
 {
     let (files, read, written) = (total.files, total.read, total.written);
     let size = bytes_told(alloc, told, bytes.read, bytes.written)?;
     format!(in alloc; "channel {name} files {files} read {read} written {written}{size}\n")
 }
 
+/// The same in JSON.
+fn channel_json(
+    alloc: Global,
+    told: bool,
+    name: &str,
+    total: Total,
+    bytes: Total,
+) -> Result<String, AllocError>
+    ensures { IfOk result (λ line. string_bytes line ≡ channel_json told ((name.now, total), bytes)) }
+{
+    let (files, read, written) = (total.files, total.read, total.written);
+    let size = bytes_json(alloc, told, bytes.read, bytes.written)?;
+    let id = JsonText { text: name };
+    format!(in alloc;
+        "{{\"what\":\"channel\",\"id\":\"{id}\",\"files\":{files},\"read\":{read},\"written\":{written}{size}}}\n"
+    )
+}
+
+/// The line of a channel.
+fn channel_line(
+    alloc: Global,
+    asked: &DayOptions,
+    name: &str,
+    total: Total,
+    bytes: Total,
+) -> Result<String, AllocError>
+    ensures { IfOk result (λ line. string_bytes line ≡ channel_line asked.now ((name.now, total), bytes)) }
+{
+    match asked.telling.form {
+        ListForm::Words => channel_words(alloc, asked.bytes, name, total, bytes),
+        ListForm::Json => channel_json(alloc, asked.bytes, name, total, bytes),
+    }
+}
+
 fn write_channels<O: Sink>(
     alloc: Global,
     out: &mut O,
-    told: bool,
+    asked: &DayOptions,
     totals: &Totals,
     bytes: &Totals,
 ) -> Result<(), DeviceFault>
     requires { CanCountCall (O.device out.old) }
     ensures all { OnOk result (Takes (O.device out.old) (O.device out.new)
-        (flat_map (channel_line told) (with_bytes totals.now bytes.now))) }
+        (flat_map (channel_line asked.now) (with_bytes totals.now bytes.now))) }
     ensures calm { OnOk result (IsCalm (O.device out.old) (O.device out.new)) }
     ensures stops { IfErr result (StopsPrefix (O.device out.old) (O.device out.new)
-        (flat_map (channel_line told) (with_bytes totals.now bytes.now))) }
+        (flat_map (channel_line asked.now) (with_bytes totals.now bytes.now))) }
 {
     for place in 0..usize::MAX {
         let Some((name, total)) = totals.get(place) else {
@@ -50,7 +84,7 @@ fn write_channels<O: Sink>(
         let Some((_, size)) = bytes.get(place) else {
             return Ok(());
         };
-        let line = channel_line(alloc, told, name, total, size)?;
+        let line = channel_line(alloc, asked, name, total, size)?;
         write_all(out, line.as_bytes())?;
     }
     // No memory holds `usize::MAX` channels.
@@ -67,13 +101,46 @@ fn larger_told(alloc: Global, told: bool, larger: u64) -> Result<String, AllocEr
     format!(in alloc; " larger {larger}")
 }
 
-fn counts_line(alloc: Global, asked: &DayOptions, tally: &Tally) -> Result<String, AllocError>
-    ensures { IfOk result (λ line. string_bytes line ≡ files_line asked.now tally.now) }
+/// The member of JSON that tells them.
+fn larger_json(alloc: Global, told: bool, larger: u64) -> Result<String, AllocError>
+    ensures { IfOk result (λ text. string_bytes text ≡ larger_json told larger) }
+{
+    if !told {
+        return Ok(String::new(alloc));
+    }
+    format!(in alloc; ",\"larger\":{larger}")
+}
+
+/// The last line in words.
+fn files_words(alloc: Global, asked: &DayOptions, tally: &Tally) -> Result<String, AllocError>
+    ensures { IfOk result (λ line. string_bytes line ≡ files_words asked.now tally.now) }
 {
     let (files, skipped, refused) = (tally.done, tally.skipped, tally.refused);
     let larger = larger_told(alloc, asked.only_smaller, tally.larger)?;
     let size = bytes_told(alloc, asked.bytes, tally.bytes_read, tally.bytes_written)?;
     format!(in alloc; "files {files} skipped {skipped} refused {refused}{larger}{size}\n")
+}
+
+/// The last line in JSON.
+fn files_json(alloc: Global, asked: &DayOptions, tally: &Tally) -> Result<String, AllocError>
+    ensures { IfOk result (λ line. string_bytes line ≡ files_json asked.now tally.now) }
+{
+    let (files, skipped, refused) = (tally.done, tally.skipped, tally.refused);
+    let larger = larger_json(alloc, asked.only_smaller, tally.larger)?;
+    let size = bytes_json(alloc, asked.bytes, tally.bytes_read, tally.bytes_written)?;
+    format!(in alloc;
+        "{{\"what\":\"files\",\"files\":{files},\"skipped\":{skipped},\"refused\":{refused}{larger}{size}}}\n"
+    )
+}
+
+/// The last line.
+fn files_line(alloc: Global, asked: &DayOptions, tally: &Tally) -> Result<String, AllocError>
+    ensures { IfOk result (λ line. string_bytes line ≡ files_line asked.now tally.now) }
+{
+    match asked.telling.form {
+        ListForm::Words => files_words(alloc, asked, tally),
+        ListForm::Json => files_json(alloc, asked, tally),
+    }
 }
 
 /// Writes a line for each channel, in the order of their first files that were done, and the line of the counts.
@@ -90,8 +157,8 @@ pub(crate) fn write_summary<O: Sink>(
     ensures stops { (entries : List Entry) → IsTally entries tally.now →
         IfErr result (StopsPrefix (O.device out.old) (O.device out.new) (summary asked.now entries)) }
 {
-    write_channels(alloc, out, asked.bytes, &tally.channels, &tally.bytes)?;
-    let line = counts_line(alloc, asked, tally)?;
+    write_channels(alloc, out, asked, &tally.channels, &tally.bytes)?;
+    let line = files_line(alloc, asked, tally)?;
     write_all(out, line.as_bytes())?;
     Ok(())
 }

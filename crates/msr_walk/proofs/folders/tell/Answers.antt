@@ -1,7 +1,8 @@
 use Rattle.std.proofs.lemmas.Result.{err_from_is_err_and}
 use Rattle.std.proofs.Common.{refl}
 use Rattle.msr_folders.proofs.VisitLemmas.{part_line, part_one, these_one}
-use Rattle.msr_walk.specs.Entries.{Entry, IsEntry, IsEntryLine, IsTally}
+use Rattle.msr_walk.specs.Entries.{Entry, IsEntry, IsTally}
+use Rattle.msr_walk.specs.Lines.{IsEntryLine}
 use Rattle.msr_walk.proofs.EntriesTold.{none_told}
 use Rattle.msr_walk.proofs.folders.tell.Goals as goal
 
@@ -17,8 +18,8 @@ returns-in_err-write_all-clause-stops g c =
     let asked = c.args.walker.now.archive.now.days in
     let entry : Entry = record { path = c.args.path.now; channel = c.args.channel.now; outcome = c.args.outcome } in
     λ is. rw (p.1, p.2) (
-      part_line (IsEntry asked) (IsEntryLine asked.bytes) _ _ part.0 entry c.as_bytes.result.now is
-          (rw c.as_bytes.ensures.value c.in_ok-line.ensures) part.1,
+      part_line (IsEntry asked) (IsEntryLine asked) _ _ part.0 entry c.as_bytes.result.now is
+          (rw c.as_bytes.ensures.value (c.in_ok-line.ensures c.args.channel.now)) part.1,
       c.in_err-write_all.ensures.failed,
     )
 
@@ -28,8 +29,8 @@ returns-in_err-add-clause-stops g c =
     let asked = c.args.walker.now.archive.now.days in
     let entry : Entry = record { path = c.args.path.now; channel = c.args.channel.now; outcome = c.args.outcome } in
     λ is. rw (p.1, p.2) (
-      part_one (IsEntry asked) (IsEntryLine asked.bytes) _ _ entry c.as_bytes.result.now is
-          (rw c.as_bytes.ensures.value c.in_ok-line.ensures) c.in_ok-write_all.ensures.all,
+      part_one (IsEntry asked) (IsEntryLine asked) _ _ entry c.as_bytes.result.now is
+          (rw c.as_bytes.ensures.value (c.in_ok-line.ensures c.args.channel.now)) c.in_ok-write_all.ensures.all,
       c.in_ok-write_all.ensures.calm.steady,
     )
 
@@ -37,6 +38,6 @@ pub returns-clause-told : goal.returns-clause-told
 returns-clause-told g c =
     let asked = c.args.walker.now.archive.now.days in
     let entry : Entry = record { path = c.args.path.now; channel = c.args.channel.now; outcome = c.args.outcome } in
-    λ is. these_one (IsEntry asked) (IsEntryLine asked.bytes) (λ entries of. IsTally entries of.tally) _ _ _ _ entry c.as_bytes.result.now is
-    (rw c.as_bytes.ensures.value c.in_ok-line.ensures) c.in_ok-write_all.ensures.all c.in_ok-write_all.ensures.calm
+    λ is. these_one (IsEntry asked) (IsEntryLine asked) (λ entries of. IsTally entries of.tally) _ _ _ _ entry c.as_bytes.result.now is
+    (rw c.as_bytes.ensures.value (c.in_ok-line.ensures c.args.channel.now)) c.in_ok-write_all.ensures.all c.in_ok-write_all.ensures.calm
     (λ before h. c.in_ok-add.ensures before entry h refl refl)

@@ -13,7 +13,7 @@ pub returns-in_err-line-clause-stops : goal.returns-in_err-line-clause-stops
 returns-in_err-line-clause-stops g c =
     let p = err_from_is_err_and c.from_residual.result c.from_residual.ensures.1 in
     rw (p.1, p.2) (
-      front_of (channel_line c.args.told) (with_bytes c.args.totals.now c.args.bytes.now) c.loop-place.place _ _ c.loop-place.invariant.prints,
+      front_of (channel_line c.args.asked.now) (with_bytes c.args.totals.now c.args.bytes.now) c.loop-place.place _ _ c.loop-place.invariant.prints,
       c.loop-place.invariant.calm.steady,
     )
 
@@ -29,7 +29,7 @@ returns-in_err-write_all-clause-stops g c =
     let failed = calm_failed (g.O.Sink.device c.args.out.now) (g.O.Sink.device c.loop-place.out)
     (g.O.Sink.device c.write_all.new.sink) c.loop-place.invariant.calm c.in_err-write_all.ensures.failed in
     rw (p.1, p.2) (
-      front_in (channel_line c.args.told) (with_bytes c.args.totals.now c.args.bytes.now) c.loop-place.place part.0
+      front_in (channel_line c.args.asked.now) (with_bytes c.args.totals.now c.args.bytes.now) c.loop-place.place part.0
           ((c.in-Some.name.now, c.in-Some.total), c.in-Some-get.size) c.as_bytes.result.now _ _ _ found
           (rw c.as_bytes.ensures.value c.in_ok-line.ensures) c.loop-place.invariant.prints part.1,
       failed,
@@ -42,18 +42,18 @@ loop-place-preserved g c =
     let size : option_map (λ total. total.1) (slice_get c.args.bytes.now c.loop-place.place) ≡ Some c.in-Some-get.size =
     search rules in
     let found = channel_at c.args.totals.now c.args.bytes.now c.loop-place.place _ _ total size in
-    let line : c.as_bytes.result.now ≡ channel_line c.args.told
+    let line : c.as_bytes.result.now ≡ channel_line c.args.asked.now
     ((c.in-Some.name.now, c.in-Some.total), c.in-Some-get.size) =
     rw c.as_bytes.ensures.value c.in_ok-line.ensures in
     record {
-      prints = rw (lines_next (channel_line c.args.told) (with_bytes c.args.totals.now c.args.bytes.now) c.loop-place.place _ found, ← line)
+      prints = rw (lines_next (channel_line c.args.asked.now) (with_bytes c.args.totals.now c.args.bytes.now) c.loop-place.place _ found, ← line)
           (takes_append _ _ _ _ _ c.loop-place.invariant.prints c.in_ok-write_all.ensures.all);
       calm = calm_calm _ _ _ c.loop-place.invariant.calm c.in_ok-write_all.ensures.calm;
     }
 
 pub returns-clause-stops : goal.returns-clause-stops
 returns-clause-stops g c = (
-  front_of (channel_line c.args.told) (with_bytes c.args.totals.now c.args.bytes.now) c.loop-place.place _ _ c.loop-place.invariant.prints,
+  front_of (channel_line c.args.asked.now) (with_bytes c.args.totals.now c.args.bytes.now) c.loop-place.place _ _ c.loop-place.invariant.prints,
   c.loop-place.invariant.calm.steady,
 )
 
@@ -62,7 +62,7 @@ returns-in_default-clause-all g c =
     let none : slice_get c.args.totals.now c.loop-place.place ≡ None = search rules in
     let P : List ((List ℕ × Total) × Total) → Type 0 = λ channels.
     Takes (g.O.Sink.device c.args.out.now) (g.O.Sink.device c.loop-place.out)
-    (flat_map (channel_line c.args.told) channels) in
+    (flat_map (channel_line c.args.asked.now) channels) in
     subst P (channels_end c.args.totals.now c.args.bytes.now c.loop-place.place (inl none)) c.loop-place.invariant.prints
 
 pub returns-in_default-get-clause-all : goal.returns-in_default-get-clause-all
@@ -70,5 +70,5 @@ returns-in_default-get-clause-all g c =
     let none : slice_get c.args.bytes.now c.loop-place.place ≡ None = search rules in
     let P : List ((List ℕ × Total) × Total) → Type 0 = λ channels.
     Takes (g.O.Sink.device c.args.out.now) (g.O.Sink.device c.loop-place.out)
-    (flat_map (channel_line c.args.told) channels) in
+    (flat_map (channel_line c.args.asked.now) channels) in
     subst P (channels_end c.args.totals.now c.args.bytes.now c.loop-place.place (inr none)) c.loop-place.invariant.prints
