@@ -303,8 +303,9 @@ class Walk:
         try:
             return ("done", *self.repack(source, places, claim))
         except NotDone:
-            if self.has(claim):
-                self.remove(*places[:3])
+            if not self.has(claim):
+                raise NotDone(TAKEN) from None
+            self.remove(*places[:3])
             raise
 
     def remove(self, *paths):
