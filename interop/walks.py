@@ -497,8 +497,10 @@ class Walk:
 
     def rename(self, part, path):
         odd = self.odd
-        if path == odd.later and (not os.path.exists(odd.earlier) or odd.gone and os.path.exists(odd.gone)):
-            raise OSError("other error")
+        if path == odd.later:
+            os.stat(odd.earlier)
+            if odd.gone and os.path.exists(odd.gone):
+                raise OSError("other error")
         os.rename(part, path)
 
 
