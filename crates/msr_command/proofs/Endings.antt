@@ -15,9 +15,10 @@ use Rattle.msr_options.specs.declared.task.Replacing.{Replacing}
 use Rattle.msr_options.specs.declared.task.Verifying.{Verifying}
 use Rattle.msr_folders.specs.declared.found.WalkFound.{WalkFound}
 use Rattle.msr_folders.specs.Visits.{IsWalk}
-use Rattle.msr_walk.specs.Entries.{IsEntry}
-use Rattle.msr_walk.specs.Lines.{IsEntryLine}
-use Rattle.msr_walk.specs.Walk.{Walks, summary}
+use Rattle.msr_outcomes.specs.Entries.{IsEntry}
+use Rattle.msr_outcomes.specs.Lines.{IsEntryLine}
+use Rattle.msr_outcomes.specs.Summary.{summary}
+use Rattle.msr_walk.specs.Walk.{Walks}
 use Rattle.msr_walk.specs.declared.folders.Walked.{Walked}
 use Rattle.msr_walk.proofs.EntriesTold.{none_told, stops_entries, walk_stops}
 use Rattle.msr_verify.specs.Entries.{IsJudgedEntry}

@@ -14,12 +14,13 @@ use Rattle.msr_options.specs.declared.task.Folders.{Folders}
 use Rattle.msr_tree.specs.Calls.{Goes}
 use Rattle.msr_tree.specs.Steps.{Path, Step}
 use Rattle.msr_walk.proofs.EntriesTold.{none_among}
-use Rattle.msr_walk.specs.Entries.{IsEntry, IsTally}
-use Rattle.msr_walk.specs.Lines.{IsEntryLine}
+use Rattle.msr_outcomes.specs.Entries.{IsEntry, IsTally}
+use Rattle.msr_outcomes.specs.Lines.{IsEntryLine}
 use Rattle.msr_walk.specs.Told.{IsToldOfVisit, TellsOutcomesOf, WalksTree, WorksFor}
-use Rattle.msr_walk.specs.Walk.{StopsTellingOutcomes, TellsWalk, summary}
+use Rattle.msr_walk.specs.Walk.{StopsTellingOutcomes, TellsWalk}
+use Rattle.msr_outcomes.specs.Summary.{summary}
 use Rattle.msr_walk.specs.declared.folders.Walked.{Walked}
-use Rattle.msr_walk.specs.declared.tally.Tally.{Tally}
+use Rattle.msr_outcomes.specs.declared.tally.Tally.{Tally}
 
 -- the visits of an archive were told
 abbrev pub TellsArchive : {P : Type 0} → (P → Tally) → Archiving → (before after : List Step → Type 0) (out0 out : Device) (of0 of : P) → Type 0

@@ -26,13 +26,13 @@ use Rattle.msr_folders.specs.Within.{ChangesWithin}
 use Rattle.msr_tree.specs.Calls.{Goes}
 use Rattle.msr_tree.specs.Steps.{Path, Step}
 use Rattle.msr_walk.proofs.Working.{none_of_day, works_none, works_only, works_then}
-use Rattle.msr_walk.specs.Entries.{IsDayOf, IsOutcomeOf}
+use Rattle.msr_outcomes.specs.Entries.{IsDayOf, IsOutcomeOf}
 use Rattle.msr_walk.specs.Files.{AreNamesOfDay, DayNames, files_of, paths_of_names}
 use Rattle.msr_walk.specs.Handling.{AreNamesWithin, IsSameBut, IsUnclaimed}
-use Rattle.msr_walk.specs.Outcomes.{IsForDay, IsOutcomeOfDay, of_day}
+use Rattle.msr_outcomes.specs.Outcomes.{IsForDay, IsOutcomeOfDay, of_day}
 use Rattle.msr_walk.specs.Told.{HandlesDay, IsDayTold, IsToldThere, TellsDay, ToldBetween, WorksWithin}
-use Rattle.msr_walk.specs.declared.outcome.Outcome.{Outcome}
-use Rattle.msr_walk.specs.declared.outcome.Outcome.TheVariants.{Done, Refused, Same, Skipped}
+use Rattle.msr_outcomes.specs.declared.outcome.Outcome.{Outcome}
+use Rattle.msr_outcomes.specs.declared.outcome.Outcome.TheVariants.{Done, Refused, Same, Skipped}
 
 -- who looks changes nothing
 pub looks_work : (out reports : Path) (names : DayNames) (asked : DayOptions) (result : Result (Option Repacked) AllocError) (old new : List Step)

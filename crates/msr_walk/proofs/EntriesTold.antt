@@ -13,12 +13,13 @@ use Rattle.msr_folders.proofs.WalkLemmas as walks
 use Rattle.msr_tool.specs.Fault.{fault_of_writing}
 use Rattle.msr_tool.specs.declared.fault.ToolFault.TheVariants.{Write}
 use Rattle.msr_options.specs.declared.days.DayOptions.{DayOptions}
-use Rattle.msr_walk.specs.Entries.{Entry, IsEntry, IsTally, first_unopened}
-use Rattle.msr_walk.specs.Lines.{IsEntryLine}
+use Rattle.msr_outcomes.specs.Entries.{Entry, IsEntry, IsTally, first_unopened}
+use Rattle.msr_outcomes.specs.Lines.{IsEntryLine}
 use Rattle.msr_walk.specs.Told.{TellsOutcomesOf}
-use Rattle.msr_walk.specs.Walk.{StopsTellingOutcomes, TellsEnd, TellsOutcomes, Walks, summary}
+use Rattle.msr_walk.specs.Walk.{StopsTellingOutcomes, TellsEnd, TellsOutcomes, Walks}
+use Rattle.msr_outcomes.specs.Summary.{summary}
 use Rattle.msr_walk.specs.declared.folders.Walked.{Walked}
-use Rattle.msr_walk.specs.declared.tally.Tally.{Tally}
+use Rattle.msr_outcomes.specs.declared.tally.Tally.{Tally}
 
 -- nothing was printed
 pub none_told : (asked : DayOptions) (out : Device) → StopsTellingOutcomes asked out out Memory

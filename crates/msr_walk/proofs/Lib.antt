@@ -1,9 +1,7 @@
 pub mod Archive
 pub mod Aside
-pub mod ChannelLines
 pub mod DayPaths
 pub mod Days
 pub mod EntriesTold
-pub mod FirstDay
 pub mod Working
 pub mod Visited

@@ -17,13 +17,13 @@ use Rattle.msr_tree.specs.declared.kind.FileKind.{FileKind}
 use Rattle.msr_tree.specs.declared.kind.FileKind.TheVariants.{Gone}
 use Rattle.msr_walk.proofs.Days.{told_until}
 use Rattle.msr_walk.proofs.Working.{works_none, works_then}
-use Rattle.msr_walk.specs.Entries.{Entry}
+use Rattle.msr_outcomes.specs.Entries.{Entry}
 use Rattle.msr_walk.specs.Files.{day_names}
 use Rattle.msr_folders.specs.Paths.{told_folder}
 use Rattle.msr_walk.specs.Told.{IsDayTold, IsToldOfVisit, TellsDay, TellsOutcomesOf, WorksWithin}
-use Rattle.msr_walk.specs.declared.outcome.Outcome.{Outcome}
-use Rattle.msr_walk.specs.declared.outcome.Outcome.TheVariants.{Refused, Skipped}
-use Rattle.msr_walk.specs.declared.tally.Tally.{Tally}
+use Rattle.msr_outcomes.specs.declared.outcome.Outcome.{Outcome}
+use Rattle.msr_outcomes.specs.declared.outcome.Outcome.TheVariants.{Refused, Skipped}
+use Rattle.msr_outcomes.specs.declared.tally.Tally.{Tally}
 
 abbrev unlisted_entry : Path → Entry
 unlisted_entry path = record { path = path; channel = []; outcome = Refused Listing }

@@ -24,15 +24,16 @@ use Rattle.msr_tree.specs.Calls.{Goes}
 use Rattle.msr_tree.specs.Steps.{AtEachMoment, Path, Step, now}
 use Rattle.msr_tree.specs.declared.kind.FileKind.{FileKind}
 use Rattle.msr_tree.specs.declared.kind.FileKind.TheVariants.{Gone}
-use Rattle.msr_walk.specs.Entries.{Entry, IsEntry, IsTally}
+use Rattle.msr_outcomes.specs.Entries.{Entry, IsEntry, IsTally}
 use Rattle.msr_walk.specs.Files.{AreNamesOfDay, DayNames, day_names, paths_of_names}
-use Rattle.msr_walk.specs.Lines.{IsEntryLine}
-use Rattle.msr_walk.specs.Outcomes.{IsForDay, of_day}
-use Rattle.msr_walk.specs.Walk.{TellsWalk, summary}
+use Rattle.msr_outcomes.specs.Lines.{IsEntryLine}
+use Rattle.msr_outcomes.specs.Outcomes.{IsForDay, of_day}
+use Rattle.msr_outcomes.specs.Summary.{summary}
+use Rattle.msr_walk.specs.Walk.{TellsWalk}
 use Rattle.msr_walk.specs.declared.folders.Walked.{Walked}
-use Rattle.msr_walk.specs.declared.outcome.Outcome.{Outcome}
-use Rattle.msr_walk.specs.declared.outcome.Outcome.TheVariants.{Refused, Skipped}
-use Rattle.msr_walk.specs.declared.tally.Tally.{Tally}
+use Rattle.msr_outcomes.specs.declared.outcome.Outcome.{Outcome}
+use Rattle.msr_outcomes.specs.declared.outcome.Outcome.TheVariants.{Refused, Skipped}
+use Rattle.msr_outcomes.specs.declared.tally.Tally.{Tally}
 
 -- What an outcome says of a day by what its names lead to. No clause speaks of claims, links and missing folders, for which
 -- a day may not be opened.

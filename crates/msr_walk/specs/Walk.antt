@@ -1,106 +1,18 @@
 -- What a walk prints, and how it ends.
-use Rattle.std.specs.Prelude.{◌≡◌, ◌⊎◌, ℕ, ◌<◌, Bool, false, true, List, [], ◌++◌, map, codes, Result, Ok, Err}
-use Rattle.std.specs.Fmt.{decimal}
-use Rattle.std.specs.List.{flat_map, zip}
+use Rattle.std.specs.Prelude.{◌≡◌, ◌⊎◌, ℕ, ◌<◌, List, Result, Ok, Err}
 use Rattle.msr_devices.specs.Device.{Device, Takes}
 use Rattle.msr_devices.specs.declared.fault.DeviceFault.{DeviceFault}
-use Rattle.msr_folders.specs.Paths.{text_json}
 use Rattle.msr_folders.specs.Visits.{IsWalk, IsWalkInPart, StopsTelling, Tells}
-use Rattle.msr_folders.specs.declared.totals.Total.{Total}
 use Rattle.msr_folders.specs.declared.found.WalkFound.{WalkFound}
 use Rattle.msr_folders.specs.declared.found.WalkFound.TheVariants.{Well, Unwell, NoDay}
 use Rattle.msr_tool.specs.declared.fault.ToolFault.{ToolFault}
 use Rattle.msr_tool.specs.declared.fault.ToolFault.TheVariants.{Write, Memory}
 use Rattle.msr_options.specs.declared.days.DayOptions.{DayOptions}
-use Rattle.msr_options.specs.declared.task.ListForm.{ListForm}
-use Rattle.msr_options.specs.declared.task.ListForm.TheVariants.{Words, Json}
-use Rattle.msr_walk.specs.Entries.{Entry, IsEntry, IsTally, bytes_of_channels, channels_of, counted, first_unopened, is_done, is_larger, is_refused, is_skipped, summed}
-use Rattle.msr_walk.specs.Lines.{IsEntryLine, bytes_json, bytes_told}
+use Rattle.msr_outcomes.specs.Entries.{Entry, IsEntry, IsTally, counted, first_unopened, is_done, is_larger, is_refused}
+use Rattle.msr_outcomes.specs.Lines.{IsEntryLine}
+use Rattle.msr_outcomes.specs.Summary.{summary}
 use Rattle.msr_walk.specs.declared.folders.Walked.{Walked}
-use Rattle.msr_walk.specs.declared.tally.Tally.{Tally}
-
--- each channel's name with the totals of its records, and those of its bytes
-abbrev pub with_bytes : (totals bytes : List (List ℕ × Total)) → List ((List ℕ × Total) × Total)
-with_bytes totals bytes = zip totals (map (λ total. total.1) bytes)
-
--- the line of a channel's totals, of records and of bytes, in words
-abbrev pub channel_words : (bytes : Bool) → (List ℕ × Total) × Total → List ℕ
-channel_words bytes of =
-    codes "channel " ++ (of.0.0 ++ (codes " files "
-    ++ (decimal of.0.1.files ++ (codes " read "
-    ++ (decimal of.0.1.read ++ (codes " written " ++ (decimal of.0.1.written
-    ++ (bytes_told bytes of.1.read of.1.written ++ codes "\n"))))))))
-
--- in JSON
-abbrev pub channel_json : (bytes : Bool) → (List ℕ × Total) × Total → List ℕ
-channel_json bytes of =
-    codes "{\"what\":\"channel\",\"id\":\"" ++ (text_json of.0.0 ++ (codes "\",\"files\":"
-    ++ (decimal of.0.1.files ++ (codes ",\"read\":"
-    ++ (decimal of.0.1.read ++ (codes ",\"written\":" ++ (decimal of.0.1.written
-    ++ (bytes_json bytes of.1.read of.1.written ++ codes "}\n"))))))))
-
-abbrev pub channel_told : ListForm → (bytes : Bool) → (List ℕ × Total) × Total → List ℕ
-channel_told Words bytes of = channel_words bytes of
-channel_told Json bytes of = channel_json bytes of
-
-abbrev pub channel_line : DayOptions → (List ℕ × Total) × Total → List ℕ
-channel_line asked of = channel_told asked.telling.form asked.bytes of
-
--- what the last line says of the days that did not get smaller: nothing, unless only those that do are kept
-abbrev pub larger_told : (told : Bool) → (larger : ℕ) → List ℕ
-larger_told false larger = []
-larger_told true larger = codes " larger " ++ decimal larger
-
-abbrev pub larger_json : (told : Bool) → (larger : ℕ) → List ℕ
-larger_json false larger = []
-larger_json true larger = codes ",\"larger\":" ++ decimal larger
-
--- the last line in words
-abbrev pub files_words : DayOptions → Tally → List ℕ
-files_words asked tally =
-    codes "files " ++ (decimal tally.done ++ (codes " skipped "
-    ++ (decimal tally.skipped ++ (codes " refused " ++ (decimal tally.refused
-    ++ (larger_told asked.only_smaller tally.larger
-    ++ (bytes_told asked.bytes tally.bytes_read tally.bytes_written ++ codes "\n")))))))
-
--- in JSON
-abbrev pub files_json : DayOptions → Tally → List ℕ
-files_json asked tally =
-    codes "{\"what\":\"files\",\"files\":" ++ (decimal tally.done ++ (codes ",\"skipped\":"
-    ++ (decimal tally.skipped ++ (codes ",\"refused\":" ++ (decimal tally.refused
-    ++ (larger_json asked.only_smaller tally.larger
-    ++ (bytes_json asked.bytes tally.bytes_read tally.bytes_written ++ codes "}\n")))))))
-
-abbrev pub files_told : ListForm → DayOptions → Tally → List ℕ
-files_told Words asked tally = files_words asked tally
-files_told Json asked tally = files_json asked tally
-
--- the last line
-abbrev pub files_line : DayOptions → Tally → List ℕ
-files_line asked tally = files_told asked.telling.form asked tally
-
--- the lines after those of the entries, from what is counted of these
-abbrev pub tally_lines : DayOptions → Tally → List ℕ
-tally_lines asked tally = flat_map (channel_line asked) (with_bytes tally.channels tally.bytes)
-    ++ files_line asked tally
-
--- the counts and totals of the entries
-abbrev pub tally_of : List Entry → Tally
-tally_of entries = record {
-  done = counted is_done entries;
-  skipped = counted is_skipped entries;
-  refused = counted is_refused entries;
-  larger = counted is_larger entries;
-  bytes_read = summed (λ add. add.read) entries;
-  bytes_written = summed (λ add. add.written) entries;
-  channels = channels_of entries;
-  bytes = bytes_of_channels entries;
-  unopened = first_unopened entries;
-}
-
--- the lines after those of the entries
-abbrev pub summary : DayOptions → List Entry → List ℕ
-summary asked entries = tally_lines asked (tally_of entries)
+use Rattle.msr_outcomes.specs.declared.tally.Tally.{Tally}
 
 -- some more entries were told: their lines were printed, and they are counted
 abbrev pub TellsOutcomes : DayOptions → Device → Device → Tally → Tally → Type 0

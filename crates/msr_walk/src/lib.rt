@@ -6,10 +6,7 @@ mod batch;
 mod claims;
 mod day;
 mod folders;
-mod outcome;
-mod summary;
 mod system;
-mod tally;
 mod walker;
 
 pub use claims::{Asked, ClaimFault, Claims};

@@ -1,8 +1,8 @@
 use Rattle.std.proofs.lemmas.Result.{err_from_is_err_and}
 use Rattle.std.proofs.Common.{refl}
 use Rattle.msr_folders.proofs.VisitLemmas.{part_line, part_one, these_one}
-use Rattle.msr_walk.specs.Entries.{Entry, IsEntry, IsTally}
-use Rattle.msr_walk.specs.Lines.{IsEntryLine}
+use Rattle.msr_outcomes.specs.Entries.{Entry, IsEntry, IsTally}
+use Rattle.msr_outcomes.specs.Lines.{IsEntryLine}
 use Rattle.msr_walk.proofs.EntriesTold.{none_told}
 use Rattle.msr_walk.proofs.folders.tell.Goals as goal
 

@@ -5,7 +5,7 @@ use Rattle.msr_walk.proofs.Days.{outcome_of, tells_works}
 use Rattle.msr_walk.proofs.EntriesTold.{counted_on, none_told}
 use Rattle.msr_walk.proofs.Visited.{visited_day}
 use Rattle.msr_walk.proofs.Working.{goes_works_none, goes_works_then, wait_after}
-use Rattle.msr_walk.specs.Entries.{Entry, IsDayOf}
+use Rattle.msr_outcomes.specs.Entries.{Entry, IsDayOf}
 use Rattle.msr_walk.proofs.walker.Walker.visit_day.Goals as goal
 
 pub returns-in_err-channel-clause-stops : goal.returns-in_err-channel-clause-stops

@@ -2,8 +2,8 @@
 use Rattle.std.proofs.Common.{◌≡◌, List, [], ◌∷◌, ◌++◌, ◌∙◌, refl, ap, sym, Option, None, Some}
 use Rattle.std.specs.Option.{option_or}
 use Rattle.msr_options.specs.declared.hint.Unopened.{Unopened}
-use Rattle.msr_walk.specs.Entries.{Entry, IsTally, first_unopened, unopened_of}
-use Rattle.msr_walk.specs.declared.tally.Tally.{Tally}
+use Rattle.msr_outcomes.specs.Entries.{Entry, IsTally, first_unopened, unopened_of}
+use Rattle.msr_outcomes.specs.declared.tally.Tally.{Tally}
 
 or_none : (first : Option Unopened) → option_or first None ≡ first
 or_none None = refl

@@ -10,10 +10,10 @@ use Rattle.msr_devices.specs.Device.{Device, Takes}
 use Rattle.msr_devices.proofs.Chaining.{takes_append}
 use Rattle.msr_options.specs.declared.days.DayOptions.{DayOptions}
 use Rattle.msr_report.specs.Writing.{TakesPrefix}
-use Rattle.msr_walk.specs.Entries.{Entry, IsTally}
+use Rattle.msr_outcomes.specs.Entries.{Entry, IsTally}
 use Rattle.msr_folders.specs.declared.totals.Total.{Total}
-use Rattle.msr_walk.specs.Walk.{summary, tally_lines, with_bytes}
-use Rattle.msr_walk.specs.declared.tally.Tally.{Tally}
+use Rattle.msr_outcomes.specs.Summary.{summary, tally_lines, with_bytes}
+use Rattle.msr_outcomes.specs.declared.tally.Tally.{Tally}
 
 -- the lines up to a place, and the line at the place
 pub lines_next : {X : Type 0} (line : X → List ℕ) (xs : List X) (i : ℕ) (x : X) → slice_get xs i ≡ Some x →

@@ -1,9 +1,9 @@
 use Rattle.std.proofs.Common.{arith, ◌≡◌, [], ◌∷◌, ◌++◌, ◌∙◌, ap, refl, inl, inr, None}
 use Rattle.std.proofs.lemmas.Grind.{common_steps}
-use Rattle.msr_walk.specs.Entries.{first_unopened, unopened_of}
-use Rattle.msr_walk.specs.declared.outcome.Outcome.TheVariants.{Refused}
-use Rattle.msr_walk.proofs.FirstDay.{first_more, kept_first}
-use Rattle.msr_walk.proofs.tally.Tally.add.Goals as goal
+use Rattle.msr_outcomes.specs.Entries.{first_unopened, unopened_of}
+use Rattle.msr_outcomes.specs.declared.outcome.Outcome.TheVariants.{Refused}
+use Rattle.msr_outcomes.proofs.FirstDay.{first_more, kept_first}
+use Rattle.msr_outcomes.proofs.tally.Tally.add.Goals as goal
 
 pub returns-in-Skipped : goal.returns-in-Skipped
 returns-in-Skipped c = λ before entry h channel outcome.

@@ -1,6 +1,6 @@
 //! What was told so far, counted.
 ghost use Rattle.std.specs.Prelude.{◌≡◌, ◌++◌, ◌∷◌, [], List, OnOk};
-ghost use Rattle.msr_walk.specs.Entries.{AddsDone, Entry, IsTally};
+ghost use Rattle.msr_outcomes.specs.Entries.{AddsDone, Entry, IsTally};
 
 use crate::outcome::Outcome;
 use msr_folders::Totals;
@@ -11,7 +11,7 @@ use std::alloc::{AllocError, Global};
 /// How many entries had each outcome, and the totals of the channels with a file that was done, in this walk or an
 /// earlier one: of records, and of bytes, which of all such files are summed up too.
 #[derive(Drop)]
-pub(crate) struct Tally {
+pub struct Tally {
     pub done: u64,
     pub skipped: u64,
     pub refused: u64,
@@ -26,7 +26,7 @@ pub(crate) struct Tally {
 
 impl Tally {
     /// The tally before anything was told.
-    pub(crate) fn new(alloc: Global) -> Tally
+    pub fn new(alloc: Global) -> Tally
         ensures { IsTally [] result }
     {
         Tally {
@@ -56,7 +56,7 @@ impl Tally {
     }
 
     /// Counts one entry more. The channel is that of a day that was done.
-    pub(crate) fn add(&mut self, channel: &str, outcome: Outcome) -> Result<(), AllocError>
+    pub fn add(&mut self, channel: &str, outcome: Outcome) -> Result<(), AllocError>
         ensures { (before : List Entry) (entry : Entry) → IsTally before self.old → entry.channel ≡ channel.now
             → entry.outcome ≡ outcome → OnOk result (IsTally (before ++ entry ∷ []) self.new) }
     {

@@ -1,10 +1,10 @@
 use Rattle.std.proofs.Common.{rules, ◌≡◌}
 use Rattle.std.proofs.lemmas.Result.{err_from_is_err_and}
 use Rattle.msr_devices.proofs.Chaining.{calm_calm, calm_failed, calm_same, takes_append}
-use Rattle.msr_walk.specs.Walk.{files_line}
-use Rattle.msr_walk.proofs.ChannelLines.{front_after, front_all, front_before, summary_is}
+use Rattle.msr_outcomes.specs.Summary.{files_line}
+use Rattle.msr_outcomes.proofs.ChannelLines.{front_after, front_all, front_before, summary_is}
 use Rattle.msr_folders.proofs.VisitLemmas.{stops_within}
-use Rattle.msr_walk.proofs.summary.write_summary.Goals as goal
+use Rattle.msr_outcomes.proofs.summary.write_summary.Goals as goal
 
 pub returns-in_err-write_channels-clause-stops : goal.returns-in_err-write_channels-clause-stops
 returns-in_err-write_channels-clause-stops g c =

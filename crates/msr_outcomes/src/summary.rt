@@ -4,8 +4,8 @@ ghost use Rattle.std.specs.List.{flat_map};
 ghost use Rattle.std.specs.String.{string_bytes};
 ghost use Rattle.msr_devices.specs.Device.{CanCountCall, IsCalm, Takes};
 ghost use Rattle.msr_folders.specs.Visits.{StopsPrefix};
-ghost use Rattle.msr_walk.specs.Entries.{Entry, IsTally};
-ghost use Rattle.msr_walk.specs.Walk.{channel_json, channel_line, channel_words, files_json, files_line, files_words, larger_json, larger_told, summary, with_bytes};
+ghost use Rattle.msr_outcomes.specs.Entries.{Entry, IsTally};
+ghost use Rattle.msr_outcomes.specs.Summary.{channel_json, channel_line, channel_words, files_json, files_line, files_words, larger_json, larger_told, summary, with_bytes};
 
 use crate::outcome::{bytes_json, bytes_told};
 use crate::tally::Tally;
@@ -144,7 +144,7 @@ fn files_line(alloc: Global, asked: &DayOptions, tally: &Tally) -> Result<String
 }
 
 /// Writes a line for each channel, in the order of their first files that were done, and the line of the counts.
-pub(crate) fn write_summary<O: Sink>(
+pub fn write_summary<O: Sink>(
     alloc: Global,
     out: &mut O,
     asked: &DayOptions,

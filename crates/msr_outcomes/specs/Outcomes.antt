@@ -6,8 +6,8 @@ use Rattle.msr_kinds.specs.declared.lengths.Length.{Length}
 use Rattle.msr_making.specs.Day.{IsDayOutcome}
 use Rattle.msr_making.specs.declared.answer.DayOutcome.{DayOutcome}
 use Rattle.msr_making.specs.declared.answer.DayOutcome.TheVariants as outcomes
-use Rattle.msr_walk.specs.declared.outcome.Outcome.{Outcome}
-use Rattle.msr_walk.specs.declared.outcome.Outcome.TheVariants.{Done, Same, Refused}
+use Rattle.msr_outcomes.specs.declared.outcome.Outcome.{Outcome}
+use Rattle.msr_outcomes.specs.declared.outcome.Outcome.TheVariants.{Done, Same, Refused}
 
 -- What is asked of one day: what is of all, but for the length if each day's own is asked for.
 pub record IsForDay (days asked : DayOptions) : Type 0 where

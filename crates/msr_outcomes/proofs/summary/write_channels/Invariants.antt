@@ -1,8 +1,8 @@
 use Rattle.std.proofs.Common.{take}
 use Rattle.std.specs.List.{flat_map}
 use Rattle.msr_devices.specs.Device.{IsCalm, Takes}
-use Rattle.msr_walk.specs.Walk.{channel_line, with_bytes}
-use Rattle.msr_walk.proofs.summary.write_channels.Given as goal
+use Rattle.msr_outcomes.specs.Summary.{channel_line, with_bytes}
+use Rattle.msr_outcomes.proofs.summary.write_channels.Given as goal
 
 -- the lines of the channels so far are written
 abbrev pub invariant-loop-place : goal.invariant-loop-place

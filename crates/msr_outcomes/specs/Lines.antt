@@ -16,9 +16,9 @@ use Rattle.msr_options.specs.declared.task.ListForm.TheVariants.{Words, Json}
 use Rattle.msr_options.specs.declared.telling.Telling.{Telling}
 use Rattle.msr_tool.specs.declared.fault.ToolFault.{ToolFault}
 use Rattle.msr_tool.specs.declared.fault.ToolFault.TheVariants as tool
-use Rattle.msr_walk.specs.Entries.{Entry}
-use Rattle.msr_walk.specs.declared.outcome.Outcome.{Outcome}
-use Rattle.msr_walk.specs.declared.outcome.Outcome.TheVariants.{Done, Same, Skipped, Refused}
+use Rattle.msr_outcomes.specs.Entries.{Entry}
+use Rattle.msr_outcomes.specs.declared.outcome.Outcome.{Outcome}
+use Rattle.msr_outcomes.specs.declared.outcome.Outcome.TheVariants.{Done, Same, Skipped, Refused}
 
 -- the first word of a line
 abbrev pub outcome_word : Outcome → List ℕ

@@ -5,9 +5,9 @@ use Rattle.std.specs.Option.{option_map}
 use Rattle.msr_devices.specs.Device.{Takes}
 use Rattle.msr_devices.proofs.Chaining.{calm_calm, calm_failed, takes_append}
 use Rattle.msr_folders.specs.declared.totals.Total.{Total}
-use Rattle.msr_walk.specs.Walk.{channel_line, with_bytes}
-use Rattle.msr_walk.proofs.ChannelLines.{channel_at, channels_end, lines_next, front_of, front_in}
-use Rattle.msr_walk.proofs.summary.write_channels.Goals as goal
+use Rattle.msr_outcomes.specs.Summary.{channel_line, with_bytes}
+use Rattle.msr_outcomes.proofs.ChannelLines.{channel_at, channels_end, lines_next, front_of, front_in}
+use Rattle.msr_outcomes.proofs.summary.write_channels.Goals as goal
 
 pub returns-in_err-line-clause-stops : goal.returns-in_err-line-clause-stops
 returns-in_err-line-clause-stops g c =

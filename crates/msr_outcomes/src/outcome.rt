@@ -1,8 +1,8 @@
 //! What becomes of an entry of a folder, and its line.
 ghost use Rattle.std.specs.Prelude.{◌≡◌, ℕ, List, IfOk};
 ghost use Rattle.std.specs.String.{string_bytes};
-ghost use Rattle.msr_walk.specs.Lines.{IsOutcomeJson, IsOutcomeLine, IsOutcomeReason, IsEntryLine, bytes_json, bytes_told, repacked_json, counts_told, is_to_look_at, day_place_json, day_refusal_json, day_refusal_text, unopened_json, outcome_word, outcome_members, outcome_rest, outcome_words};
-ghost use Rattle.msr_walk.specs.Outcomes.{of_day};
+ghost use Rattle.msr_outcomes.specs.Lines.{IsOutcomeJson, IsOutcomeLine, IsOutcomeReason, IsEntryLine, bytes_json, bytes_told, repacked_json, counts_told, is_to_look_at, day_place_json, day_refusal_json, day_refusal_text, unopened_json, outcome_word, outcome_members, outcome_rest, outcome_words};
+ghost use Rattle.msr_outcomes.specs.Outcomes.{of_day};
 
 use msr_folders::{JsonText, Shown, ToldFault, fault_json, reason_json, skip_text};
 use msr_input::ReadFault;
@@ -69,7 +69,7 @@ struct ToldStop {
 
 impl fmt::Display for ToldStop {
     ghost use Rattle.std.specs.Prelude.{Some};
-    ghost use Rattle.msr_walk.specs.Lines.{tool_text};
+    ghost use Rattle.msr_outcomes.specs.Lines.{tool_text};
 
     ghost output = { λ told. Some (tool_text told.fault) };
 
@@ -144,7 +144,7 @@ fn day_refusal_json(alloc: Global, why: DayFault) -> Result<String, AllocError>
 
 /// What became of an entry.
 #[derive(Clone, Copy)]
-pub(crate) enum Outcome {
+pub enum Outcome {
     Done(Repacked),
     /// An earlier walk had done it, and it was left alone.
     Same(Repacked),
@@ -155,7 +155,7 @@ pub(crate) enum Outcome {
 
 impl Outcome {
     /// That of a day.
-    pub(crate) fn of_day(outcome: DayOutcome) -> Outcome
+    pub fn of_day(outcome: DayOutcome) -> Outcome
         ensures { result ≡ of_day outcome }
     {
         match outcome {
@@ -281,7 +281,7 @@ impl Outcome {
 
     /// What is printed of the entry with this path: its line, or nothing if it is left out. Of a folder without a list the
     /// system's reason is given.
-    pub(crate) fn told(
+    pub fn told(
         self,
         alloc: Global,
         asked: &DayOptions,

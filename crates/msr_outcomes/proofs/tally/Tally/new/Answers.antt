@@ -1,5 +1,5 @@
 use Rattle.std.proofs.Common.{refl}
-use Rattle.msr_walk.proofs.tally.Tally.new.Goals as goal
+use Rattle.msr_outcomes.proofs.tally.Tally.new.Goals as goal
 
 pub returns : goal.returns
 returns c = record {

@@ -7,13 +7,13 @@ use Rattle.msr_folders.specs.Totals.{Add, saturated, totals_of}
 use Rattle.msr_folders.specs.declared.totals.Total.{Total}
 use Rattle.msr_options.specs.declared.days.DayOptions.{DayOptions}
 use Rattle.msr_options.specs.declared.hint.Unopened.{Unopened}
-use Rattle.msr_walk.specs.Outcomes.{IsOutcomeOfDay}
+use Rattle.msr_outcomes.specs.Outcomes.{IsOutcomeOfDay}
 use Rattle.msr_folders.specs.Days.{IsNoDay}
-use Rattle.msr_walk.specs.declared.outcome.Outcome.{Outcome}
-use Rattle.msr_walk.specs.declared.outcome.Outcome.TheVariants.{Done, Same, Skipped, Refused}
+use Rattle.msr_outcomes.specs.declared.outcome.Outcome.{Outcome}
+use Rattle.msr_outcomes.specs.declared.outcome.Outcome.TheVariants.{Done, Same, Skipped, Refused}
 use Rattle.msr_making.specs.declared.answer.DayFault.TheVariants.{CannotOpen, Gone, Listing, Larger}
 use Rattle.msr_making.specs.declared.answer.Repacked.{Repacked}
-use Rattle.msr_walk.specs.declared.tally.Tally.{Tally}
+use Rattle.msr_outcomes.specs.declared.tally.Tally.{Tally}
 
 -- an entry: its path from the archive's folder, and what became of it; of a day its channel too
 pub record Entry : Type 0 where

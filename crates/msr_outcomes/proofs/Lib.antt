@@ -1,0 +1,2 @@
+pub mod ChannelLines
+pub mod FirstDay

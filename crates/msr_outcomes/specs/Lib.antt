@@ -1,0 +1,4 @@
+pub mod Outcomes
+pub mod Entries
+pub mod Lines
+pub mod Summary
