@@ -97,9 +97,15 @@ tolerance_at verb.List has = (0, tolerance_rule, lit< tt, refl, refl)
 tolerance_at verb.Compare has = (0, tolerance_rule, lit< tt, refl, refl)
 tolerance_at _ has = (2, tolerance_rule, lit< tt, refl, refl)
 
+-- how many days it is without a value
+abbrev days_by : Verb → List ℕ
+days_by verb.Archive = codes "0"
+days_by _ = codes "7"
+
 days_at : (verb : Verb) → list_any (λ rule. bytes_eq rule.id (codes "older-than")) (rules_of verb) ≡ true →
-    Any (λ rule. rule ≡ days_rule) (rules_of verb)
-days_at verb.Replace has = (3, days_rule, lit< tt, refl, refl)
+    Any (λ rule. rule ≡ days_rule (days_by verb)) (rules_of verb)
+days_at verb.Archive has = (8, days_rule (codes "0"), lit< tt, refl, refl)
+days_at verb.Replace has = (3, days_rule (codes "7"), lit< tt, refl, refl)
 days_at _ has = cc
 
 set_action : (action : Option ArgAction) → is_set action ≡ true → action ≡ Some Set
@@ -327,5 +333,5 @@ has_all verb command m is p =
           (codes "1000") (lit< tt) (tolerance_at verb has) number reads);
       days = λ has number reads. holds_days number
           (number_there (word_of verb) (rules_of verb) command m is (rules_suit verb) apart p 0 4_294_967_295
-          (codes "older-than") (codes "7") (lit< tt) (days_at verb has) number reads);
+          (codes "older-than") (days_by verb) (lit< tt) (days_at verb has) number reads);
     }

@@ -101,6 +101,7 @@ pub record AsksTelling (found : Found) (telling : Telling) : Type 0 where
 -- one without a text
 pub record AsksDays (found : Found) (days : DayOptions) : Type 0 where
   pub flags : AsksFlags found days
+  pub older_than : IsNumberOf (one_text found (codes "older-than")) (Some days.older_than)
   pub telling : AsksTelling found days.telling
   pub same_length : IsTrue days.same_length ↔ (length_in found ≡ Some (codes "same"))
   pub own : IsTrue days.same_length → AsksOptions found None days.options

@@ -40,8 +40,8 @@ below_rule =
 abbrev pub tolerance_rule : Rule
 tolerance_rule = option_rule (codes "tolerance") (codes "1000") (Signed (pos 1) (pos 1_000_000))
 
-abbrev pub days_rule : Rule
-days_rule = option_rule (codes "older-than") (codes "7") (Signed (pos 0) (pos 4_294_967_295))
+abbrev pub days_rule : (default : List ℕ) → Rule
+days_rule default = option_rule (codes "older-than") default (Signed (pos 0) (pos 4_294_967_295))
 
 abbrev pub length_rule : Rule
 length_rule = option_rule (codes "length") (codes "512") (Signed (pos 0) (pos 4_294_967_295))
@@ -56,7 +56,7 @@ rule_for (FileIfAny name help) = new_rule name.now
 rule_for (Flag name help long_help) = flag_rule name.now
 rule_for (Below help long_help) = below_rule
 rule_for (Tolerance help long_help) = tolerance_rule
-rule_for (Days help long_help) = days_rule
+rule_for (Days default help long_help) = days_rule default.now
 rule_for (Length help) = length_rule
 rule_for (DayLength help long_help) = day_length_rule
 
@@ -72,9 +72,9 @@ rules_of verb.Check = file_rule (codes "PACKED") ∷ file_rule (codes "REPORT") 
 rules_of verb.Compare = tolerance_rule ∷ file_rule (codes "ONE") ∷ file_rule (codes "OTHER") ∷ []
 rules_of verb.Archive = day_length_rule ∷ flag_rule (codes "no-int24") ∷ tolerance_rule ∷ flag_rule (codes "strict")
     ∷ below_rule ∷ flag_rule (codes "resume") ∷ flag_rule (codes "check") ∷ flag_rule (codes "only-smaller")
-    ∷ flag_rule (codes "bytes") ∷ flag_rule (codes "quiet") ∷ flag_rule (codes "json") ∷ folder_rules
+    ∷ days_rule (codes "0") ∷ flag_rule (codes "bytes") ∷ flag_rule (codes "quiet") ∷ flag_rule (codes "json") ∷ folder_rules
 rules_of verb.Verify = flag_rule (codes "quiet") ∷ flag_rule (codes "json") ∷ below_rule ∷ folder_rules
-rules_of verb.Replace = flag_rule (codes "undo") ∷ below_rule ∷ flag_rule (codes "only-smaller") ∷ days_rule
+rules_of verb.Replace = flag_rule (codes "undo") ∷ below_rule ∷ flag_rule (codes "only-smaller") ∷ days_rule (codes "7")
     ∷ flag_rule (codes "touch") ∷ flag_rule (codes "int24") ∷ file_rule (codes "ROOT") ∷ file_rule (codes "OUT")
     ∷ file_rule (codes "REPORTS") ∷ file_rule (codes "ASIDE") ∷ []
 rules_of verb.Feed = length_rule ∷ flag_rule (codes "no-int24") ∷ tolerance_rule ∷ flag_rule (codes "strict")

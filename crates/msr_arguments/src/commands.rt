@@ -24,8 +24,8 @@ pub(crate) enum Argument<'a> {
     Below(&'a str, &'a str),
     Tolerance(&'a str, &'a str),
     Length(&'a str),
-    /// A number of days.
-    Days(&'a str, &'a str),
+    /// A number of days, by what it is without a value, its help and its long help.
+    Days(&'a str, &'a str, &'a str),
     /// The length of a day's records. Each may have a length of its own, so that it may be no number.
     DayLength(&'a str, &'a str),
 }
@@ -109,8 +109,9 @@ fn arg_of<'a>(alloc: Global, argument: Argument<'a>) -> Arg<'a>
             let parser = value_parser!(u32).range(1..=1_000_000);
             valued(alloc, "tolerance", "T", parser, "1000", help).long_help(long_help)
         }
-        Argument::Days(help, long_help) => {
-            valued(alloc, "older-than", "DAYS", value_parser!(u32), "7", help).long_help(long_help)
+        Argument::Days(default, help, long_help) => {
+            valued(alloc, "older-than", "DAYS", value_parser!(u32), default, help)
+                .long_help(long_help)
         }
         Argument::Length(help) => { valued(alloc, "length", "L", value_parser!(u32), "512", help) }
         Argument::DayLength(help, long_help) => {

@@ -183,12 +183,15 @@ refused PATH: listing                 a folder that cannot be listed, or has a n
                                       is not UTF-8: nothing in it is handled
 notshown PATH                         its report did not show it, with --check: not kept
 differs PATH                          not the data of the file, with --check: not kept
+changed PATH                          the same, and the file was changed meanwhile
 larger PATH read N written M          it did not get smaller, with --only-smaller: not kept
+young PATH                            the file was changed in the last DAYS days, or in
+                                      the future, with --older-than: left alone
 
 and at the end, of the files that are done, one line for each channel, and the counts:
 
 channel NET.STA.LOC.CHAN files N read N written N
-files N skipped N refused N [larger N]
+files N skipped N refused N [larger N] [young N]
 
 Records and report appear under their names whole or not at all: they are written beside
 them, as PATH.N.part, and then renamed, the report first. Those of a refused file are
@@ -210,6 +213,7 @@ Status 0 if all was walked and nothing refused, else 1; 2 if the command line is
         RESUME,
         CHECKED,
         ONLY_SMALLER,
+        DAYS_OLDER_THAN,
         BYTES,
         DAYS_QUIET,
         DAYS_JSON,
@@ -391,6 +395,15 @@ has, neither they nor the report are kept, nor what an earlier walk made of it, 
 line counts it: `files N skipped N refused N larger N`",
 );
 
+const DAYS_OLDER_THAN: Argument = Argument::Days(
+    "0",
+    "Only days whose file was not changed for so many days; 0: all",
+    "Only days whose file was not changed for so many days, 0 to 4294967295; with 0 all. For
+others `young PATH` is printed; the file is not opened, and what an earlier walk made of
+it stays. With more than 0 days the last line counts them: `files N skipped N refused N
+young N`",
+);
+
 const UNDO: Argument = Argument::Flag(
     "undo",
     "Put the originals back",
@@ -406,6 +419,7 @@ M` is printed",
 );
 
 const OLDER_THAN: Argument = Argument::Days(
+    "7",
     "Only days whose file was not changed for so many days; 0: all",
     "Only days whose file was not changed for so many days, 0 to 4294967295; with 0 all. Who
 still writes to a file might go on in ASIDE",

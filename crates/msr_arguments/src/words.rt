@@ -225,7 +225,8 @@ fn telling_in(found: &ArgMatches<'_>) -> Telling
 /// What is asked of the days of an archive. If each is to have the length of its first record, that of the options is
 /// the one without a text.
 fn days_in<'a>(found: &ArgMatches<'a>) -> Result<DayOptions, LineFault<'a>>
-    requires { HoldsTolerance (found_of found.now) }
+    requires tolerance { HoldsTolerance (found_of found.now) }
+    requires days { HoldsDays (found_of found.now) }
     ensures asked { IfOk result (AsksDays (found_of found.now)) }
     ensures tolerance { IfOk result (λ days. IsTolerance days.options.tolerance) }
 {
@@ -238,6 +239,7 @@ fn days_in<'a>(found: &ArgMatches<'a>) -> Result<DayOptions, LineFault<'a>>
         resume: flag_in(found, "resume"),
         check: flag_in(found, "check"),
         only_smaller: flag_in(found, "only-smaller"),
+        older_than: older_than_in(found),
         bytes: flag_in(found, "bytes"),
         telling: telling_in(found),
     })

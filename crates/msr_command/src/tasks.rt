@@ -3,6 +3,7 @@ ghost use Rattle.std.specs.Prelude.{IfErr};
 ghost use Rattle.msr_devices.specs.Device.{CanCountCall};
 ghost use Rattle.msr_command.specs.Ends.{Checks, Does, EndsClosed, Feeds, FeedsTo, IsOverlapOrMemory, Lists, ListsNamed, OpensOutput, Repacks, RepacksNamed, VerifiesArchive, WalksArchive};
 
+use crate::clock::time_of_now;
 use crate::comparing::compare_files;
 use crate::done::Done;
 use crate::files::{create_output, create_report, open_file, open_input, settle_standard_output};
@@ -285,7 +286,7 @@ pub(crate) fn require_apart<'a, R: Files>(
     }
 }
 
-fn repack_archive<'a, R: Files, O: Sink>(
+fn repack_archive<'a, R: Files + Clock, O: Sink>(
     rt: &R,
     alloc: Global,
     asked: &Archiving<'a>,
@@ -303,7 +304,7 @@ where
     require_apart(rt, alloc, root, out, reports)?;
     let claims = SystemClaims::new(rt);
     let mut tree = SystemTree::unlinked(rt, alloc);
-    let walked = walk(&mut tree, &claims, alloc, &*asked, output)?;
+    let walked = walk(&mut tree, &claims, alloc, &*asked, time_of_now(rt), output)?;
     Ok(Done::of_walk(walked.found, walked.unopened, asked.below.is_empty(), false))
 }
 

@@ -9,3 +9,4 @@ pub mod Totals
 pub mod Visits
 pub mod Walks
 pub mod Within
+pub mod Ages

@@ -2,6 +2,7 @@
 //! paths of them.
 #![tactic(auto)]
 
+mod ages;
 mod entries;
 mod faults;
 mod files;
@@ -14,6 +15,7 @@ mod stored;
 mod totals;
 mod visitor;
 
+pub use ages::{days_before, is_later};
 pub use entries::{EntryVisitor, EntryWalk, visit_entries};
 pub use faults::{ToldFault, fault_json};
 pub use files::{FileId, is_gone, settle};

@@ -18,7 +18,7 @@ use Rattle.msr_making.specs.Ending.{IsRepackedAs, NamedAs}
 use Rattle.msr_making.specs.Verifying.{WasVerifiedAs}
 use Rattle.msr_making.specs.Writing.{IsFit, RepackedOf, WasRepacked}
 use Rattle.msr_making.specs.declared.answer.DayFault.{DayFault}
-use Rattle.msr_making.specs.declared.answer.DayFault.TheVariants.{CannotOpen, ClaimedByAnother, Differs, Larger, NotShown, Tool}
+use Rattle.msr_making.specs.declared.answer.DayFault.TheVariants.{CannotOpen, Changed, ClaimedByAnother, Differs, Larger, NotShown, Tool}
 use Rattle.msr_making.specs.declared.answer.DayOutcome.{DayOutcome}
 use Rattle.msr_making.specs.declared.answer.DayOutcome.TheVariants as outcomes
 use Rattle.msr_making.specs.declared.answer.Repacked.{Repacked}
@@ -90,6 +90,7 @@ pub day_unkept : (asked : DayOptions) (repacked : Repacked) (why : DayFault) →
 day_unkept asked repacked (CannotOpen unopened) does check is = tt
 day_unkept asked repacked NotShown does check is = record { check = check; unshown = is }
 day_unkept asked repacked Differs does check is = record { check = check; different = is }
+day_unkept asked repacked Changed does check is = record { check = check; different = is }
 day_unkept asked repacked (Tool why) does check is =
     let rest = unread_of asked.options does.input does.written does.told repacked why does.answers is in
     record { input = does.input; written = does.written; told = rest.0; answers = rest.1 }

@@ -21,9 +21,9 @@ use Rattle.msr_making.specs.Stamping.{StampsAsked}
 use Rattle.msr_making.specs.Told.{IsClearedFor, IsClearedThere, IsOutcomeThere, IsRefusedThere}
 use Rattle.msr_making.specs.declared.answer.DayEnd.{DayEnd}
 use Rattle.msr_making.specs.declared.answer.DayFault.{DayFault}
-use Rattle.msr_making.specs.declared.answer.DayFault.TheVariants.{CannotOpen, ClaimedByAnother, Differs, Gone, Larger, Listing, NotShown, Tool}
+use Rattle.msr_making.specs.declared.answer.DayFault.TheVariants.{CannotOpen, Changed, ClaimedByAnother, Differs, Gone, Larger, Listing, NotShown, Tool}
 use Rattle.msr_making.specs.declared.answer.DayOutcome.{DayOutcome}
-use Rattle.msr_making.specs.declared.answer.DayOutcome.TheVariants.{Done, Refused, Same}
+use Rattle.msr_making.specs.declared.answer.DayOutcome.TheVariants.{Done, Refused, Same, Young}
 use Rattle.msr_making.specs.declared.answer.Left.{Left}
 use Rattle.msr_making.specs.declared.answer.Left.TheVariants as left
 use Rattle.msr_making.specs.declared.answer.Repacked.{Repacked}
@@ -44,6 +44,7 @@ refused_later : (asked : DayOptions) (paths : DayPaths) (why : DayFault) (old mi
 refused_later asked paths (CannotOpen u) old mid new few is = ⊎_elim (λ one. inl one) (λ failed. inr (omega arith)) is
 refused_later asked paths NotShown old mid new few is = is
 refused_later asked paths Differs old mid new few is = is
+refused_later asked paths Changed old mid new few is = is
 refused_later asked paths (Larger repacked) old mid new few is = is
 refused_later asked paths (Tool fault) old mid new few is = is
 refused_later asked paths ClaimedByAnother old mid new few is = is
@@ -213,6 +214,14 @@ module _ (paths : DayPaths) (asked : DayOptions) (old mid new : List Step) (chan
     check = is.check;
     other = is.other;
   }
+  refused_before Changed is = record {
+    repacked = is.repacked;
+    records = is.records;
+    text = is.text;
+    repack = record { input = is.repack.input; has_input = seen_so paths.input _ is.repack.has_input; answers = is.repack.answers; bytes_read = is.repack.bytes_read };
+    check = is.check;
+    other = is.other;
+  }
   refused_before (Larger repacked) is = record {
     records = is.records;
     text = is.text;
@@ -235,6 +244,7 @@ module _ (paths : DayPaths) (asked : DayOptions) (old mid new : List Step) (chan
     verified = is.verified;
     smaller = is.smaller;
   }
+  outcome_before Young is = is
   outcome_before (Same repacked) is = record {
     resume = is.resume;
     left = record {

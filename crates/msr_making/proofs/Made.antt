@@ -25,7 +25,7 @@ use Rattle.msr_making.specs.Parts.{part_paths}
 use Rattle.msr_making.specs.Places.{AreFileNames}
 use Rattle.msr_making.specs.Verifying.{FailsIfUnopened, VerifiedOf, VerifiesAsked}
 use Rattle.msr_making.specs.Writing.{IfSeen, IsFitOf, IsWrittenTo, WritesDay, WrittenAs}
-use Rattle.msr_making.specs.declared.answer.DayFault.TheVariants.{CannotOpen, ClaimedByAnother, Differs, Larger, NotShown, Tool}
+use Rattle.msr_making.specs.declared.answer.DayFault.TheVariants.{CannotOpen, Changed, ClaimedByAnother, Differs, Larger, NotShown, Tool}
 use Rattle.msr_making.specs.declared.answer.Repacked.{Repacked}
 use Rattle.msr_making.specs.declared.answer.Stop.{Stop}
 use Rattle.msr_making.specs.declared.answer.Stop.TheVariants.{Memory, Refused}
@@ -74,6 +74,14 @@ module _ (input : Path) (sight : Sight) (files : DayFiles) (asked : DayOptions) 
     unshown = is;
   })
   unverified_as repacked (Refused Differs) bytes records text old mid new few has fit check failed is = inr (record {
+    repacked = repacked;
+    records = records;
+    text = text;
+    repack = record { input = bytes; has_input = has; answers = fit.counted; bytes_read = fit.read };
+    check = check;
+    other = is;
+  })
+  unverified_as repacked (Refused Changed) bytes records text old mid new few has fit check failed is = inr (record {
     repacked = repacked;
     records = records;
     text = text;

@@ -1,5 +1,5 @@
 -- What was written of a day is read again.
-use Rattle.std.proofs.Common.{◌≡◌, ◌≤◌, ℕ, false, List, [], refl, sym, ◌∙◌, subst, Result, Ok, Err, Some, IfOk, arith}
+use Rattle.std.proofs.Common.{◌≡◌, ◌⊎◌, ⊎_elim, ◌≤◌, ℕ, false, List, [], refl, sym, ◌∙◌, subst, Result, Ok, Err, Some, IfOk, arith}
 use Rattle.msr_devices.specs.Device.{Device, HasLeft, unused}
 use Rattle.msr_options.specs.Choice.{Choice}
 use Rattle.msr_options.specs.declared.days.DayOptions.{DayOptions}
@@ -14,7 +14,7 @@ use Rattle.msr_naming.proofs.FallingBack.{goes_both}
 use Rattle.msr_naming.specs.declared.files.DayFiles.{DayFiles}
 use Rattle.msr_making.specs.Day.{RepackAnswers, VerifiedAnswers, VerifiesRepack}
 use Rattle.msr_making.specs.Parts.{IsUnopened, called_told}
-use Rattle.msr_making.specs.Verifying.{FailsIfUnopened, OpensAt, VerifiedOf, VerifiesAsked, VerifiesParts, WasVerifiedAs}
+use Rattle.msr_making.specs.Verifying.{FailsIfUnopened, IsSaidAgain, OpensAt, VerifiedOf, VerifiesAsked, VerifiesParts, WasVerifiedAs}
 use Rattle.msr_making.specs.declared.answer.DayFault.{DayFault}
 use Rattle.msr_making.specs.declared.answer.DayFault.TheVariants.{CannotOpen, Differs, NotShown, Tool}
 use Rattle.msr_making.specs.declared.answer.Stop.{Stop}
@@ -111,9 +111,47 @@ module _ (input : Path) (files : DayFiles) (choice : Choice) where
     pub verified_not : (why : DayFault) → VerifiesRepack choice (device own) (device records) (device report) (Err why) → Goes one four (V (Err (Refused why)))
     verified_not why does = verified_by (Err why) (Err (Refused why)) does (fails_none why does) (of_fault why)
 
+-- what is said again of the same
+module _ (choice : Choice) where
+  pub said_was : (said result : Result (Unit {0}) Stop) → IsSaidAgain said result → WasVerifiedAs choice said → WasVerifiedAs choice result
+  said_was (Err (Refused Differs)) result again was = ⊎_elim
+      (λ is. subst (λ (r : Result (Unit {0}) Stop). WasVerifiedAs choice r) (sym is) was)
+      (λ is. subst (λ (r : Result (Unit {0}) Stop). WasVerifiedAs choice r) (sym is) was)
+      again
+  said_was said result again was = subst (λ (r : Result (Unit {0}) Stop). WasVerifiedAs choice r) (sym again) was
+
+  said_of : (file records text : List ℕ) (said result : Result (Unit {0}) Stop) → IsSaidAgain said result → VerifiedOf choice file records text said → VerifiedOf choice file records text result
+  said_of file records text (Err (Refused Differs)) result again of = ⊎_elim
+      (λ is. subst (λ (r : Result (Unit {0}) Stop). VerifiedOf choice file records text r) (sym is) of)
+      (λ is. subst (λ (r : Result (Unit {0}) Stop). VerifiedOf choice file records text r) (sym is) of)
+      again
+  said_of file records text said result again of = subst (λ (r : Result (Unit {0}) Stop). VerifiedOf choice file records text r) (sym again) of
+
+fails_again : (said result : Result (Unit {0}) Stop) (old mid new : List Step) → IsSaidAgain said result → failures mid ≤ failures new → FailsIfUnopened said old mid → FailsIfUnopened result old new
+fails_again said result old mid new again few fails = by said again fails
+  where
+    later : (r : Result (Unit {0}) Stop) → FailsIfUnopened r old mid → FailsIfUnopened r old new
+    later (Ok x) is = tt
+    later (Err (Refused (CannotOpen u))) is = omega arith
+    later (Err (Refused why)) is = tt
+    later (Err Memory) is = tt
+
+    by : (r : Result (Unit {0}) Stop) → IsSaidAgain r result → FailsIfUnopened r old mid → FailsIfUnopened result old new
+    by (Err (Refused Differs)) same is = ⊎_elim
+        (λ e. subst (λ (r : Result (Unit {0}) Stop). FailsIfUnopened r old new) (sym e) tt)
+        (λ e. subst (λ (r : Result (Unit {0}) Stop). FailsIfUnopened r old new) (sym e) tt)
+        same
+    by r same is = subst (λ (r : Result (Unit {0}) Stop). FailsIfUnopened r old new) (sym same) (later r is)
+
 -- if that is asked for
-pub asked_verified : (input : Path) (files : DayFiles) (asked : DayOptions) (result : Result (Unit {0}) Stop) (one two : List Step → Type 0) → Goes one two (VerifiesParts input files asked.options result) → Goes one two (VerifiesAsked input files asked result)
-asked_verified input files asked result one two goes = goes_as _ _ one two (λ p q v. record { changes = v.changes; failed = v.failed; said = λ file records text f c t check. v.said file records text f c t }) goes
+pub said_again : (input : Path) (files : DayFiles) (asked : DayOptions) (said result : Result (Unit {0}) Stop) (one mid two : List Step → Type 0) → IsSaidAgain said result
+    → Goes one mid (VerifiesParts input files asked.options said) → Goes mid two (ChangesFiles []) → Goes one two (VerifiesAsked input files asked result)
+said_again input files asked said result one mid two again first second = goes_both _ _ _ one mid two
+    (λ p q r v leaves. record {
+      changes = changes_then [] p q r v.changes leaves;
+      failed = fails_again said result p q r again (no_fewer [] q r leaves) v.failed;
+      said = λ file records text f c t check. said_of asked.options file records text said result again (v.said file records text f c t);
+    }) first second
 
 pub unasked_verified : (input : Path) (files : DayFiles) (asked : DayOptions) (one : List Step → Type 0) → asked.check ≡ false → Goes one one (VerifiesAsked input files asked (Ok tt))
 unasked_verified input files asked one not = record {

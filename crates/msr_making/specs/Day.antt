@@ -24,7 +24,7 @@ use Rattle.msr_folders.specs.Totals.{saturated}
 use Rattle.msr_making.specs.declared.answer.DayOutcome.{DayOutcome}
 use Rattle.msr_making.specs.declared.answer.DayOutcome.TheVariants as outcomes
 use Rattle.msr_making.specs.declared.answer.DayFault.{DayFault}
-use Rattle.msr_making.specs.declared.answer.DayFault.TheVariants.{CannotOpen, NotShown, Differs, Larger, ClaimedByAnother, Tool}
+use Rattle.msr_making.specs.declared.answer.DayFault.TheVariants.{CannotOpen, Changed, NotShown, Differs, Larger, ClaimedByAnother, Tool}
 use Rattle.msr_making.specs.declared.answer.Repacked.{Repacked}
 
 -- the bytes that were written are those of the records that were, or the greatest number of 64 bits if they are more
@@ -153,6 +153,7 @@ VerifiedAnswers choice (Ok done) = WasVerified choice
 VerifiedAnswers choice (Err (CannotOpen unopened)) = ⊤
 VerifiedAnswers choice (Err NotShown) = WasNotShown choice
 VerifiedAnswers choice (Err Differs) = WasDifferent choice
+VerifiedAnswers choice (Err Changed) = WasDifferent choice
 VerifiedAnswers choice (Err (Tool fault)) = IsReadOrMemory fault
 VerifiedAnswers choice (Err _) = ⊥
 
@@ -189,6 +190,7 @@ IsRepackedDay asked (Ok repacked) = IsDone asked repacked
 IsRepackedDay asked (Err (CannotOpen unopened)) = ⊤
 IsRepackedDay asked (Err NotShown) = IsNotShown asked
 IsRepackedDay asked (Err Differs) = IsDifferent asked
+IsRepackedDay asked (Err Changed) = IsDifferent asked
 IsRepackedDay asked (Err (Larger repacked)) = IsLarger asked repacked
 IsRepackedDay asked (Err ClaimedByAnother) = ⊤
 IsRepackedDay asked (Err (Tool fault)) = HasAnswer asked.options (Err fault)
@@ -224,8 +226,13 @@ pub record IsSame (asked : DayOptions) (repacked : Repacked) : Type 0 where
   pub resume : IsTrue asked.resume
   pub kept : IsKept asked repacked
 
+-- it was asked for that files are left alone that were changed in some last days
+abbrev pub AsksForAge : DayOptions → Type 0
+AsksForAge asked = 0 < asked.older_than
+
 -- what an outcome says of a day file of which this is asked
 abbrev pub IsDayOutcome : DayOptions → DayOutcome → Type 0
 IsDayOutcome asked (outcomes.Done repacked) = IsDone asked repacked
 IsDayOutcome asked (outcomes.Same repacked) = IsSame asked repacked
+IsDayOutcome asked outcomes.Young = AsksForAge asked
 IsDayOutcome asked (outcomes.Refused why) = IsRepackedDay asked (Err why)

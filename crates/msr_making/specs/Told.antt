@@ -3,13 +3,13 @@ use Rattle.std.specs.Prelude.{◌≡◌, ◌<◌, ◌⊎◌, ℕ, IsTrue, List, 
 use Rattle.msr_tree.specs.Steps.{Step, failures, seen}
 use Rattle.msr_options.specs.declared.days.DayOptions.{DayOptions}
 use Rattle.msr_tool.specs.declared.fault.ToolFault.{ToolFault}
-use Rattle.msr_making.specs.Day.{CountAnswers, GotSmaller, IsKept, IsOtherData, IsVerifiedBy, ShowsWritten}
+use Rattle.msr_making.specs.Day.{AsksForAge, CountAnswers, GotSmaller, IsKept, IsOtherData, IsVerifiedBy, ShowsWritten}
 use Rattle.msr_making.specs.Places.{DayPaths, IsOneOfMade, IsUnseen}
 use Rattle.msr_making.specs.Stamp.{stamp_text}
 use Rattle.msr_making.specs.declared.answer.DayFault.{DayFault}
-use Rattle.msr_making.specs.declared.answer.DayFault.TheVariants.{CannotOpen, ClaimedByAnother, Differs, Gone, Larger, Listing, NotShown, Tool}
+use Rattle.msr_making.specs.declared.answer.DayFault.TheVariants.{CannotOpen, Changed, ClaimedByAnother, Differs, Gone, Larger, Listing, NotShown, Tool}
 use Rattle.msr_making.specs.declared.answer.DayOutcome.{DayOutcome}
-use Rattle.msr_making.specs.declared.answer.DayOutcome.TheVariants.{Done, Refused, Same}
+use Rattle.msr_making.specs.declared.answer.DayOutcome.TheVariants.{Done, Refused, Same, Young}
 use Rattle.msr_making.specs.declared.answer.Repacked.{Repacked}
 use Rattle.msr_making.specs.declared.stamp.Stamp.{Stamp}
 
@@ -88,6 +88,7 @@ abbrev pub IsRefusedThere : DayOptions → DayPaths → DayFault → (old new : 
 IsRefusedThere asked paths (CannotOpen unopened) old new = IsOneOfMade paths old ⊎ (failures old < failures new)
 IsRefusedThere asked paths NotShown old new = IsNotShownThere asked paths old
 IsRefusedThere asked paths Differs old new = IsDifferentThere asked paths old
+IsRefusedThere asked paths Changed old new = IsDifferentThere asked paths old
 IsRefusedThere asked paths (Larger repacked) old new = IsLargerThere asked paths repacked old
 IsRefusedThere asked paths (Tool fault) old new = IsFaultThere asked paths fault old
 IsRefusedThere asked paths ClaimedByAnother old new = Unit {0}
@@ -104,4 +105,5 @@ IsClearedFor why paths old new = IsClearedThere paths old new
 abbrev pub IsOutcomeThere : DayOptions → DayPaths → DayOutcome → (old new : List Step) → Type 0
 IsOutcomeThere asked paths (Done repacked) old new = IsDoneThere asked paths repacked old new
 IsOutcomeThere asked paths (Same repacked) old new = IsSameThere asked paths repacked old
+IsOutcomeThere asked paths Young old new = AsksForAge asked
 IsOutcomeThere asked paths (Refused why) old new = IsRefusedThere asked paths why old new × IsClearedFor why paths old new

@@ -1,5 +1,5 @@
 -- What verifying what was written of a day tells.
-use Rattle.std.specs.Prelude.{◌≡◌, ◌<◌, ℕ, ⊤, IsTrue, List, [], Some, Result, Ok, Err}
+use Rattle.std.specs.Prelude.{◌≡◌, ◌<◌, ◌⊎◌, ℕ, ⊤, IsTrue, List, [], Some, Result, Ok, Err}
 use Rattle.msr_devices.specs.Device.{Device}
 use Rattle.msr_options.specs.Choice.{Choice}
 use Rattle.msr_options.specs.declared.days.DayOptions.{DayOptions}
@@ -7,8 +7,8 @@ use Rattle.msr_tree.specs.Calls.{Opens}
 use Rattle.msr_tree.specs.Folders.{ChangesFiles}
 use Rattle.msr_tree.specs.Steps.{Path, Step, failures, seen}
 use Rattle.msr_naming.specs.declared.files.DayFiles.{DayFiles}
-use Rattle.msr_making.specs.Day.{RepackAnswers, VerifiedAnswers}
-use Rattle.msr_making.specs.declared.answer.DayFault.TheVariants.{CannotOpen}
+use Rattle.msr_making.specs.Day.{IsOtherData, RepackAnswers, VerifiedAnswers}
+use Rattle.msr_making.specs.declared.answer.DayFault.TheVariants.{CannotOpen, Changed, Differs}
 use Rattle.msr_making.specs.declared.answer.Stop.{Stop}
 use Rattle.msr_making.specs.declared.answer.Stop.TheVariants.{Memory, Refused}
 
@@ -25,8 +25,14 @@ WasVerifiedAs choice (Err Memory) = ⊤
 abbrev pub VerifiedOf : Choice → (file records text : List ℕ) → Result (Unit {0}) Stop → Type 0
 VerifiedOf choice file records text (Ok x) = RepackAnswers choice file records text (Ok x)
 VerifiedOf choice file records text (Err (Refused (CannotOpen unopened))) = Unit {0}
+VerifiedOf choice file records text (Err (Refused Changed)) = IsOtherData choice file records text
 VerifiedOf choice file records text (Err (Refused why)) = RepackAnswers choice file records text (Err why)
 VerifiedOf choice file records text (Err Memory) = Unit {0}
+
+-- the same again, but that what differs may have been changed meanwhile
+abbrev pub IsSaidAgain : (said result : Result (Unit {0}) Stop) → Type 0
+IsSaidAgain (Err (Refused Differs)) result = (result ≡ Err (Refused Differs)) ⊎ (result ≡ Err (Refused Changed))
+IsSaidAgain said result = result ≡ said
 
 -- a file is not opened only if a call failed
 abbrev pub FailsIfUnopened : Result (Unit {0}) Stop → (old new : List Step) → Type 0

@@ -25,6 +25,8 @@ pub enum DayFault {
     NotShown,
     /// The records, read again, have not the segments of the day's own file, read again.
     Differs,
+    /// The same, and the day's own file was changed meanwhile.
+    Changed,
     /// Its records are not smaller than its file, and only those are kept that are.
     Larger(Repacked),
     /// It stood in the list of its folder, and was gone when it was looked at.
@@ -41,6 +43,8 @@ pub enum DayOutcome {
     Done(Repacked),
     /// An earlier walk had done it, and it was left alone.
     Same(Repacked),
+    /// Its file was changed too late, and was left alone.
+    Young,
     /// It was refused, or repacked and not kept.
     Refused(DayFault),
 }

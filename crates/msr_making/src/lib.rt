@@ -1,6 +1,7 @@
 //! A day of an archive: its file is repacked to records and report, which are verified, and get their names.
 #![tactic(auto)]
 
+mod age;
 mod answer;
 mod clearing;
 mod hold;
@@ -15,6 +16,7 @@ mod stamping;
 mod verifying;
 mod writing;
 
+pub use age::is_young;
 pub use answer::{DayEnd, DayFault, DayOutcome, Left, Repacked};
 pub use hold::Hold;
 pub use kept::same_day;

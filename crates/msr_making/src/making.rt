@@ -79,7 +79,7 @@ fn prepare_day<T: Tree, H: Hold>(
     ensures goes { Goes (T.went tree.old) (T.went tree.new) (PreparesDay input.now sight files.now asked.now result) }
 {
     let repacked = write_day(tree, alloc, input, sight, files, hold, asked)?;
-    match verify_asked(tree, alloc, input, files, asked) {
+    match verify_asked(tree, alloc, input, sight, files, asked) {
         Ok(()) => {}
         Err(stop) => return Err(stop),
     }

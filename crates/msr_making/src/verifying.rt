@@ -1,14 +1,17 @@
 //! What was written of a day is read again.
 ghost use Rattle.std.specs.Prelude.{◌≡◌, [], IfErr, IfOk, IsTrue, false};
 ghost use Rattle.msr_devices.specs.Device.{CanCountCall};
-ghost use Rattle.msr_tree.specs.Folders.{ActsOnFiles};
+ghost use Rattle.msr_tree.specs.Folders.{ActsOnFiles, ChangesFiles};
 ghost use Rattle.msr_tree.specs.Calls.{Goes};
 ghost use Rattle.msr_making.specs.Parts.{IsUnopened, called_told};
-ghost use Rattle.msr_making.specs.Verifying.{OpensAt, VerifiesAsked, VerifiesParts, WasVerifiedAs};
+ghost use Rattle.msr_making.specs.Verifying.{IsSaidAgain, OpensAt, VerifiesAsked, VerifiesParts, WasVerifiedAs};
 
-use crate::answer::Stop;
+use crate::answer::{DayFault, Stop};
+use crate::looks::Sight;
 use crate::parts::called;
 use crate::repacking::require_verified;
+use crate::stamp::Stamp;
+use crate::stamping::is_still;
 use msr_naming::DayFiles;
 use msr_options::{DayOptions, Options, Side};
 use msr_tree::Tree;
@@ -47,11 +50,45 @@ fn verify_parts<T: Tree>(
     }
 }
 
-/// The same, if that is asked for.
+/// Whether a day's own file was changed since that look.
+fn was_changed<T: Tree>(tree: &mut T, input: &str, sight: Sight) -> bool
+    ensures { Goes (T.went tree.old) (T.went tree.new) (ChangesFiles []) }
+{
+    let Some(facts) = sight.regular() else {
+        return false;
+    };
+    !is_still(tree, input, Stamp::of(&facts))
+}
+
+/// What is told of a day whose records differ from its file: that this was changed since that look, if it was.
+fn told_again<T: Tree>(
+    tree: &mut T,
+    input: &str,
+    sight: Sight,
+    said: Result<(), Stop>,
+) -> Result<(), Stop>
+    ensures said { IsSaidAgain said result }
+    ensures goes { Goes (T.went tree.old) (T.went tree.new) (ChangesFiles []) }
+{
+    match said {
+        Err(Stop::Refused(DayFault::Differs)) => {
+            let why = if was_changed(tree, input, sight) {
+                DayFault::Changed
+            } else {
+                DayFault::Differs
+            };
+            Err(Stop::Refused(why))
+        }
+        _ => said,
+    }
+}
+
+/// The same, if that is asked for. The look was before the day was repacked.
 pub(crate) fn verify_asked<T: Tree>(
     tree: &mut T,
     alloc: Global,
     input: &str,
+    sight: Sight,
     files: &DayFiles,
     asked: &DayOptions,
 ) -> Result<(), Stop>
@@ -59,9 +96,9 @@ pub(crate) fn verify_asked<T: Tree>(
     ensures unasked { asked.now.check ≡ false → result ≡ Ok tt }
     ensures goes { Goes (T.went tree.old) (T.went tree.new) (VerifiesAsked input.now files.now asked.now result) }
 {
-    if asked.check {
-        verify_parts(tree, alloc, input, files, asked.options)
-    } else {
-        Ok(())
+    if !asked.check {
+        return Ok(());
     }
+    let said = verify_parts(tree, alloc, input, files, asked.options);
+    told_again(tree, input, sight, said)
 }

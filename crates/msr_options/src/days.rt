@@ -18,6 +18,8 @@ pub struct DayOptions {
     pub check: bool,
     /// Whether only days are kept that get smaller in bytes.
     pub only_smaller: bool,
+    /// For so many days a file has to be unchanged; 0 for any file.
+    pub older_than: u32,
     /// Whether lines tell bytes too.
     pub bytes: bool,
     pub telling: Telling,

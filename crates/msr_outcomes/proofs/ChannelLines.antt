@@ -81,7 +81,7 @@ front_all old new first second before = record { taken = first; rest = second; t
 pub summary_is : (asked : DayOptions) (entries : List Entry) (tally : Tally) → IsTally entries tally →
     tally_lines asked tally ≡ summary asked entries
 summary_is asked entries tally h =
-    rw (h.channels, h.bytes, h.done, h.skipped, h.refused, h.larger, h.bytes_read, h.bytes_written, h.unopened) refl
+    rw (h.channels, h.bytes, h.done, h.skipped, h.refused, h.larger, h.young, h.bytes_read, h.bytes_written, h.unopened) refl
 
 -- a channel's totals with those of its bytes, which stand at the same place
 pub channel_at : (totals bytes : List (List ℕ × Total)) (place : ℕ) (one : List ℕ × Total) (size : Total) →

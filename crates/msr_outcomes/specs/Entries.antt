@@ -10,7 +10,7 @@ use Rattle.msr_options.specs.declared.hint.Unopened.{Unopened}
 use Rattle.msr_outcomes.specs.Outcomes.{IsOutcomeOfDay}
 use Rattle.msr_folders.specs.Days.{IsNoDay}
 use Rattle.msr_outcomes.specs.declared.outcome.Outcome.{Outcome}
-use Rattle.msr_outcomes.specs.declared.outcome.Outcome.TheVariants.{Done, Same, Skipped, Refused}
+use Rattle.msr_outcomes.specs.declared.outcome.Outcome.TheVariants.{Done, Same, Young, Skipped, Refused}
 use Rattle.msr_making.specs.declared.answer.DayFault.TheVariants.{CannotOpen, Gone, Listing, Larger}
 use Rattle.msr_making.specs.declared.answer.Repacked.{Repacked}
 use Rattle.msr_outcomes.specs.declared.tally.Tally.{Tally}
@@ -61,6 +61,11 @@ abbrev pub is_done : Outcome → Bool
 is_done (Done repacked) = true
 is_done (Same repacked) = true
 is_done _ = false
+
+-- left alone, since its file was changed too late
+abbrev pub is_young : Outcome → Bool
+is_young Young = true
+is_young _ = false
 
 abbrev pub is_skipped : Outcome → Bool
 is_skipped (Skipped fault) = true
@@ -120,6 +125,7 @@ pub record IsTally (entries : List Entry) (tally : Tally) : Type 0 where
   pub skipped : tally.skipped ≡ counted is_skipped entries
   pub refused : tally.refused ≡ counted is_refused entries
   pub larger : tally.larger ≡ counted is_larger entries
+  pub young : tally.young ≡ counted is_young entries
   pub channels : tally.channels ≡ channels_of entries
   pub bytes : tally.bytes ≡ bytes_of_channels entries
   pub bytes_read : tally.bytes_read ≡ summed (λ add. add.read) entries
@@ -132,6 +138,7 @@ pub record AddsDone (channel : List ℕ) (repacked : Repacked) (tally0 tally : T
   pub skipped : tally.skipped ≡ tally0.skipped
   pub refused : tally.refused ≡ tally0.refused
   pub larger : tally.larger ≡ tally0.larger
+  pub young : tally.young ≡ tally0.young
   pub channels : (adds : List Add) → tally0.channels ≡ totals_of adds
       → tally.channels ≡ totals_of (adds ++ add_of channel repacked ∷ [])
   pub bytes : (adds : List Add) → tally0.bytes ≡ totals_of adds

@@ -6,7 +6,7 @@ use Rattle.msr_folders.specs.Members.{IsReasonMember, IsReasonOf, skip_text}
 use Rattle.msr_folders.specs.Paths.{shown_path, text_json}
 use Rattle.msr_input.specs.declared.fault.ReadFault.TheVariants as stop
 use Rattle.msr_making.specs.declared.answer.DayFault.{DayFault}
-use Rattle.msr_making.specs.declared.answer.DayFault.TheVariants.{CannotOpen, ClaimedByAnother, Differs, Gone, Larger, Listing, NotShown, Tool}
+use Rattle.msr_making.specs.declared.answer.DayFault.TheVariants.{CannotOpen, Changed, ClaimedByAnother, Differs, Gone, Larger, Listing, NotShown, Tool}
 use Rattle.msr_making.specs.declared.answer.Repacked.{Repacked}
 use Rattle.msr_options.specs.declared.days.DayOptions.{DayOptions}
 use Rattle.msr_options.specs.declared.hint.Side.{Side}
@@ -18,15 +18,17 @@ use Rattle.msr_tool.specs.declared.fault.ToolFault.{ToolFault}
 use Rattle.msr_tool.specs.declared.fault.ToolFault.TheVariants as tool
 use Rattle.msr_outcomes.specs.Entries.{Entry}
 use Rattle.msr_outcomes.specs.declared.outcome.Outcome.{Outcome}
-use Rattle.msr_outcomes.specs.declared.outcome.Outcome.TheVariants.{Done, Same, Skipped, Refused}
+use Rattle.msr_outcomes.specs.declared.outcome.Outcome.TheVariants.{Done, Same, Young, Skipped, Refused}
 
 -- the first word of a line
 abbrev pub outcome_word : Outcome → List ℕ
 outcome_word (Done repacked) = codes "done"
 outcome_word (Same repacked) = codes "same"
+outcome_word Young = codes "young"
 outcome_word (Skipped why) = codes "skipped"
 outcome_word (Refused NotShown) = codes "notshown"
 outcome_word (Refused Differs) = codes "differs"
+outcome_word (Refused Changed) = codes "changed"
 outcome_word (Refused (Larger repacked)) = codes "larger"
 outcome_word (Refused why) = codes "refused"
 
@@ -62,9 +64,11 @@ day_refusal_text _ = []
 abbrev pub outcome_rest : (bytes : Bool) → Outcome → List ℕ
 outcome_rest bytes (Done repacked) = counts_told bytes repacked
 outcome_rest bytes (Same repacked) = counts_told bytes repacked
+outcome_rest bytes Young = []
 outcome_rest bytes (Skipped why) = codes ": " ++ skip_text why
 outcome_rest bytes (Refused NotShown) = []
 outcome_rest bytes (Refused Differs) = []
+outcome_rest bytes (Refused Changed) = []
 outcome_rest bytes (Refused (Larger repacked)) = counts_told bytes repacked
 outcome_rest bytes (Refused why) = codes ": " ++ day_refusal_text why
 
@@ -105,9 +109,11 @@ day_refusal_json why = day_place_json why ++ (codes ",\"text\":\"" ++ (text_json
 abbrev pub outcome_members : (bytes : Bool) → Outcome → List ℕ
 outcome_members bytes (Done repacked) = repacked_json bytes repacked
 outcome_members bytes (Same repacked) = repacked_json bytes repacked
+outcome_members bytes Young = []
 outcome_members bytes (Skipped why) = codes ",\"text\":\"" ++ (text_json (skip_text why) ++ codes "\"")
 outcome_members bytes (Refused NotShown) = []
 outcome_members bytes (Refused Differs) = []
+outcome_members bytes (Refused Changed) = []
 outcome_members bytes (Refused (Larger repacked)) = repacked_json bytes repacked
 outcome_members bytes (Refused why) = day_refusal_json why
 
@@ -129,7 +135,7 @@ abbrev pub IsOutcomeLine : ListForm → (bytes : Bool) → List ℕ → Outcome 
 IsOutcomeLine Words bytes path outcome line = line ≡ outcome_words bytes path outcome
 IsOutcomeLine Json bytes path outcome line = IsOutcomeJson bytes path outcome line
 
--- to be looked at: neither done, in this walk or an earlier one, nor skipped
+-- to be looked at: neither done, in this walk or an earlier one, nor young or skipped
 abbrev pub is_to_look_at : Outcome → Bool
 is_to_look_at (Refused why) = true
 is_to_look_at _ = false

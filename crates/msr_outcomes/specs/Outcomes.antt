@@ -7,7 +7,7 @@ use Rattle.msr_making.specs.Day.{IsDayOutcome}
 use Rattle.msr_making.specs.declared.answer.DayOutcome.{DayOutcome}
 use Rattle.msr_making.specs.declared.answer.DayOutcome.TheVariants as outcomes
 use Rattle.msr_outcomes.specs.declared.outcome.Outcome.{Outcome}
-use Rattle.msr_outcomes.specs.declared.outcome.Outcome.TheVariants.{Done, Same, Refused}
+use Rattle.msr_outcomes.specs.declared.outcome.Outcome.TheVariants.{Done, Same, Young, Refused}
 
 -- What is asked of one day: what is of all, but for the length if each day's own is asked for.
 pub record IsForDay (days asked : DayOptions) : Type 0 where
@@ -19,6 +19,7 @@ pub record IsForDay (days asked : DayOptions) : Type 0 where
 abbrev pub of_day : DayOutcome → Outcome
 of_day (outcomes.Done repacked) = Done repacked
 of_day (outcomes.Same repacked) = Same repacked
+of_day outcomes.Young = Young
 of_day (outcomes.Refused why) = Refused why
 
 -- What an outcome says of a day of an archive of whose days this is asked.

@@ -1,5 +1,5 @@
 -- The last lines of a walk: its channels, and its counts.
-use Rattle.std.specs.Prelude.{ℕ, Bool, false, true, List, [], ◌++◌, map, codes}
+use Rattle.std.specs.Prelude.{ℕ, Bool, false, true, List, [], ◌++◌, map, codes, nat_lt}
 use Rattle.std.specs.Fmt.{decimal}
 use Rattle.std.specs.List.{flat_map, zip}
 use Rattle.msr_folders.specs.Paths.{text_json}
@@ -7,7 +7,7 @@ use Rattle.msr_folders.specs.declared.totals.Total.{Total}
 use Rattle.msr_options.specs.declared.days.DayOptions.{DayOptions}
 use Rattle.msr_options.specs.declared.task.ListForm.{ListForm}
 use Rattle.msr_options.specs.declared.task.ListForm.TheVariants.{Words, Json}
-use Rattle.msr_outcomes.specs.Entries.{Entry, bytes_of_channels, channels_of, counted, first_unopened, is_done, is_larger, is_refused, is_skipped, summed}
+use Rattle.msr_outcomes.specs.Entries.{Entry, bytes_of_channels, channels_of, counted, first_unopened, is_done, is_larger, is_refused, is_skipped, is_young, summed}
 use Rattle.msr_outcomes.specs.Lines.{bytes_json, bytes_told}
 use Rattle.msr_outcomes.specs.declared.tally.Tally.{Tally}
 
@@ -38,30 +38,31 @@ channel_told Json bytes of = channel_json bytes of
 abbrev pub channel_line : DayOptions → (List ℕ × Total) × Total → List ℕ
 channel_line asked of = channel_told asked.telling.form asked.bytes of
 
--- what the last line says of the days that did not get smaller: nothing, unless only those that do are kept
-abbrev pub larger_told : (told : Bool) → (larger : ℕ) → List ℕ
-larger_told false larger = []
-larger_told true larger = codes " larger " ++ decimal larger
+-- what the last line says of days that are counted only if that is asked for: those that did not get smaller, and those that
+-- are young
+abbrev pub count_told : (told : Bool) (word : List ℕ) (days : ℕ) → List ℕ
+count_told false word days = []
+count_told true word days = codes " " ++ (word ++ (codes " " ++ decimal days))
 
-abbrev pub larger_json : (told : Bool) → (larger : ℕ) → List ℕ
-larger_json false larger = []
-larger_json true larger = codes ",\"larger\":" ++ decimal larger
+abbrev pub count_json : (told : Bool) (word : List ℕ) (days : ℕ) → List ℕ
+count_json false word days = []
+count_json true word days = codes ",\"" ++ (word ++ (codes "\":" ++ decimal days))
 
 -- the last line in words
 abbrev pub files_words : DayOptions → Tally → List ℕ
 files_words asked tally =
     codes "files " ++ (decimal tally.done ++ (codes " skipped "
     ++ (decimal tally.skipped ++ (codes " refused " ++ (decimal tally.refused
-    ++ (larger_told asked.only_smaller tally.larger
-    ++ (bytes_told asked.bytes tally.bytes_read tally.bytes_written ++ codes "\n")))))))
+    ++ (count_told asked.only_smaller (codes "larger") tally.larger ++ (count_told (nat_lt 0 asked.older_than) (codes "young") tally.young
+    ++ (bytes_told asked.bytes tally.bytes_read tally.bytes_written ++ codes "\n"))))))))
 
 -- in JSON
 abbrev pub files_json : DayOptions → Tally → List ℕ
 files_json asked tally =
     codes "{\"what\":\"files\",\"files\":" ++ (decimal tally.done ++ (codes ",\"skipped\":"
     ++ (decimal tally.skipped ++ (codes ",\"refused\":" ++ (decimal tally.refused
-    ++ (larger_json asked.only_smaller tally.larger
-    ++ (bytes_json asked.bytes tally.bytes_read tally.bytes_written ++ codes "}\n")))))))
+    ++ (count_json asked.only_smaller (codes "larger") tally.larger ++ (count_json (nat_lt 0 asked.older_than) (codes "young") tally.young
+    ++ (bytes_json asked.bytes tally.bytes_read tally.bytes_written ++ codes "}\n"))))))))
 
 abbrev pub files_told : ListForm → DayOptions → Tally → List ℕ
 files_told Words asked tally = files_words asked tally
@@ -83,6 +84,7 @@ tally_of entries = record {
   skipped = counted is_skipped entries;
   refused = counted is_refused entries;
   larger = counted is_larger entries;
+  young = counted is_young entries;
   bytes_read = summed (λ add. add.read) entries;
   bytes_written = summed (λ add. add.written) entries;
   channels = channels_of entries;

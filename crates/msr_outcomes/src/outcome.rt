@@ -98,7 +98,7 @@ fn day_refusal_text(alloc: Global, why: DayFault) -> Result<String, AllocError>
         DayFault::Listing => "listing",
         DayFault::ClaimedByAnother => "another walk is at work",
         DayFault::Tool(fault) => return ToldStop { fault }.to_string(alloc),
-        DayFault::NotShown | DayFault::Differs | DayFault::Larger(_) => "",
+        DayFault::NotShown | DayFault::Differs | DayFault::Changed | DayFault::Larger(_) => "",
     };
     String::from_str(alloc, text)
 }
@@ -148,6 +148,8 @@ pub enum Outcome {
     Done(Repacked),
     /// An earlier walk had done it, and it was left alone.
     Same(Repacked),
+    /// Its file was changed too late, and was left alone.
+    Young,
     Skipped(SdsFault),
     /// It was refused, or repacked and not kept.
     Refused(DayFault),
@@ -161,6 +163,7 @@ impl Outcome {
         match outcome {
             DayOutcome::Done(repacked) => Outcome::Done(repacked),
             DayOutcome::Same(repacked) => Outcome::Same(repacked),
+            DayOutcome::Young => Outcome::Young,
             DayOutcome::Refused(why) => Outcome::Refused(why),
         }
     }
@@ -172,9 +175,11 @@ impl Outcome {
         match self {
             Outcome::Done(_) => "done",
             Outcome::Same(_) => "same",
+            Outcome::Young => "young",
             Outcome::Skipped(_) => "skipped",
             Outcome::Refused(DayFault::NotShown) => "notshown",
             Outcome::Refused(DayFault::Differs) => "differs",
+            Outcome::Refused(DayFault::Changed) => "changed",
             Outcome::Refused(DayFault::Larger(_)) => "larger",
             Outcome::Refused(_) => "refused",
         }
@@ -187,9 +192,11 @@ impl Outcome {
         match self {
             Outcome::Done(repacked) => counts_told(alloc, repacked, bytes),
             Outcome::Same(repacked) => counts_told(alloc, repacked, bytes),
+            Outcome::Young => Ok(String::new(alloc)),
             Outcome::Skipped(fault) => format!(in alloc; ": {}", skip_text(fault)),
             Outcome::Refused(DayFault::NotShown) => Ok(String::new(alloc)),
             Outcome::Refused(DayFault::Differs) => Ok(String::new(alloc)),
+            Outcome::Refused(DayFault::Changed) => Ok(String::new(alloc)),
             Outcome::Refused(DayFault::Larger(repacked)) => counts_told(alloc, repacked, bytes),
             Outcome::Refused(why) => {
                 let text = day_refusal_text(alloc, why)?;
@@ -215,6 +222,7 @@ impl Outcome {
         match self {
             Outcome::Done(repacked) => repacked_json(alloc, repacked, bytes),
             Outcome::Same(repacked) => repacked_json(alloc, repacked, bytes),
+            Outcome::Young => Ok(String::new(alloc)),
             Outcome::Skipped(fault) => {
                 let text = JsonText {
                     text: skip_text(fault),
@@ -223,6 +231,7 @@ impl Outcome {
             }
             Outcome::Refused(DayFault::NotShown) => Ok(String::new(alloc)),
             Outcome::Refused(DayFault::Differs) => Ok(String::new(alloc)),
+            Outcome::Refused(DayFault::Changed) => Ok(String::new(alloc)),
             Outcome::Refused(DayFault::Larger(repacked)) => repacked_json(alloc, repacked, bytes),
             Outcome::Refused(why) => day_refusal_json(alloc, why),
         }

@@ -5,7 +5,7 @@ ghost use Rattle.std.specs.String.{string_bytes};
 ghost use Rattle.msr_devices.specs.Device.{CanCountCall, IsCalm, Takes};
 ghost use Rattle.msr_folders.specs.Visits.{StopsPrefix};
 ghost use Rattle.msr_outcomes.specs.Entries.{Entry, IsTally};
-ghost use Rattle.msr_outcomes.specs.Summary.{channel_json, channel_line, channel_words, files_json, files_line, files_words, larger_json, larger_told, summary, with_bytes};
+ghost use Rattle.msr_outcomes.specs.Summary.{channel_json, channel_line, channel_words, count_json, count_told, files_json, files_line, files_words, summary, with_bytes};
 
 use crate::outcome::{bytes_json, bytes_told};
 use crate::tally::Tally;
@@ -91,24 +91,24 @@ fn write_channels<O: Sink>(
     Err(DeviceFault::Memory)
 }
 
-/// What the last line says of the days that did not get smaller: nothing, unless only those that do are kept.
-fn larger_told(alloc: Global, told: bool, larger: u64) -> Result<String, AllocError>
-    ensures { IfOk result (λ text. string_bytes text ≡ larger_told told larger) }
+/// What the last line says of days that are counted only if that is asked for.
+fn count_told(alloc: Global, told: bool, word: &str, days: u64) -> Result<String, AllocError>
+    ensures { IfOk result (λ text. string_bytes text ≡ count_told told word.now days) }
 {
     if !told {
         return Ok(String::new(alloc));
     }
-    format!(in alloc; " larger {larger}")
+    format!(in alloc; " {word} {days}")
 }
 
 /// The member of JSON that tells them.
-fn larger_json(alloc: Global, told: bool, larger: u64) -> Result<String, AllocError>
-    ensures { IfOk result (λ text. string_bytes text ≡ larger_json told larger) }
+fn count_json(alloc: Global, told: bool, word: &str, days: u64) -> Result<String, AllocError>
+    ensures { IfOk result (λ text. string_bytes text ≡ count_json told word.now days) }
 {
     if !told {
         return Ok(String::new(alloc));
     }
-    format!(in alloc; ",\"larger\":{larger}")
+    format!(in alloc; ",\"{word}\":{days}")
 }
 
 /// The last line in words.
@@ -116,9 +116,10 @@ fn files_words(alloc: Global, asked: &DayOptions, tally: &Tally) -> Result<Strin
     ensures { IfOk result (λ line. string_bytes line ≡ files_words asked.now tally.now) }
 {
     let (files, skipped, refused) = (tally.done, tally.skipped, tally.refused);
-    let larger = larger_told(alloc, asked.only_smaller, tally.larger)?;
+    let larger = count_told(alloc, asked.only_smaller, "larger", tally.larger)?;
+    let young = count_told(alloc, 0 < asked.older_than, "young", tally.young)?;
     let size = bytes_told(alloc, asked.bytes, tally.bytes_read, tally.bytes_written)?;
-    format!(in alloc; "files {files} skipped {skipped} refused {refused}{larger}{size}\n")
+    format!(in alloc; "files {files} skipped {skipped} refused {refused}{larger}{young}{size}\n")
 }
 
 /// The last line in JSON.
@@ -126,10 +127,11 @@ fn files_json(alloc: Global, asked: &DayOptions, tally: &Tally) -> Result<String
     ensures { IfOk result (λ line. string_bytes line ≡ files_json asked.now tally.now) }
 {
     let (files, skipped, refused) = (tally.done, tally.skipped, tally.refused);
-    let larger = larger_json(alloc, asked.only_smaller, tally.larger)?;
+    let larger = count_json(alloc, asked.only_smaller, "larger", tally.larger)?;
+    let young = count_json(alloc, 0 < asked.older_than, "young", tally.young)?;
     let size = bytes_json(alloc, asked.bytes, tally.bytes_read, tally.bytes_written)?;
     format!(in alloc;
-        "{{\"what\":\"files\",\"files\":{files},\"skipped\":{skipped},\"refused\":{refused}{larger}{size}}}\n"
+        "{{\"what\":\"files\",\"files\":{files},\"skipped\":{skipped},\"refused\":{refused}{larger}{young}{size}}}\n"
     )
 }
 

@@ -16,6 +16,7 @@ pub struct Tally {
     pub skipped: u64,
     pub refused: u64,
     pub larger: u64,
+    pub young: u64,
     pub bytes_read: u64,
     pub bytes_written: u64,
     pub channels: Totals,
@@ -34,6 +35,7 @@ impl Tally {
             skipped: 0,
             refused: 0,
             larger: 0,
+            young: 0,
             bytes_read: 0,
             bytes_written: 0,
             channels: Totals::new(alloc),
@@ -62,6 +64,7 @@ impl Tally {
     {
         match outcome {
             Outcome::Done(repacked) | Outcome::Same(repacked) => self.add_done(channel, repacked)?,
+            Outcome::Young => self.young = self.young.saturating_add(1),
             Outcome::Skipped(_) => self.skipped = self.skipped.saturating_add(1),
             Outcome::Refused(why) => match why {
                 DayFault::Larger(_) => self.larger = self.larger.saturating_add(1),
@@ -72,6 +75,7 @@ impl Tally {
                 DayFault::Listing
                 | DayFault::NotShown
                 | DayFault::Differs
+                | DayFault::Changed
                 | DayFault::Gone
                 | DayFault::ClaimedByAnother
                 | DayFault::Tool(_) => self.refused = self.refused.saturating_add(1),

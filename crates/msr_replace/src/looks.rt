@@ -8,6 +8,7 @@ ghost use Rattle.msr_exchange.specs.Moves.{Anything};
 use crate::answers::DayRefusal;
 use crate::ways::odd_way;
 use msr_exchange::{DayNames, DayWork, Place};
+use msr_folders::is_later;
 use msr_tree::{Facts, Kind, Time, Tree, TreeFault};
 
 /// What stands under the names of a day's file, its records and its report.
@@ -43,11 +44,6 @@ pub(crate) fn look_at_day<T: Tree>(
         records,
         report,
     })
-}
-
-fn is_later(time: Time, limit: Time) -> bool {
-    time.seconds > limit.seconds
-        || (time.seconds == limit.seconds && time.nanoseconds > limit.nanoseconds)
 }
 
 /// Whether the day's file was changed later than it may have been. Records that were given the time of now do not count:

@@ -17,7 +17,9 @@ use crate::tally::Tally;
 use crate::ways::{begin_folder, end_folder};
 use msr_devices::{DeviceFault, Sink, write_all};
 use msr_exchange::DayWork;
-use msr_folders::{FolderWalk, Lock, LockFile, Visitor, WalkFound, is_gone, join, visit_folders};
+use msr_folders::{
+    FolderWalk, Lock, LockFile, Visitor, WalkFound, days_before, is_gone, join, visit_folders,
+};
 use msr_options::Replacing;
 use msr_sds::SdsName;
 use msr_tree::{FileKind, Time, Tree, TreeFault};
@@ -37,8 +39,6 @@ pub struct Replaced<T> {
     pub found: Result<WalkFound, DeviceFault>,
 }
 
-const SECONDS_PER_DAY: i64 = 86_400;
-
 const BUSY: Outcome = Outcome::Refused(EntryRefusal::Busy);
 
 const NO_FOLDER: Outcome = Outcome::Refused(EntryRefusal::NoFolder);
@@ -49,12 +49,6 @@ fn work_of<'a>(alloc: Global, asked: &Replacing<'a>, now: Time) -> DayWork<'a>
     requires aside { AreApartFrom asked.now.aside.now asked.now.folders }
     ensures { AreThreeFolders result }
 {
-    let before = Time {
-        seconds: now
-            .seconds
-            .saturating_sub(i64::from(asked.older_than) * SECONDS_PER_DAY),
-        nanoseconds: now.nanoseconds,
-    };
     DayWork {
         alloc,
         root: asked.folders.root,
@@ -62,7 +56,7 @@ fn work_of<'a>(alloc: Global, asked: &Replacing<'a>, now: Time) -> DayWork<'a>
         reports: asked.folders.reports,
         aside: asked.aside,
         only_smaller: asked.only_smaller,
-        changed_before: (0 < asked.older_than).then_some(before),
+        changed_before: days_before(now, asked.older_than),
         touch: asked.touch,
         int24: asked.int24,
     }

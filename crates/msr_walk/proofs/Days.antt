@@ -4,13 +4,13 @@ use Rattle.msr_folders.proofs.WalkedLemmas.{goes_none, goes_so, goes_then}
 use Rattle.msr_folders.specs.Entries.{Entry as Found}
 use Rattle.msr_folders.specs.Walks.{TellsVisit}
 use Rattle.msr_kinds.specs.declared.lengths.Length.{Length}
-use Rattle.msr_making.specs.Day.{IsDayOutcome}
+use Rattle.msr_making.specs.Day.{AsksForAge, IsDayOutcome}
 use Rattle.msr_making.specs.Making.{DoesDay, LooksForSame}
 use Rattle.msr_tree.specs.Folders.{ChangesFiles}
 use Rattle.msr_making.specs.Told.{IsOutcomeThere}
 use Rattle.msr_making.specs.declared.answer.DayEnd.{DayEnd}
 use Rattle.msr_making.specs.declared.answer.DayFault.{DayFault}
-use Rattle.msr_making.specs.declared.answer.DayFault.TheVariants.{CannotOpen, ClaimedByAnother, Differs, Gone, Larger, Listing, NotShown, Tool}
+use Rattle.msr_making.specs.declared.answer.DayFault.TheVariants.{CannotOpen, Changed, ClaimedByAnother, Differs, Gone, Larger, Listing, NotShown, Tool}
 use Rattle.msr_making.specs.declared.answer.DayOutcome.{DayOutcome}
 use Rattle.msr_making.specs.declared.answer.DayOutcome.TheVariants as outcomes
 use Rattle.msr_making.specs.Places.{DayPaths}
@@ -32,7 +32,7 @@ use Rattle.msr_walk.specs.Handling.{AreNamesWithin, IsSameBut, IsUnclaimed}
 use Rattle.msr_outcomes.specs.Outcomes.{IsForDay, IsOutcomeOfDay, of_day}
 use Rattle.msr_walk.specs.Told.{HandlesDay, IsDayTold, IsToldThere, TellsDay, ToldBetween, WorksWithin}
 use Rattle.msr_outcomes.specs.declared.outcome.Outcome.{Outcome}
-use Rattle.msr_outcomes.specs.declared.outcome.Outcome.TheVariants.{Done, Refused, Same, Skipped}
+use Rattle.msr_outcomes.specs.declared.outcome.Outcome.TheVariants.{Done, Refused, Same, Skipped, Young}
 
 -- who looks changes nothing
 pub looks_work : (out reports : Path) (names : DayNames) (asked : DayOptions) (result : Result (Option Repacked) AllocError) (old new : List Step)
@@ -46,9 +46,11 @@ pub there_again : (asked : DayOptions) (paths : DayPaths) (outcome told : DayOut
     → IsOutcomeThere asked paths outcome old new → IsToldThere asked paths told old new
 there_again asked paths (outcomes.Done repacked) told old new same is = subst (λ o. IsToldThere asked paths o old new) (sym same) is
 there_again asked paths (outcomes.Same repacked) told old new same is = subst (λ o. IsToldThere asked paths o old new) (sym same) is
+there_again asked paths outcomes.Young told old new same is = subst (λ o. IsToldThere asked paths o old new) (sym same) is
 there_again asked paths (outcomes.Refused (CannotOpen unopened)) told old new same is = subst (λ o. IsToldThere asked paths o old new) (sym same.1) tt
 there_again asked paths (outcomes.Refused NotShown) told old new same is = subst (λ o. IsToldThere asked paths o old new) (sym same) is
 there_again asked paths (outcomes.Refused Differs) told old new same is = subst (λ o. IsToldThere asked paths o old new) (sym same) is
+there_again asked paths (outcomes.Refused Changed) told old new same is = subst (λ o. IsToldThere asked paths o old new) (sym same) is
 there_again asked paths (outcomes.Refused (Larger repacked)) told old new same is = subst (λ o. IsToldThere asked paths o old new) (sym same) is
 there_again asked paths (outcomes.Refused ClaimedByAnother) told old new same is = subst (λ o. IsToldThere asked paths o old new) (sym same) is
 there_again asked paths (outcomes.Refused (Tool fault)) told old new same is = subst (λ o. IsToldThere asked paths o old new) (sym same) is
@@ -60,6 +62,7 @@ unclaimed_told asked paths (CannotOpen unopened) old new is = tt
 unclaimed_told asked paths ClaimedByAnother old new is = (tt, tt)
 unclaimed_told asked paths NotShown old new is = absurd is
 unclaimed_told asked paths Differs old new is = absurd is
+unclaimed_told asked paths Changed old new is = absurd is
 unclaimed_told asked paths (Larger repacked) old new is = absurd is
 unclaimed_told asked paths (Tool fault) old new is = absurd is
 unclaimed_told asked paths Gone old new is = absurd is
@@ -159,6 +162,25 @@ untouched_there days names out reports unopened past = record {
   there = λ are. told_now (in_length days.options.record_length days) names out reports (outcomes.Refused (CannotOpen unopened)) past past tt;
 }
 
+-- of a day that is young
+pub young_outcome : (days : DayOptions) → AsksForAge days → IsOutcomeOfDay days Young
+young_outcome days asks = record {
+  asked = in_length days.options.record_length days;
+  for_day = record { record_length = days.options.record_length; is = refl; own = λ same. refl };
+  of = outcomes.Young;
+  same = refl;
+  is = asks;
+}
+
+young_there : (days : DayOptions) (names : DayNames) (out reports : Path) (old new : List Step) → AsksForAge days → IsDayTold days names out reports Young old new
+young_there days names out reports old new asks = record {
+  asked = in_length days.options.record_length days;
+  for_day = record { record_length = days.options.record_length; is = refl; own = λ same. refl };
+  of = outcomes.Young;
+  same = refl;
+  there = λ are. told_now (in_length days.options.record_length days) names out reports outcomes.Young old new asks;
+}
+
 -- what becomes of a day, told of an entry with its path
 pub outcome_of : (asked : DayOptions) (path channel : List ℕ) (outcome : Outcome) → IsDayOf path channel
     → IsOutcomeOfDay asked outcome → IsOutcomeOf asked path channel outcome
@@ -167,8 +189,10 @@ outcome_of asked path channel outcome day is = subst (λ o. IsOutcomeOf asked pa
     by : (of : DayOutcome) → outcome ≡ of_day of → IsDayOutcome is.asked of → IsOutcomeOf asked path channel (of_day of)
     by (outcomes.Done repacked) same so = record { day = day; outcome_is = subst (λ o. IsOutcomeOfDay asked o) same is }
     by (outcomes.Same repacked) same so = record { day = day; outcome_is = subst (λ o. IsOutcomeOfDay asked o) same is }
+    by outcomes.Young same so = record { day = day; outcome_is = subst (λ o. IsOutcomeOfDay asked o) same is }
     by (outcomes.Refused (CannotOpen unopened)) same so = record { day = day; outcome_is = subst (λ o. IsOutcomeOfDay asked o) same is }
     by (outcomes.Refused NotShown) same so = record { day = day; outcome_is = subst (λ o. IsOutcomeOfDay asked o) same is }
+    by (outcomes.Refused Changed) same so = record { day = day; outcome_is = subst (λ o. IsOutcomeOfDay asked o) same is }
     by (outcomes.Refused Differs) same so = record { day = day; outcome_is = subst (λ o. IsOutcomeOfDay asked o) same is }
     by (outcomes.Refused (Larger repacked)) same so = record { day = day; outcome_is = subst (λ o. IsOutcomeOfDay asked o) same is }
     by (outcomes.Refused ClaimedByAnother) same so = record { day = day; outcome_is = subst (λ o. IsOutcomeOfDay asked o) same is }
@@ -237,6 +261,30 @@ tells_untouched outcome handled days names out reports unopened before is = goes
   works = works_none out reports past;
   says = subst (λ o. IsDayTold days names out reports o past past) (sym is) (untouched_there days names out reports unopened past);
 })
+
+-- that is young
+pub tells_young : {H E : Type 0} (outcome : H → Outcome) (handled : H) (days : DayOptions) (names : DayNames) (out reports : Path) (before after : List Step → Type 0)
+    → AsksForAge days → outcome handled ≡ Young → Goes before after (ChangesFiles []) → Goes before after (TellsDay {E = E} outcome days names out reports (Ok handled))
+tells_young outcome handled days names out reports before after asks is goes = goes_so _ _ before after (λ old new went leaves. record {
+  works = length_works out reports old new leaves;
+  says = subst (λ o. IsDayTold days names out reports o old new) (sym is) (young_there days names out reports old new asks);
+}) goes
+
+-- once somebody has looked
+pub tells_after : {H E : Type 0} (outcome : H → Outcome) (days : DayOptions) (names : DayNames) (out reports : Path) (result : Result H E) (before mid after : List Step → Type 0)
+    → Goes before mid (ChangesFiles []) → Goes mid after (TellsDay outcome days names out reports result) → Goes before after (TellsDay outcome days names out reports result)
+tells_after outcome days names out reports result before mid after one two = goes_then _ _ _ before mid after (λ old middle new first second.
+    let works = length_works out reports old middle first in
+    record {
+      works = works_then out reports old middle new works second.works;
+      says = if_ok_as result (λ t is. record {
+        asked = is.asked;
+        for_day = is.for_day;
+        of = is.of;
+        same = is.same;
+        there = λ are. told_from is.asked names out reports is.of old middle new works.does (is.there are);
+      }) second.says;
+    }) one two
 
 -- by other names for the same
 pub handles_named : {H E : Type 0} (outcome : H → DayOutcome) (names others : DayNames) (out reports : Path) (asked given : DayOptions) (result : Result H E) (before after : List Step → Type 0)

@@ -51,12 +51,12 @@ stop_tells Part out0 out Memory h = ((λ e. absurd cc), (λ has_failed. absurd (
 
 -- what the counts find is what the entries tell
 pub tells_end : (entries : List Entry) (tally : Tally) (found : WalkFound) → IsTally entries tally
-    → Finds tally.refused (min (tally.done + tally.larger) (2 ^ 64 - 1)) found → TellsEnd entries found
+    → Finds tally.refused (min (min (tally.done + tally.larger) (2 ^ 64 - 1) + tally.young) (2 ^ 64 - 1)) found → TellsEnd entries found
 tells_end entries tally Well counts finds =
-    rw (← counts.refused, ← counts.done, ← counts.larger) (finds.0, grind (arith, finds.1))
+    rw (← counts.refused, ← counts.done, ← counts.larger, ← counts.young) (finds.0, grind (arith, finds.1))
 tells_end entries tally Unwell counts finds = rw (← counts.refused) finds
-tells_end entries tally NoDay counts finds = rw (← counts.refused, ← counts.done, ← counts.larger)
-    (finds.0, omega (arith, finds.1), omega (arith, finds.1))
+tells_end entries tally NoDay counts finds = rw (← counts.refused, ← counts.done, ← counts.larger, ← counts.young)
+    (finds.0, omega (arith, finds.1), omega (arith, finds.1), omega (arith, finds.1))
 
 pub walk_ends : (asked : DayOptions) (out0 out1 out : Device) (tally0 tally : Tally) (walked : Walked) →
     (told : TellsOutcomes asked out0 out1 tally0 tally) → Takes out1 out (summary asked told.entries)

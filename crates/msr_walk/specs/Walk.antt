@@ -8,7 +8,7 @@ use Rattle.msr_folders.specs.declared.found.WalkFound.TheVariants.{Well, Unwell,
 use Rattle.msr_tool.specs.declared.fault.ToolFault.{ToolFault}
 use Rattle.msr_tool.specs.declared.fault.ToolFault.TheVariants.{Write, Memory}
 use Rattle.msr_options.specs.declared.days.DayOptions.{DayOptions}
-use Rattle.msr_outcomes.specs.Entries.{Entry, IsEntry, IsTally, counted, first_unopened, is_done, is_larger, is_refused}
+use Rattle.msr_outcomes.specs.Entries.{Entry, IsEntry, IsTally, counted, first_unopened, is_done, is_larger, is_refused, is_young}
 use Rattle.msr_outcomes.specs.Lines.{IsEntryLine}
 use Rattle.msr_outcomes.specs.Summary.{summary}
 use Rattle.msr_walk.specs.declared.folders.Walked.{Walked}
@@ -23,13 +23,13 @@ TellsOutcomes asked out0 out tally0 tally =
 abbrev pub StopsTellingOutcomes : DayOptions → Device → Device → DeviceFault → Type 0
 StopsTellingOutcomes asked out0 out fault = StopsTelling (IsEntry asked) (IsEntryLine asked) out0 out fault
 
--- a walk that came to its end tells whether an entry was refused, and if none was, whether there was a day
+-- a walk that came to its end tells whether an entry was refused, and if none was, whether there was a day, young or not
 abbrev pub TellsEnd : List Entry → WalkFound → Type 0
 TellsEnd entries Well = (counted is_refused entries ≡ 0)
-    × ((0 < counted is_done entries) ⊎ (0 < counted is_larger entries))
+    × ((0 < counted is_done entries) ⊎ ((0 < counted is_larger entries) ⊎ (0 < counted is_young entries)))
 TellsEnd entries Unwell = 0 < counted is_refused entries
 TellsEnd entries NoDay = (counted is_refused entries ≡ 0) × (counted is_done entries ≡ 0)
-    × (counted is_larger entries ≡ 0)
+    × (counted is_larger entries ≡ 0) × (counted is_young entries ≡ 0)
 
 -- It tells too what could not be opened of the first day that was refused for that.
 pub record TellsWalk (entries : List Entry) (walked : Walked) : Type 0 where

@@ -1,5 +1,5 @@
 //! The walk through the folders of an archive.
-ghost use Rattle.std.specs.Prelude.{◌≡◌, ◌≢◌, ◌↔◌, ◌∷◌, [], List, IfErr, IfOk, IsErrOf, OnOk};
+ghost use Rattle.std.specs.Prelude.{◌≡◌, ◌≢◌, ◌↔◌, ◌∷◌, [], List, IfErr, IfOk, IsErrOf, OnOk, true};
 ghost use Rattle.std.specs.String.{string_bytes};
 ghost use Rattle.msr_devices.specs.Device.{CanCountCall, Device, HasFailed};
 ghost use Rattle.msr_sds.specs.SdsPath.{ReadsAsDay};
@@ -8,7 +8,9 @@ ghost use Rattle.msr_folders.proofs.WithinLemmas.{within_laws};
 ghost use Rattle.msr_folders.specs.Within.{ChangesWithin};
 ghost use Rattle.msr_folders.specs.Walks.{TellsVisit, TellsWalk as TellsVisits};
 ghost use Rattle.msr_options.specs.Tasks.{StandApart};
+ghost use Rattle.msr_making.specs.Day.{AsksForAge};
 ghost use Rattle.msr_tree.specs.Calls.{Goes};
+ghost use Rattle.msr_tree.specs.Folders.{ChangesFiles};
 ghost use Rattle.msr_tree.specs.Steps.{Path};
 ghost use Rattle.msr_tree.specs.declared.kind.FileKind.{FileKind};
 ghost use Rattle.msr_tree.specs.declared.kind.FileKind.TheVariants.{Gone};
@@ -26,14 +28,14 @@ use crate::claims::Claims;
 use crate::day::{Day, Work};
 use crate::walker::Walker;
 use msr_devices::{DeviceFault, Sink, write_all};
-use msr_folders::{EntryVisitor, EntryWalk, WalkFound, told_folder, visit_entries};
-use msr_making::{DayFault, DayOutcome, day_length};
+use msr_folders::{EntryVisitor, EntryWalk, WalkFound, join, told_folder, visit_entries};
+use msr_making::{DayFault, DayOutcome, day_length, is_young};
 use msr_naming::Waiting;
 use msr_options::{Archiving, Unopened};
 use msr_outcomes::{Outcome, Tally, write_summary};
 use msr_sds::SdsName;
 use msr_tool::ToolFault;
-use msr_tree::{FileKind, Tree};
+use msr_tree::{FileKind, Time, Tree};
 use std::alloc::{AllocError, Global};
 use std::io;
 
@@ -131,8 +133,40 @@ fn channel_text(alloc: Global, name: &SdsName<'_>) -> Result<String, AllocError>
 }
 
 impl<'a, C: Claims> Walker<'a, C> {
-    /// Handles a day, or refuses it if what is made of it may stand in the archive.
+    /// Whether the file of a day was changed too late.
+    fn is_young<T: Tree>(&self, tree: &mut T, path: &str) -> Result<bool, AllocError>
+        ensures asked { IfOk result (λ young. young ≡ true → AsksForAge self.now.archive.now.days) }
+        ensures goes { Goes (T.went tree.old) (T.went tree.new) (ChangesFiles []) }
+    {
+        let input = join(self.alloc, self.archive.folders.root, path)?;
+        is_young(tree, input.as_str(), self.archive.days.older_than, self.now)
+    }
+
+    /// Handles a day, unless its file was changed too late.
     fn handle<T: Tree>(
+        &self,
+        tree: &mut T,
+        path: &str,
+        apart: bool,
+        made: &mut String,
+    ) -> Result<Told<C::Claim>, AllocError>
+        requires { IsDay path.now }
+        ensures told { IfOk result (λ told. IsOutcomeOfDay self.now.archive.now.days told.outcome) }
+        ensures waits { IfOk result (λ told. WaitsWithin self.now.archive.now.folders.reports.now told.waiting) }
+        ensures goes { Goes (T.went tree.old) (T.went tree.new) (TellsDay (λ told. told.outcome) self.now.archive.now.days
+            (day_names self.now.archive.now.folders.root.now self.now.archive.now.folders.out.now self.now.archive.now.folders.reports.now path.now) self.now.archive.now.folders.out.now self.now.archive.now.folders.reports.now result) }
+    {
+        if self.is_young(tree, path)? {
+            return Ok(Told {
+                outcome: Outcome::of_day(DayOutcome::Young),
+                waiting: None,
+            });
+        }
+        self.handle_due(tree, path, apart, made)
+    }
+
+    /// The same of a day whose time has come: refuses it if what is made of it may stand in the archive.
+    fn handle_due<T: Tree>(
         &self,
         tree: &mut T,
         path: &str,
@@ -334,12 +368,13 @@ impl<'a, C: Claims> EntryVisitor for Walker<'a, C> {
 }
 
 /// Walks the archive, or the folders of it that are asked for, and tells whether an entry was refused, whether there
-/// was a day, and what of the first one could not be opened.
+/// was a day, and what of the first one could not be opened. By the time of now it is told how old files are.
 pub fn walk<'a, T: Tree, C: Claims, O: Sink>(
     tree: &mut T,
     claims: &'a C,
     alloc: Global,
     archive: &'a Archiving<'a>,
+    now: Time,
     out: &mut O,
 ) -> Result<Walked, ToolFault>
     requires apart { StandApart archive.now.folders }
@@ -361,11 +396,13 @@ pub fn walk<'a, T: Tree, C: Claims, O: Sink>(
         claims,
         alloc,
         archive,
+        now,
     };
     walker.visit(tree, out, &mut progress)?;
     let tally = &progress.tally;
     write_summary(alloc, out, &archive.days, tally)?;
-    let days = tally.done.saturating_add(tally.larger);
+    let made = tally.done.saturating_add(tally.larger);
+    let days = made.saturating_add(tally.young);
     Ok(Walked {
         found: WalkFound::of(tally.refused, days),
         unopened: tally.unopened,

@@ -1,8 +1,12 @@
-use Rattle.msr_making.proofs.Verified.{asked_verified, unasked_verified}
+use Rattle.std.proofs.Common.{refl}
+use Rattle.msr_making.proofs.Verified.{said_again, said_was, unasked_verified}
 use Rattle.msr_making.proofs.verifying.verify_asked.Goals as goal
 
-pub returns-then-asked-clause-goes : goal.returns-then-asked-clause-goes
-returns-then-asked-clause-goes g c = asked_verified c.args.input.now c.args.files.now c.args.asked.now c.verify_parts.result _ _ c.verify_parts.ensures.goes
+pub returns-then-not-asked-clause-goes : goal.returns-then-not-asked-clause-goes
+returns-then-not-asked-clause-goes g c = unasked_verified c.args.input.now c.args.files.now c.args.asked.now _ c.if-not-asked.true
 
-pub returns-else-asked-clause-goes : goal.returns-else-asked-clause-goes
-returns-else-asked-clause-goes g c = unasked_verified c.args.input.now c.args.files.now c.args.asked.now _ c.if-asked.false
+pub returns-clause-told : goal.returns-clause-told
+returns-clause-told g c = λ check. said_was c.args.asked.now.options c.verify_parts.result c.told_again.result c.told_again.ensures.said c.verify_parts.ensures.told
+
+pub returns-clause-goes : goal.returns-clause-goes
+returns-clause-goes g c = said_again c.args.input.now c.args.files.now c.args.asked.now c.verify_parts.result c.told_again.result _ _ _ c.told_again.ensures.said c.verify_parts.ensures.goes c.told_again.ensures.goes

@@ -58,7 +58,7 @@ returns-clause-answer g c =
     let told : TellsOutcomes c.args.archive.now.days _ _ _ _ = told_among (λ of. of.tally) c.args.archive.now.days _ _ _ _ _ c.in_ok-visit.ensures.told.told in
     let counts = told.counts [] c.new-progress.ensures.empty in
     walk_ends _ _ _ _ _ _ _ told (c.in_ok-write_summary.ensures.all told.entries counts)
-    (tells_end _ _ _ counts (rw c.saturating_add-days.ensures at c.of.ensures)) counts.unopened
+    (tells_end _ _ _ counts (rw c.saturating_add-made.ensures at (rw c.saturating_add-days.ensures at c.of.ensures))) counts.unopened
 
 pub returns-clause-write : goal.returns-clause-write
 returns-clause-write g c =
@@ -70,7 +70,7 @@ returns-clause-tree g c =
     let visits = c.in_ok-visit.ensures.told in
     let counts = visits.told.told.counts [] c.new-progress.ensures.empty in
     tree_ends (λ of. of.tally) c.args.archive.now _ _ _ _ _ _ _ _ visits (c.in_ok-write_summary.ensures.all visits.told.told.entries counts)
-    (record { end = tells_end _ _ _ counts (rw c.saturating_add-days.ensures at c.of.ensures); first = counts.unopened })
+    (record { end = tells_end _ _ _ counts (rw c.saturating_add-made.ensures at (rw c.saturating_add-days.ensures at c.of.ensures)); first = counts.unopened })
 
 pub returns-clause-root : goal.returns-clause-root
 returns-clause-root g c =

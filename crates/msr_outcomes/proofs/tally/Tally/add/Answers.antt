@@ -11,6 +11,12 @@ returns-in-Skipped c = λ before entry h channel outcome.
     kept_first c.args.self.now before entry h (ap unopened_of (outcome ∙ c.in-Skipped.is)) in
     grind (arith, common_steps)
 
+pub returns-in-Young : goal.returns-in-Young
+returns-in-Young c = λ before entry h channel outcome.
+    let first : c.args.self.now.unopened ≡ first_unopened (before ++ entry ∷ []) =
+    kept_first c.args.self.now before entry h (ap unopened_of (outcome ∙ c.in-Young.is)) in
+    grind (arith, common_steps)
+
 pub returns-in-Larger : goal.returns-in-Larger
 returns-in-Larger c = λ before entry h channel outcome.
     let first : c.args.self.now.unopened ≡ first_unopened (before ++ entry ∷ []) =
