@@ -110,8 +110,15 @@ fn arg_of<'a>(alloc: Global, argument: Argument<'a>) -> Arg<'a>
             valued(alloc, "tolerance", "T", parser, "1000", help).long_help(long_help)
         }
         Argument::Days(default, help, long_help) => {
-            valued(alloc, "older-than", "DAYS", value_parser!(u32), default, help)
-                .long_help(long_help)
+            valued(
+                alloc,
+                "older-than",
+                "DAYS",
+                value_parser!(u32),
+                default,
+                help,
+            )
+            .long_help(long_help)
         }
         Argument::Length(help) => { valued(alloc, "length", "L", value_parser!(u32), "512", help) }
         Argument::DayLength(help, long_help) => {

@@ -23,5 +23,9 @@ pub fn is_young<T: Tree>(
         return Ok(false);
     };
     let sight = look_at(tree, input)?;
-    Ok(sight.regular().is_some_and(|facts| is_later(facts.changed, limit)))
+    Ok(
+        sight
+            .regular()
+            .is_some_and(|facts| is_later(facts.changed, limit)),
+    )
 }
