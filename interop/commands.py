@@ -15,15 +15,16 @@ import replaced
 import walks
 from reports import NotAReport, parsed, verdict
 
+OF_RECORDS = ("--length", "--no-int24", "--tolerance", "--strict")
 OF_DAYS = ("--resume", "--check", "--only-smaller", "--bytes")
 OF_ORIGINALS = ("--undo", "--below", "--only-smaller", "--older-than", "--touch", "--int24")
 COMMANDS = {
-    "repack": (("--length", "--no-int24", "--tolerance", "--strict"), (1, 2)),
-    "feed": (("--length", "--no-int24", "--tolerance", "--strict"), (1, 1)),
+    "repack": (OF_RECORDS, (1, 2)),
+    "feed": (OF_RECORDS, (1, 1)),
     "list": (("--tolerance", "--strict", "--json"), (1, 1)),
     "check": ((), (2, 2)),
     "compare": (("--tolerance",), (2, 2)),
-    "archive": (("--length", "--no-int24", "--tolerance", "--strict", "--below", *OF_DAYS, "--quiet", "--json"), (3, 3)),
+    "archive": ((*OF_RECORDS, "--below", *OF_DAYS, "--older-than", "--quiet", "--json"), (3, 3)),
     "verify": (("--quiet", "--json", "--below"), (3, 3)),
     "replace": (OF_ORIGINALS, (4, 4)),
 }
@@ -151,7 +152,8 @@ def read_words(words):
     tolerance, strict, json = chosen.get("--tolerance", 1000), "--strict" in chosen, "--json" in chosen
     quiet = "--quiet" in chosen
     aside = names.pop() if command == "replace" else None
-    of_originals = "--undo" in chosen, chosen.get("--older-than", 7), "--touch" in chosen, "--int24" in chosen
+    older_than = chosen.get("--older-than", 7 if command == "replace" else 0)
+    of_originals = "--undo" in chosen, older_than, "--touch" in chosen, "--int24" in chosen
     return Task(command, names, length, kinds, tolerance, strict, json, quiet, below, *flags, aside, *of_originals)
 
 

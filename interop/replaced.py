@@ -3,13 +3,11 @@ be told of it, or none.
 """
 import os
 import shutil
-import time
 
 import model
 from reports import NotAReport, parsed, verdict
-from walks import NotDone, Verification, in_one_line, read_regular, skipped
+from walks import NotDone, Verification, in_one_line, is_young, read_regular, skipped
 
-SECONDS_OF_DAY = 86400
 # Where the encoding of a written record stands, and the one of 24-bit integers.
 ENCODING, INT24 = 52, 2
 NOTED = ".touch-time"
@@ -72,9 +70,9 @@ class Replacement(Verification):
 
     def is_young(self, file, noted):
         """Whether it was changed in the last days, but not by a replace that gave it the time of then."""
-        days, changed = self.task.older_than, os.stat(file)
+        changed = os.stat(file)
         is_noted = os.path.isfile(noted) and os.stat(noted).st_mtime_ns == changed.st_mtime_ns
-        return days > 0 and changed.st_mtime > time.time() - days * SECONDS_OF_DAY and not is_noted
+        return is_young(changed, self.task.older_than) and not is_noted
 
     def look(self, path):
         for top, side in ((self.root, ""), (self.out, "records: "), (self.aside, "aside: ")):

@@ -422,8 +422,9 @@ KINDS = ["--no-int24", "kinds steim2 steim1 int16 int32", "libmseed 2 and the to
 TOLERANCE = ["--tolerance", "1 to 1000000", "[default: 1000]"]
 REFUSES = ["--strict", "18 ReverseMismatch"]
 LINES = ["done PATH", "same PATH", "skipped PATH: not an SDS path", "not waveform data", "bad day", "notshown PATH", "differs PATH"]
-LINES += ["larger PATH", "refused PATH: TEXT", "cannot open", "another walk is at work", "refused PATH: listing"]
-LINES += ["channel NET.STA.LOC.CHAN files N read N written N", "files N skipped N refused N"]
+LINES += ["changed PATH", "larger PATH", "young PATH", "refused PATH: TEXT", "refused PATH: listing"]
+LINES += ["cannot open", "another walk is at work"]
+LINES += ["channel NET.STA.LOC.CHAN files N read N written N", "files N skipped N refused N [larger N] [young N]"]
 SAID = ["same segments N samples N", "moved N N", "differ segment K key", "differ segment K start"]
 SAID += ["differ segment K sample N values V V", "differ segment K sample N only in ONE", "differ segment K only in ONE"]
 HELP = {
@@ -435,7 +436,7 @@ HELP = {
     "compare": [*STATUSES, "3", *TOLERANCE, *SAID, "ONE", "OTHER"],
     "archive": [*STATUSES, *LENGTH, *KINDS, *TOLERANCE, *REFUSES, *LINES, "--below", *commands.OF_DAYS, "same"],
 }
-HELP["archive"] += ["--quiet", "--json", "ROOT", "OUT", "REPORTS"]
+HELP["archive"] += ["--older-than", "[default: 0]", "--quiet", "--json", "ROOT", "OUT", "REPORTS"]
 FOUND = ["verified PATH", "missing PATH", "notshown PATH", "differs PATH", "refused PATH: file: TEXT", "orphan PATH"]
 FOUND += ["refused PATH: records: TEXT", "refused PATH: report: TEXT", "refused PATH: listing", "skipped PATH: TEXT"]
 FOUND += ["cannot open", "the file itself", "files N skipped N refused N missing N notshown N differs N orphan N"]

@@ -7,6 +7,7 @@ import fcntl
 import os
 import re
 import stat
+import time
 from collections import namedtuple
 
 import model
@@ -32,6 +33,7 @@ Places = namedtuple("Places", "records report stamp claim")
 Claim = namedtuple("Claim", "path file number")
 MISSING = (errno.ENOENT, errno.ENOTDIR)
 TAKEN = "another walk is at work"
+SECONDS_OF_DAY = 86400
 
 
 class NotDone(Exception):
@@ -91,6 +93,11 @@ def found(path):
         if why.errno in MISSING:
             return None
         raise
+
+
+def is_young(told, days):
+    """Whether a file, of which this is told, was changed in the last days, or in the future; with 0 days none was."""
+    return days > 0 and told.st_mtime > time.time() - days * SECONDS_OF_DAY
 
 
 def in_one_line(path):
@@ -168,7 +175,7 @@ class Walk:
     def __init__(self, task, odd):
         self.task, self.odd = task, odd
         self.root, self.out, self.reports = task.names
-        self.done, self.skips, self.refused, self.larger, self.channels = 0, 0, 0, 0, {}
+        self.done, self.skips, self.refused, self.larger, self.young, self.channels = 0, 0, 0, 0, 0, {}
 
     def lines(self):
         for top in self.task.below or [""]:
@@ -179,8 +186,9 @@ class Walk:
             else:
                 yield f"channel {name} files {files}{self.told(*sums)}"
         sizes = [sum(sums[place] for sums in self.channels.values()) for place in (3, 4)]
-        larger = [("larger", self.larger)] if self.task.only_smaller else []
-        counts = [("files", self.done), ("skipped", self.skips), ("refused", self.refused), *larger]
+        counts = [("files", self.done), ("skipped", self.skips), ("refused", self.refused)]
+        counts += [("larger", self.larger)] if self.task.only_smaller else []
+        counts += [("young", self.young)] if self.task.older_than else []
         if self.task.json:
             yield '{"what":"files",' + ",".join(f'"{word}":{count}' for word, count in counts) + f"{self.told_bytes(*sizes)}}}"
         else:
@@ -197,7 +205,7 @@ class Walk:
 
     def line(self, word, path, why=None, side=None, reason=None):
         """The line of an entry, or None if it is left out."""
-        if self.task.quiet and word == "skipped":
+        if self.task.quiet and word in ("skipped", "young"):
             return None
         if self.task.json:
             return json_line(word, path, why, reason, side)
@@ -252,7 +260,7 @@ class Walk:
                 yield self.refuse(below, "cannot open", "file")
 
     def has_no_day(self):
-        return not (self.task.below or self.done or self.refused or self.larger)
+        return not (self.task.below or self.done or self.refused or self.larger or self.young)
 
     def refuse(self, path, text, side=None, reason=None):
         self.refused += 1
@@ -263,6 +271,9 @@ class Walk:
         if why:
             self.skips += 1
             return self.line("skipped", path, why)
+        if self.is_young(f"{self.root}/{path}"):
+            self.young += 1
+            return self.line("young", path)
         try:
             word, *counts = self.day(path)
         except Larger as why:
@@ -278,6 +289,13 @@ class Walk:
         sums = self.channels.get(name, (0, 0, 0, 0, 0))
         self.channels[name] = tuple(sum(pair) for pair in zip(sums, (1, *counts)))
         return self.counted(word, path, *counts)
+
+    def is_young(self, source):
+        """Whether the day's file, which is a regular one, was changed too late."""
+        with contextlib.suppress(OSError):
+            told = os.stat(source)
+            return stat.S_ISREG(told.st_mode) and is_young(told, self.task.older_than)
+        return False
 
     def day(self, path):
         """What was done with a day, and its counts."""
@@ -436,7 +454,7 @@ class Walk:
         if self.task.only_smaller and len(content) <= len(records):
             raise Larger(*counts)
         if self.task.check:
-            self.hold(source, parts)
+            self.hold(source, stamp, parts)
         if not self.has(claim):
             raise NotDone(TAKEN)
         self.name(places, parts)
@@ -457,9 +475,10 @@ class Walk:
         with open(file, "wb") as opened:
             opened.write(content)
 
-    def hold(self, source, parts):
+    def hold(self, source, stamp, parts):
         """The report that was written has to show the records that were, and these have to have the segments of the
-        day's file; all are read again first, and another file may be read in the place of one of them."""
+        day's file, which may have been changed since it had this stamp; all are read again first, and another file may
+        be read in the place of one of them."""
         packed, report = (self.read_again(*of) for of in zip(parts, ("records", "report")))
         try:
             content = read_regular(source)
@@ -472,7 +491,7 @@ class Walk:
         if not is_shown:
             raise NotKept("notshown")
         if model.compared(content, packed, self.task.tolerance).status != 0:
-            raise NotKept("differs")
+            raise NotKept("differs" if stamp_of(source) == stamp else "changed")
 
     def read_again(self, path, side):
         try:

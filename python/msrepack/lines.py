@@ -88,6 +88,26 @@ class Differs(_Named):
     WORD = "differs"
 
 
+class Changed(_Named):
+    """The same, and the file was changed while it was repacked.
+
+    >>> parse("changed 2020/XX/TEST/BHN.D/XX.TEST.00.BHN.D.2020.001").path
+    '2020/XX/TEST/BHN.D/XX.TEST.00.BHN.D.2020.001'
+    """
+
+    WORD = "changed"
+
+
+class Young(_Named):
+    """The file was changed in the last days, or in the future, and was left alone.
+
+    >>> parse("young 2020/XX/TEST/BHN.D/XX.TEST.00.BHN.D.2020.001").path
+    '2020/XX/TEST/BHN.D/XX.TEST.00.BHN.D.2020.001'
+    """
+
+    WORD = "young"
+
+
 class Verified(_Named):
     """The records have the segments of the file, and the report shows that they are the fewest.
 
@@ -202,10 +222,10 @@ class Channel:
 
 @dataclass(frozen=True)
 class ArchiveTotals:
-    """The last line of `archive`; `larger` is None unless only smaller files were asked for.
+    """The last line of `archive`; `larger` is None unless only smaller files were asked for, `young` unless only older ones.
 
-    >>> parse("files 4 skipped 1 refused 0 larger 2")
-    ArchiveTotals(files=4, skipped=1, refused=0, larger=2, bytes_read=None, bytes_written=None)
+    >>> parse("files 4 skipped 1 refused 0 larger 2 young 3")
+    ArchiveTotals(files=4, skipped=1, refused=0, larger=2, bytes_read=None, bytes_written=None, young=3)
     """
 
     files: int
@@ -214,11 +234,13 @@ class ArchiveTotals:
     larger: Optional[int] = None
     bytes_read: Optional[int] = None
     bytes_written: Optional[int] = None
+    young: Optional[int] = None
 
     def __str__(self) -> str:
         larger = "" if self.larger is None else f" larger {self.larger}"
+        young = "" if self.young is None else f" young {self.young}"
         bytes_told = _bytes_told(self.bytes_read, self.bytes_written)
-        return f"files {self.files} skipped {self.skipped} refused {self.refused}{larger}{bytes_told}"
+        return f"files {self.files} skipped {self.skipped} refused {self.refused}{larger}{young}{bytes_told}"
 
 
 @dataclass(frozen=True)
@@ -244,7 +266,7 @@ class VerifyTotals:
         )
 
 
-ArchiveLine = Union[Done, Same, Larger, NotShown, Differs, Skipped, Refused, Channel, ArchiveTotals]
+ArchiveLine = Union[Done, Same, Larger, Young, NotShown, Differs, Changed, Skipped, Refused, Channel, ArchiveTotals]
 VerifyLine = Union[Verified, Missing, NotShown, Differs, Skipped, Refused, Orphan, VerifyTotals]
 Line = Union[ArchiveLine, VerifyLine]
 
@@ -260,6 +282,8 @@ COUNTED: Dict[str, Maker] = {"done": Done, "same": Same, "larger": Larger}
 NAMED: Dict[str, Maker] = {
     "notshown": NotShown,
     "differs": Differs,
+    "changed": Changed,
+    "young": Young,
     "verified": Verified,
     "missing": Missing,
     "orphan": Orphan,
@@ -268,6 +292,11 @@ NAMED: Dict[str, Maker] = {
 
 def _numbers(*texts: Optional[str]) -> Tuple[Optional[int], ...]:
     return tuple(None if text is None else int(text) for text in texts)
+
+
+def _archive_totals(*told: Optional[str]) -> Line:
+    *counts, young, read, written = _numbers(*told)
+    return ArchiveTotals(*counts, read, written, young)  # type: ignore[arg-type]
 
 
 def _refused(path: str, of: Optional[str], text: str) -> Line:
@@ -287,8 +316,8 @@ FORMS: Tuple[Tuple["re.Pattern[str]", Maker], ...] = (
         lambda name, *counts: Channel(name, *_numbers(*counts)),  # type: ignore[arg-type]
     ),
     (
-        re.compile(f"files {N} skipped {N} refused {N}(?: larger {N})?{BYTES}"),
-        lambda *counts: ArchiveTotals(*_numbers(*counts)),  # type: ignore[arg-type]
+        re.compile(f"files {N} skipped {N} refused {N}(?: larger {N})?(?: young {N})?{BYTES}"),
+        _archive_totals,
     ),
     (
         re.compile(f"files {N} skipped {N} refused {N} missing {N} notshown {N} differs {N} orphan {N}"),

@@ -28,13 +28,14 @@ def archive(
     resume: bool = False,
     check: bool = False,
     only_smaller: bool = False,
+    older_than: int = 0,
     bytes: bool = False,
     timeout: Optional[float] = None,
 ) -> Iterator[ArchiveLine]:
     """Repacks each day below `root` to `out`, its report to `reports`; gives each line as its file is done, the totals last.
 
-    The words are those of the program's options, `length` also `"same"`; 24-bit integers are not written unless `int24`
-    is set. Without `below` it is the whole archive; if no folder is in it, no day is. `timeout` is in seconds, of the
+    The words are those of the program's options, `length` also `"same"`, `older_than` in days; 24-bit integers are not
+    written unless `int24` is set. Without `below` it is the whole archive; if no folder is in it, no day is. `timeout` is in seconds, of the
     whole walk, which goes on in a process of its own while a line is looked at. If the loop ends before the totals, by
     `break` or an exception, the walk ends once the file in hand is done. If that takes longer than a second it gets
     SIGTERM, and after two more SIGKILL: the next walk removes what that leaves.
@@ -57,8 +58,9 @@ def archive(
         "--bytes": bytes,
     }
     words = ["archive", "--json", f"--length={length}", f"--tolerance={tolerance}", *options(chosen)]
+    words += [f"--older-than={older_than}"] if older_than else []
     none = (0 if bytes else None,) * 2
-    nothing = ArchiveTotals(0, 0, 0, 0 if only_smaller else None, *none)
+    nothing = ArchiveTotals(0, 0, 0, 0 if only_smaller else None, *none, 0 if older_than else None)
     return cast(Iterator[ArchiveLine], _walk(words, below, (root, out, reports), nothing, timeout))
 
 

@@ -30,7 +30,7 @@ def echo(what, **members):
 DONE, NONE = echo("done", path=DAY.format(1), read=2, written=1), echo("files", files=0, skipped=0, refused=0)
 TYPES = {
     "done": lines.Done, "same": lines.Same, "larger": lines.Larger, "notshown": lines.NotShown, "differs": lines.Differs,
-    "skipped": lines.Skipped, "refused": lines.Refused, "channel": lines.Channel, "verified": lines.Verified,
+    "changed": lines.Changed, "young": lines.Young, "skipped": lines.Skipped, "refused": lines.Refused, "channel": lines.Channel, "verified": lines.Verified,
     "missing": lines.Missing, "orphan": lines.Orphan,
 }
 
@@ -111,6 +111,27 @@ class Archive(Walks):
         named = {lines.Done, lines.Same, lines.Larger, lines.Skipped, lines.Refused, lines.Channel, lines.ArchiveTotals}
         self.assertEqual(seen, named)
 
+    def test_older_than(self):
+        """By the time of last change. What was made of a young day stays, though the day would be refused now."""
+        whole = read(example("two-segments.mseed"))
+        for number in range(1, 5):
+            self.path(os.path.join("root", DAY.format(number)), whole)
+        self.walk(["--no-int24"])
+        for number, days in ((1, 2.01), (2, 1.99), (3, -1)):
+            path = self.path(os.path.join("root", DAY.format(number)), whole[:600])
+            changed = time.time() - days * 86400
+            os.utime(path, (changed, changed))
+        os.utime(os.path.join(self.root, DAY.format(4)), (0, 0))
+        words = ["--no-int24", "--older-than", "2", "--only-smaller", "--bytes"]
+        seen = self.walk(words, older_than=2, only_smaller=True, bytes=True)
+        self.assertEqual(seen, {lines.Refused, lines.Young, lines.Done, lines.Channel, lines.ArchiveTotals})
+        self.assertEqual(self.made("found"), self.made("model"))
+        packed, _ = self.folders("found")
+        left = [number for number in range(1, 5) if os.path.exists(os.path.join(packed, DAY.format(number)))]
+        self.assertEqual(left, [2, 3, 4])
+        *_, totals = archive(self.root, *self.folders("found"), older_than=2**32 - 1)
+        self.assertEqual(totals, lines.ArchiveTotals(0, 0, 0, young=4))
+
     def made(self, name):
         """The files of a walk's folders, but for the stamps, whose text is the program's own."""
         there = {}
@@ -129,8 +150,8 @@ class Archive(Walks):
             self.assertEqual([str(line) for line in found], ["files 0 skipped 0 refused 0 bytes 0 0"])
             found = verify(self.root, *self.folders("found"), below=none)
             self.assertEqual(list(found), [lines.VerifyTotals(0, 0, 0, 0, 0, 0, 0)])
-        [totals] = archive(self.root, *self.folders("found"), below=[], only_smaller=True)
-        self.assertEqual(str(totals), "files 0 skipped 0 refused 0 larger 0")
+        [totals] = archive(self.root, *self.folders("found"), below=[], only_smaller=True, older_than=1, bytes=True)
+        self.assertEqual(str(totals), "files 0 skipped 0 refused 0 larger 0 young 0 bytes 0 0")
         self.assertFalse(os.path.exists(self.folders("found")[0]))
         *_, totals = archive(self.root, *self.folders("found"), below=None)
         self.assertEqual(totals.files, 4)
@@ -153,18 +174,20 @@ class Archive(Walks):
         told = (refused.path, refused.of, refused.side, refused.offset, refused.number, refused.name, refused.value)
         self.assertEqual(told, (DAY.format(1), None, "file", 512, 10, "RecordCut", None))
 
-    def test_what_only_a_fault_of_the_machine_brings(self):
-        days = echo("notshown", path=DAY.format(1)), echo("differs", path=DAY.format(2))
-        with other_program("; ".join((*days, echo("files", files=0, skipped=0, refused=2), "exit 1"))):
+    def test_what_only_a_fault_or_another_program_brings(self):
+        days = [echo(what, path=DAY.format(number)) for number, what in enumerate(("notshown", "differs", "changed"), 1)]
+        with other_program("; ".join((*days, echo("files", files=0, skipped=0, refused=3), "exit 1"))):
             found = list(archive("a", "b", "c", check=True))
-        wanted = [lines.NotShown(DAY.format(1)), lines.Differs(DAY.format(2)), lines.ArchiveTotals(0, 0, 2)]
-        self.assertEqual(found, wanted)
+        wanted = [lines.NotShown(DAY.format(1)), lines.Differs(DAY.format(2)), lines.Changed(DAY.format(3))]
+        self.assertEqual(found, [*wanted, lines.ArchiveTotals(0, 0, 3)])
 
     def test_bad_calls(self):
         with self.assertRaisesRegex(BadCall, "^the folders overlap$"):
             list(archive(SDS, SDS, self.path("reports")))
         with self.assertRaisesRegex(BadCall, "^not a folder of an archive$"):
             list(archive(SDS, *self.folders("found"), below=["../up"]))
+        with self.assertRaisesRegex(BadCall, "older-than"):
+            list(archive(SDS, *self.folders("found"), older_than=-1))
         with self.assertRaises(TypeError):
             archive(SDS, *self.folders("found"), below="2020")
 

@@ -8,7 +8,7 @@ _msrepack() {
         check) words='--help' ;;
         compare) words='--tolerance --help' ;;
         archive)
-            words='--length --no-int24 --tolerance --strict --below --resume --check --only-smaller --bytes'
+            words='--length --no-int24 --tolerance --strict --below --resume --check --only-smaller --older-than --bytes'
             words="$words --quiet --json --help"
             ;;
         verify) words='--quiet --json --below --help' ;;

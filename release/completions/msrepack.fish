@@ -36,7 +36,7 @@ complete -c msrepack -n '__fish_seen_subcommand_from archive' -l check -d 'Hold 
 complete -c msrepack -n '__fish_seen_subcommand_from archive' -l only-smaller -d 'Keep only what gets smaller in bytes'
 complete -c msrepack -n '__fish_seen_subcommand_from replace' -l undo -d 'Put the originals back'
 complete -c msrepack -n '__fish_seen_subcommand_from replace' -l only-smaller -d 'Only days whose records are fewer bytes'
-complete -c msrepack -n '__fish_seen_subcommand_from replace' -x -l older-than \
+complete -c msrepack -n '__fish_seen_subcommand_from archive replace' -x -l older-than \
     -d 'Only days whose file was not changed for so many days'
 complete -c msrepack -n '__fish_seen_subcommand_from replace' -l touch -d 'Give the records the time of now'
 complete -c msrepack -n '__fish_seen_subcommand_from replace' -l int24 -d 'Also days whose records have 24-bit integers'
