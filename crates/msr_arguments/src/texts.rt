@@ -382,8 +382,8 @@ const CHECKED: Argument = Argument::Flag(
     "Read records and report again before they get their names, hold one against the other,
 as `check` does, and compare the records with the file itself, as `compare` does. If the
 report does not show that they are the fewest, or if they are not the same data, neither
-is kept, and `notshown PATH` or `differs PATH` is printed, which counts as one of those
-refused",
+is kept, and `notshown PATH` or `differs PATH` is printed, or `changed PATH` if the file
+was changed meanwhile: one of those refused",
 );
 
 const ONLY_SMALLER: Argument = Argument::Flag(
@@ -484,8 +484,8 @@ object has the counts",
 const DAYS_QUIET: Argument = Argument::Flag(
     "quiet",
     "Print only what is to be looked at, the channels and the counts",
-    "Print only what is to be looked at, the channels and the counts: the lines `done`, `same`
-and `skipped` are left out. Counts and status are as without it",
+    "Print only what is to be looked at, the channels and the counts: the lines `done`, `same`,
+`young` and `skipped` are left out. Counts and status are as without it",
 );
 
 const DAYS_JSON: Argument = Argument::Flag(

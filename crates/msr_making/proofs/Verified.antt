@@ -116,14 +116,20 @@ module _ (choice : Choice) where
   pub said_was : (said result : Result (Unit {0}) Stop) → IsSaidAgain said result → WasVerifiedAs choice said → WasVerifiedAs choice result
   said_was (Err (Refused Differs)) result again was = ⊎_elim
       (λ is. subst (λ (r : Result (Unit {0}) Stop). WasVerifiedAs choice r) (sym is) was)
+      (λ rest. ⊎_elim
       (λ is. subst (λ (r : Result (Unit {0}) Stop). WasVerifiedAs choice r) (sym is) was)
+      (λ is. subst (λ (r : Result (Unit {0}) Stop). WasVerifiedAs choice r) (sym is) tt)
+      rest)
       again
   said_was said result again was = subst (λ (r : Result (Unit {0}) Stop). WasVerifiedAs choice r) (sym again) was
 
   said_of : (file records text : List ℕ) (said result : Result (Unit {0}) Stop) → IsSaidAgain said result → VerifiedOf choice file records text said → VerifiedOf choice file records text result
   said_of file records text (Err (Refused Differs)) result again of = ⊎_elim
       (λ is. subst (λ (r : Result (Unit {0}) Stop). VerifiedOf choice file records text r) (sym is) of)
+      (λ rest. ⊎_elim
       (λ is. subst (λ (r : Result (Unit {0}) Stop). VerifiedOf choice file records text r) (sym is) of)
+      (λ is. subst (λ (r : Result (Unit {0}) Stop). VerifiedOf choice file records text r) (sym is) tt)
+      rest)
       again
   said_of file records text said result again of = subst (λ (r : Result (Unit {0}) Stop). VerifiedOf choice file records text r) (sym again) of
 
@@ -139,7 +145,10 @@ fails_again said result old mid new again few fails = by said again fails
     by : (r : Result (Unit {0}) Stop) → IsSaidAgain r result → FailsIfUnopened r old mid → FailsIfUnopened result old new
     by (Err (Refused Differs)) same is = ⊎_elim
         (λ e. subst (λ (r : Result (Unit {0}) Stop). FailsIfUnopened r old new) (sym e) tt)
+        (λ rest. ⊎_elim
         (λ e. subst (λ (r : Result (Unit {0}) Stop). FailsIfUnopened r old new) (sym e) tt)
+        (λ e. subst (λ (r : Result (Unit {0}) Stop). FailsIfUnopened r old new) (sym e) tt)
+        rest)
         same
     by r same is = subst (λ (r : Result (Unit {0}) Stop). FailsIfUnopened r old new) (sym same) (later r is)
 

@@ -29,9 +29,9 @@ VerifiedOf choice file records text (Err (Refused Changed)) = IsOtherData choice
 VerifiedOf choice file records text (Err (Refused why)) = RepackAnswers choice file records text (Err why)
 VerifiedOf choice file records text (Err Memory) = Unit {0}
 
--- the same again, but that what differs may have been changed meanwhile
+-- the same again, but that what differs may have been changed meanwhile, or memory was refused
 abbrev pub IsSaidAgain : (said result : Result (Unit {0}) Stop) → Type 0
-IsSaidAgain (Err (Refused Differs)) result = (result ≡ Err (Refused Differs)) ⊎ (result ≡ Err (Refused Changed))
+IsSaidAgain (Err (Refused Differs)) result = (result ≡ Err (Refused Differs)) ⊎ ((result ≡ Err (Refused Changed)) ⊎ (result ≡ Err Memory))
 IsSaidAgain said result = result ≡ said
 
 -- a file is not opened only if a call failed

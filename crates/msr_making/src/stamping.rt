@@ -66,7 +66,7 @@ pub(crate) fn stamp_asked<T: Tree>(
 }
 
 /// Whether a day's own file has that stamp still.
-pub(crate) fn is_still<T: Tree>(tree: &mut T, input: &str, stamp: Stamp) -> bool
+fn is_still<T: Tree>(tree: &mut T, input: &str, stamp: Stamp) -> bool
     ensures { Goes (T.went tree.old) (T.went tree.new) (ChangesFiles []) }
 {
     match look_at(tree, input) {

@@ -7,15 +7,14 @@ ghost use Rattle.msr_making.specs.Parts.{IsUnopened, called_told};
 ghost use Rattle.msr_making.specs.Verifying.{IsSaidAgain, OpensAt, VerifiesAsked, VerifiesParts, WasVerifiedAs};
 
 use crate::answer::{DayFault, Stop};
-use crate::looks::Sight;
+use crate::looks::{Sight, look_at};
 use crate::parts::called;
 use crate::repacking::require_verified;
 use crate::stamp::Stamp;
-use crate::stamping::is_still;
 use msr_naming::DayFiles;
 use msr_options::{DayOptions, Options, Side};
 use msr_tree::Tree;
-use std::alloc::Global;
+use std::alloc::{AllocError, Global};
 
 /// Opens a file of a day, links followed.
 pub(crate) fn open_again<T: Tree>(tree: &mut T, side: Side, path: &str) -> Result<T::Reader, Stop>
@@ -50,14 +49,18 @@ fn verify_parts<T: Tree>(
     }
 }
 
-/// Whether a day's own file was changed since that look.
-fn was_changed<T: Tree>(tree: &mut T, input: &str, sight: Sight) -> bool
+/// Whether a look tells another size or time than that one of a day's own file, or no file any more.
+fn was_changed<T: Tree>(tree: &mut T, input: &str, sight: Sight) -> Result<bool, AllocError>
     ensures { Goes (T.went tree.old) (T.went tree.new) (ChangesFiles []) }
 {
     let Some(facts) = sight.regular() else {
-        return false;
+        return Ok(false);
     };
-    !is_still(tree, input, Stamp::of(&facts))
+    match look_at(tree, input)? {
+        Sight::Found(found) => Ok(Stamp::of(&found) != Stamp::of(&facts)),
+        Sight::Nothing => Ok(true),
+        Sight::Unknown => Ok(false),
+    }
 }
 
 /// What is told of a day whose records differ from its file: that this was changed since that look, if it was.
@@ -71,14 +74,11 @@ fn told_again<T: Tree>(
     ensures goes { Goes (T.went tree.old) (T.went tree.new) (ChangesFiles []) }
 {
     match said {
-        Err(Stop::Refused(DayFault::Differs)) => {
-            let why = if was_changed(tree, input, sight) {
-                DayFault::Changed
-            } else {
-                DayFault::Differs
-            };
-            Err(Stop::Refused(why))
-        }
+        Err(Stop::Refused(DayFault::Differs)) => match was_changed(tree, input, sight) {
+            Ok(true) => Err(Stop::Refused(DayFault::Changed)),
+            Ok(false) => Err(Stop::Refused(DayFault::Differs)),
+            Err(_) => Err(Stop::Memory),
+        },
         _ => said,
     }
 }
