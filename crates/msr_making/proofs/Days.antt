@@ -16,7 +16,7 @@ use Rattle.msr_tree.specs.declared.tree.TreeFault.TheVariants as call
 use Rattle.msr_making.specs.Day.{CountAnswers, HasAnswer, IsDayOutcome, IsDone, IsReadOrMemory, IsRepackedDay, RepacksDay, VerifiedAnswers}
 use Rattle.msr_making.specs.Ending.{IsRepackedAs, NamedAs}
 use Rattle.msr_making.specs.Verifying.{WasVerifiedAs}
-use Rattle.msr_making.specs.Writing.{IsFit, RepackedOf, WasRepacked}
+use Rattle.msr_making.specs.Writing.{IsFit, WasRepacked}
 use Rattle.msr_making.specs.declared.answer.DayFault.{DayFault}
 use Rattle.msr_making.specs.declared.answer.DayFault.TheVariants.{CannotOpen, Changed, ClaimedByAnother, Differs, Larger, NotShown, Tool}
 use Rattle.msr_making.specs.declared.answer.DayOutcome.{DayOutcome}

@@ -1,8 +1,7 @@
 -- What an earlier walk left of a day.
-use Rattle.std.proofs.Common.{◌≡◌, ◌⊎◌, ◌<◌, ◌||◌, inl, inr, ⊎_elim, ℕ, Bool, true, false, List, [], ◌++◌, refl, sym, ◌∙◌, ap, subst, Result, Ok, Err, Option, Some, None, IfSome, IsSomeAnd, IsTrue, option_map, length, arith}
-use Rattle.std.proofs.lemmas.List.{append-nil}
+use Rattle.std.proofs.Common.{◌≡◌, ◌⊎◌, ◌<◌, ◌||◌, inl, inr, ⊎_elim, ℕ, Bool, true, false, List, [], refl, sym, ◌∙◌, ap, subst, Result, Ok, Err, Option, Some, None, IfSome, IsSomeAnd, IsTrue, option_map, length, arith}
 use Rattle.std.specs.declared.alloc.AllocError.{AllocError}
-use Rattle.msr_devices.specs.Device.{Device, Gives, HasLeft, unused}
+use Rattle.msr_devices.specs.Device.{Device, HasLeft, unused}
 use Rattle.msr_options.specs.Choice.{Choice}
 use Rattle.msr_options.specs.declared.days.DayOptions.{DayOptions}
 use Rattle.msr_tree.specs.Calls.{AreOneFile, Goes, Looks, Opens, Tells}

@@ -6,7 +6,6 @@ use Rattle.msr_options.specs.declared.hint.Unopened.{Unopened}
 use Rattle.msr_tree.specs.Calls.{Goes}
 use Rattle.msr_tree.specs.Folders.{ChangesFiles}
 use Rattle.msr_tree.specs.Steps.{Path, Step}
-use Rattle.msr_tree.proofs.Acting.{goes_as}
 use Rattle.msr_making.specs.Day.{IsKept}
 use Rattle.msr_making.specs.Ending.{SaysFound, SeeksDay}
 use Rattle.msr_making.specs.Keeping.{AsksForKept}

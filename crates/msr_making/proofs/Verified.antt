@@ -16,7 +16,7 @@ use Rattle.msr_making.specs.Day.{RepackAnswers, VerifiedAnswers, VerifiesRepack}
 use Rattle.msr_making.specs.Parts.{IsUnopened, called_told}
 use Rattle.msr_making.specs.Verifying.{FailsIfUnopened, IsSaidAgain, OpensAt, VerifiedOf, VerifiesAsked, VerifiesParts, WasVerifiedAs}
 use Rattle.msr_making.specs.declared.answer.DayFault.{DayFault}
-use Rattle.msr_making.specs.declared.answer.DayFault.TheVariants.{CannotOpen, Differs, NotShown, Tool}
+use Rattle.msr_making.specs.declared.answer.DayFault.TheVariants.{CannotOpen, Changed, Differs, NotShown, Tool}
 use Rattle.msr_making.specs.declared.answer.Stop.{Stop}
 use Rattle.msr_making.specs.declared.answer.Stop.TheVariants.{Memory, Refused}
 
@@ -106,6 +106,7 @@ module _ (input : Path) (files : DayFiles) (choice : Choice) where
 
     of_fault : (why : DayFault) (f c t : List ℕ) → RepackAnswers choice f c t (Err why) → VerifiedOf choice f c t (Err (Refused why))
     of_fault (CannotOpen u) f c t is = tt
+    of_fault Changed f c t is = absurd is
     of_fault why f c t is = is
 
     pub verified_not : (why : DayFault) → VerifiesRepack choice (device own) (device records) (device report) (Err why) → Goes one four (V (Err (Refused why)))

@@ -1,9 +1,7 @@
 -- A day is written.
-use Rattle.std.proofs.Common.{◌≡◌, ◌⊎◌, ◌<◌, inl, inr, ⊎_elim, ℕ, List, [], refl, sym, ◌∙◌, ap, subst, Result, Ok, Err, Some, None, IsTrue, length, option_map}
+use Rattle.std.proofs.Common.{◌≡◌, ◌⊎◌, ◌<◌, inl, inr, ⊎_elim, ℕ, List, [], refl, sym, ◌∙◌, ap, subst, Result, Ok, Err, Some, None, length, option_map}
 use Rattle.msr_devices.specs.Device.{Device, HasLeft, unused}
 use Rattle.msr_options.specs.declared.days.DayOptions.{DayOptions}
-use Rattle.msr_options.specs.declared.hint.Unopened.{Unopened}
-use Rattle.msr_tool.specs.declared.fault.ToolFault.{ToolFault}
 use Rattle.msr_tool.specs.declared.fault.ToolFault.TheVariants as tool
 use Rattle.msr_tree.specs.Folders.{ActsOnFiles}
 use Rattle.msr_tree.specs.Calls.{Goes, Looks, Opens, Tells}
@@ -15,12 +13,10 @@ use Rattle.msr_tree.proofs.Acting.{giving, goes_as, stopping}
 use Rattle.msr_tree.proofs.Filing.{changes_more, changes_then}
 use Rattle.msr_naming.proofs.FallingBack.{goes_both}
 use Rattle.msr_naming.specs.declared.files.DayFiles.{DayFiles}
-use Rattle.msr_making.specs.Day.{GotSmaller, RepacksDay}
 use Rattle.msr_making.specs.Looking.{IsSightAt}
 use Rattle.msr_making.specs.Parts.{AreBegun, AreFinished, IsUnopened, called_told, part_paths}
-use Rattle.msr_making.specs.Verifying.{OpensAt}
 use Rattle.msr_making.specs.Writing.{IfHasLeft, IfSeen, IsUnfit, IsWrittenTo, RefusesNothing, RepackedOf, RepacksParts, SaysNothing, WasRepacked, WritesDay, WritesFrom, WrittenAs}
-use Rattle.msr_making.specs.declared.answer.DayFault.TheVariants.{CannotOpen, Larger, Tool}
+use Rattle.msr_making.specs.declared.answer.DayFault.TheVariants.{CannotOpen, Tool}
 use Rattle.msr_making.specs.declared.answer.Repacked.{Repacked}
 use Rattle.msr_making.specs.declared.answer.Stop.{Stop}
 use Rattle.msr_making.specs.declared.answer.Stop.TheVariants.{Memory, Refused}

@@ -1,8 +1,6 @@
 -- What becomes of days.
-use Rattle.std.proofs.Common.{◌≡◌, ◌≢◌, ◌∷◌, ℕ, refl, sym, ap, subst, Bool, false, IfOk, IfSome, List, [], Option, None, Some, Result, Ok, Err}
+use Rattle.std.proofs.Common.{◌≡◌, ℕ, refl, sym, subst, Bool, false, IfOk, List, [], Option, Some, Result, Ok, Err}
 use Rattle.msr_folders.proofs.WalkedLemmas.{goes_none, goes_so, goes_then}
-use Rattle.msr_folders.specs.Entries.{Entry as Found}
-use Rattle.msr_folders.specs.Walks.{TellsVisit}
 use Rattle.msr_kinds.specs.declared.lengths.Length.{Length}
 use Rattle.msr_making.specs.Day.{AsksForAge, IsDayOutcome}
 use Rattle.msr_making.specs.Making.{DoesDay, LooksForSame}
@@ -27,12 +25,12 @@ use Rattle.msr_tree.specs.Calls.{Goes}
 use Rattle.msr_tree.specs.Steps.{Path, Step}
 use Rattle.msr_walk.proofs.Working.{none_of_day, works_none, works_only, works_then}
 use Rattle.msr_outcomes.specs.Entries.{IsDayOf, IsOutcomeOf}
-use Rattle.msr_walk.specs.Files.{AreNamesOfDay, DayNames, files_of, paths_of_names}
+use Rattle.msr_walk.specs.Files.{DayNames, files_of, paths_of_names}
 use Rattle.msr_walk.specs.Handling.{AreNamesWithin, IsSameBut, IsUnclaimed}
-use Rattle.msr_outcomes.specs.Outcomes.{IsForDay, IsOutcomeOfDay, of_day}
+use Rattle.msr_outcomes.specs.Outcomes.{IsOutcomeOfDay, of_day}
 use Rattle.msr_walk.specs.Told.{HandlesDay, IsDayTold, IsToldThere, TellsDay, ToldBetween, WorksWithin}
 use Rattle.msr_outcomes.specs.declared.outcome.Outcome.{Outcome}
-use Rattle.msr_outcomes.specs.declared.outcome.Outcome.TheVariants.{Done, Refused, Same, Skipped, Young}
+use Rattle.msr_outcomes.specs.declared.outcome.Outcome.TheVariants.{Done, Refused, Same, Young}
 
 -- who looks changes nothing
 pub looks_work : (out reports : Path) (names : DayNames) (asked : DayOptions) (result : Result (Option Repacked) AllocError) (old new : List Step)

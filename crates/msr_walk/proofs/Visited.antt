@@ -20,7 +20,7 @@ use Rattle.msr_walk.proofs.Working.{works_none, works_then}
 use Rattle.msr_outcomes.specs.Entries.{Entry}
 use Rattle.msr_walk.specs.Files.{day_names}
 use Rattle.msr_folders.specs.Paths.{told_folder}
-use Rattle.msr_walk.specs.Told.{IsDayTold, IsToldOfVisit, TellsDay, TellsOutcomesOf, WorksWithin}
+use Rattle.msr_walk.specs.Told.{IsToldOfVisit, TellsDay, TellsOutcomesOf, WorksWithin}
 use Rattle.msr_outcomes.specs.declared.outcome.Outcome.{Outcome}
 use Rattle.msr_outcomes.specs.declared.outcome.Outcome.TheVariants.{Refused, Skipped}
 use Rattle.msr_outcomes.specs.declared.tally.Tally.{Tally}

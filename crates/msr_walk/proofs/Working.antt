@@ -1,31 +1,29 @@
 -- What is done within two folders.
-use Rattle.std.proofs.Common.{ℕ, zero, suc, ◌<◌, arith, length, get_or, ◌≡◌, ◌≢◌, ◌⊎◌, ◌||◌, inl, inr, ⊎_elim, Bool, true, false, IfOk, List, [], ◌∷◌, ◌++◌, refl, sym, ◌∙◌, ap, subst, append_assoc, is_some, map, Result, Ok, Err}
+use Rattle.std.proofs.Common.{ℕ, zero, suc, ◌<◌, arith, length, get_or, ◌≡◌, ◌⊎◌, inl, inr, ⊎_elim, false, List, [], ◌∷◌, ◌++◌, refl, sym, ◌∙◌, ap, subst, map, Result, Ok, Err}
 use Rattle.std.proofs.lemmas.Bool.{cases_Bool}
 use Rattle.std.proofs.lemmas.Slice.Eq.{bytes_eq-Decides}
 use Rattle.std.specs.List.{AllByRecursion}
 use Rattle.std.specs.Str.{bytes_eq}
 use Rattle.msr_folders.proofs.WalkedLemmas.{goes_none, goes_so, goes_then}
-use Rattle.msr_folders.specs.Entries.{IsSameWithin, StandsWithin}
+use Rattle.msr_folders.specs.Entries.{StandsWithin}
 use Rattle.msr_folders.proofs.WithinLemmas.{root_spares, within_none, within_then}
-use Rattle.msr_folders.specs.Walks.{HoldsAt, VisitDoes}
 use Rattle.msr_folders.specs.Within.{ChangesWithin, IsSeparate}
 use Rattle.msr_naming.specs.Naming.{day_paths}
 use Rattle.msr_naming.specs.Promise.{NamesStamps, stamp_paths}
 use Rattle.msr_naming.specs.declared.batch.Waiting.{Waiting}
 use Rattle.msr_naming.specs.declared.files.DayFiles.{DayFiles}
-use Rattle.msr_options.specs.Tasks.{Overlap, StandApart}
+use Rattle.msr_options.specs.Tasks.{StandApart}
 use Rattle.msr_options.specs.declared.task.Folders.{Folders}
 use Rattle.msr_tree.proofs.Changes.{same_now}
-use Rattle.msr_tree.proofs.Folders.{leaves_does, leaves_none}
-use Rattle.msr_tree.specs.Calls.{DoesStep, Goes, PerhapsDone, Stops}
+use Rattle.msr_tree.proofs.Folders.{leaves_does}
+use Rattle.msr_tree.specs.Calls.{DoesStep, Goes}
 use Rattle.msr_tree.specs.Folders.{LeavesFolders}
-use Rattle.msr_tree.specs.Listing.{has_folder, is_there, unlisted_after}
-use Rattle.msr_tree.specs.Steps.{AtEachMoment, ChangesOnly, Failed, IsNoneOf, Path, Removed, Spares, Step, Throughout, Unlisted, now}
+use Rattle.msr_tree.specs.Steps.{ChangesOnly, Failed, IsNoneOf, Path, Removed, Spares, Step, Throughout, now}
 use Rattle.msr_tree.specs.declared.tree.TreeFault.{TreeFault}
 use Rattle.msr_tree.specs.declared.tree.TreeFault.TheVariants as fault
 use Rattle.msr_walk.proofs.Aside.{overlaps_within}
 use Rattle.msr_walk.specs.Files.{IsStampWithin}
-use Rattle.msr_walk.specs.Handling.{AllWaitWithin, AreWaitingAt, AreWithin, IsWaitingAt}
+use Rattle.msr_walk.specs.Handling.{AreWaitingAt, AreWithin, IsWaitingAt}
 use Rattle.msr_walk.specs.Told.{StaysWithin, WorksWithin}
 
 -- a name that is in neither folder is no other that is in one of them

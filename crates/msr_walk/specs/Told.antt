@@ -1,12 +1,9 @@
 -- What a walk tells of an archive, by what its names lead to, and what it changes, while nobody else changes them.
-use Rattle.std.specs.Prelude.{◌≡◌, ◌≢◌, ℕ, List, [], ◌∷◌, ◌++◌, codes, IfOk, Result, Ok}
-use Rattle.std.specs.List.{AllByRecursion}
-use Rattle.std.specs.Borrow.{Bor}
-use Rattle.std.specs.declared.alloc.AllocError.{AllocError}
+use Rattle.std.specs.Prelude.{◌≡◌, ◌≢◌, ℕ, List, [], ◌∷◌, IfOk, Result}
 use Rattle.msr_devices.specs.Device.{Device, Takes}
 use Rattle.msr_folders.specs.Days.{IsDay, IsNoDay}
 use Rattle.msr_folders.specs.Entries.{AreEntriesOf, Entry as Found, StandsWithin, Visit, WithoutList}
-use Rattle.msr_folders.specs.Paths.{joined, told_folder}
+use Rattle.msr_folders.specs.Paths.{told_folder}
 use Rattle.msr_folders.specs.Visits.{IsWalk, TellsThese}
 use Rattle.msr_folders.specs.Walks.{IsWalked, VisitDoes}
 use Rattle.msr_folders.specs.Within.{ChangesWithin}
@@ -15,7 +12,6 @@ use Rattle.msr_making.specs.Told.{IsOutcomeThere}
 use Rattle.msr_making.specs.declared.answer.DayFault.TheVariants.{CannotOpen, Gone as WasGone, Listing}
 use Rattle.msr_making.specs.declared.answer.DayOutcome.{DayOutcome}
 use Rattle.msr_making.specs.declared.answer.DayOutcome.TheVariants as outcomes
-use Rattle.msr_naming.specs.declared.files.DayFiles.{DayFiles}
 use Rattle.msr_options.specs.declared.days.DayOptions.{DayOptions}
 use Rattle.msr_options.specs.declared.task.Archiving.{Archiving}
 use Rattle.msr_options.specs.declared.task.Folders.{Folders}

@@ -1,4 +1,3 @@
-use Rattle.std.proofs.lemmas.Result.{err_from_is_err_and}
 use Rattle.msr_tree.proofs.Acting.{goes_as}
 use Rattle.msr_making.proofs.Sights.{goes_nothing}
 use Rattle.msr_making.proofs.age.is_young.Goals as goal

@@ -1,4 +1,3 @@
-use Rattle.msr_tree.proofs.Acting.{goes_as}
 use Rattle.msr_making.proofs.Sights.{goes_nothing}
 use Rattle.msr_making.proofs.verifying.was_changed.Goals as goal
 

@@ -1,4 +1,4 @@
-use Rattle.std.proofs.Common.{sym, [], ◌∷◌, ◌++◌}
+use Rattle.std.proofs.Common.{sym, []}
 use Rattle.msr_walk.proofs.Working.{goes_works_none, goes_works_then, wait_after, wait_as, wait_front, wait_last, wait_none}
 use Rattle.msr_walk.proofs.batch.all_ours.Goals as goal
 

@@ -1,4 +1,4 @@
-use Rattle.std.proofs.Common.{ap, sym, subst}
+use Rattle.std.proofs.Common.{sym, subst}
 use Rattle.msr_walk.proofs.Working.{goes_works_then, wait_after, wait_as, wait_more, waits_after}
 use Rattle.msr_walk.specs.Handling.{IsWaitingAt}
 use Rattle.msr_walk.proofs.batch.Batch.add.Goals as goal

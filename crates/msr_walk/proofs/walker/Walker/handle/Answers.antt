@@ -1,4 +1,3 @@
-use Rattle.std.proofs.Common.{Ok, Err, refl}
 use Rattle.std.proofs.lemmas.Result.{err_from_is_err_and}
 use Rattle.msr_walk.proofs.Days.{length_goes, tells_after, tells_nothing, tells_young, young_outcome}
 use Rattle.msr_walk.specs.Files.{day_names}

@@ -1,4 +1,4 @@
-use Rattle.std.proofs.Common.{Ok, Err, refl, subst, sym}
+use Rattle.std.proofs.Common.{Ok, refl, subst, sym}
 use Rattle.std.proofs.lemmas.Result.{err_from_is_err_and}
 use Rattle.msr_walk.proofs.DayPaths.{day_within}
 use Rattle.msr_walk.proofs.Days.{day_told, handles_named, handles_work, length_goes, tells_nothing, tells_untouched, untouched}
