@@ -7,6 +7,7 @@ returns c = record {
   skipped = refl;
   refused = refl;
   larger = refl;
+  young = refl;
   channels = c.new.ensures;
   bytes = c.new-2.ensures;
   bytes_read = refl;
