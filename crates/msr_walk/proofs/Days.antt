@@ -25,10 +25,10 @@ use Rattle.msr_tree.specs.Calls.{Goes}
 use Rattle.msr_tree.specs.Steps.{Path, Step}
 use Rattle.msr_walk.proofs.Working.{none_of_day, works_none, works_only, works_then}
 use Rattle.msr_outcomes.specs.Entries.{IsDayOf, IsOutcomeOf}
-use Rattle.msr_walk.specs.Files.{DayNames, files_of, paths_of_names}
+use Rattle.msr_walk.specs.Files.{AreNamesOfDay, DayNames, files_of, paths_of_names}
 use Rattle.msr_walk.specs.Handling.{AreNamesWithin, IsSameBut, IsUnclaimed}
 use Rattle.msr_outcomes.specs.Outcomes.{IsOutcomeOfDay, of_day}
-use Rattle.msr_walk.specs.Told.{HandlesDay, IsDayTold, IsToldThere, TellsDay, ToldBetween, WorksWithin}
+use Rattle.msr_walk.specs.Told.{HandlesDay, HaveNames, IsDayTold, IsToldThere, TellsDay, ToldBetween, WorksWithin}
 use Rattle.msr_outcomes.specs.declared.outcome.Outcome.{Outcome}
 use Rattle.msr_outcomes.specs.declared.outcome.Outcome.TheVariants.{Done, Refused, Same, Young}
 
@@ -201,10 +201,10 @@ outcome_of asked path channel outcome day is = subst (λ o. IsOutcomeOf asked pa
 -- what is told of it
 pub day_told : {H E L F : Type 0} (outcome : H → DayOutcome) (told : L → Outcome) (days : DayOptions) (names : DayNames) (out reports : Path) (record_length : Length)
     (result : Result H E) (answer : Result L F) (before mid after : List Step → Type 0) → (days.same_length ≡ false → record_length ≡ days.options.record_length)
-    → IfOk answer (λ t. (h : H) × (result ≡ Ok h) × (told t ≡ of_day (outcome h)))
+    → IfOk answer (λ t. (h : H) × (result ≡ Ok h) × (told t ≡ of_day (outcome h))) → (HaveNames out reports → AreNamesOfDay names)
     → Goes before mid (ChangesFiles []) → Goes mid after (HandlesDay outcome names out reports (in_length record_length days) result)
     → Goes before after (TellsDay told days names out reports answer)
-day_told outcome told days names out reports record_length result answer before mid after own is one two = goes_then _ _ _ before mid after (λ old middle new first second.
+day_told outcome told days names out reports record_length result answer before mid after own is named one two = goes_then _ _ _ before mid after (λ old middle new first second.
     let works = length_works out reports old middle first in
     record {
       works = works_then out reports old middle new works second.works;
@@ -213,8 +213,8 @@ day_told outcome told days names out reports record_length result answer before 
         for_day = record { record_length = record_length; is = refl; own = own };
         of = outcome have.0;
         same = have.2;
-        there = λ are. told_from (in_length record_length days) names out reports (outcome have.0) old middle new works.does
-            (subst (λ r. IfOk r (λ handled. ToldBetween (in_length record_length days) names out reports (outcome handled) middle new)) have.1 (second.says are));
+        there = λ have-names. told_from (in_length record_length days) names out reports (outcome have.0) old middle new works.does
+            (subst (λ r. IfOk r (λ handled. ToldBetween (in_length record_length days) names out reports (outcome handled) middle new)) have.1 (second.says (named have-names)));
       }) is;
     }) one two
 

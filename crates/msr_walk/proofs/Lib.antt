@@ -5,3 +5,4 @@ pub mod Days
 pub mod EntriesTold
 pub mod Working
 pub mod Visited
+pub mod DayApart

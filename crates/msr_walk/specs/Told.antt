@@ -58,13 +58,18 @@ pub record HandlesDay {H E : Type 0} (outcome : H → DayOutcome) (names : DayNa
   pub works : WorksWithin out reports old new
   pub says : AreNamesOfDay names → IfOk result (λ handled. ToldBetween asked names out reports (outcome handled) old new)
 
+-- The folders of records and reports have names. Below an empty one no path stands.
+pub record HaveNames (out reports : Path) : Type 0 where
+  pub out_some : out ≢ []
+  pub reports_some : reports ≢ []
+
 -- The outcome of a day of an archive of whose days this is asked is told, where it is so.
 pub record IsDayTold (days : DayOptions) (names : DayNames) (out reports : Path) (outcome : Outcome) (old new : List Step) : Type 0 where
   pub asked : DayOptions
   pub for_day : IsForDay days asked
   pub of : DayOutcome
   pub same : outcome ≡ of_day of
-  pub there : AreNamesOfDay names → ToldBetween asked names out reports of old new
+  pub there : HaveNames out reports → ToldBetween asked names out reports of old new
 
 -- A day was handled, and this is told of it.
 pub record TellsDay {H E : Type 0} (outcome : H → Outcome) (days : DayOptions) (names : DayNames) (out reports : Path)

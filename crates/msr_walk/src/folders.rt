@@ -21,6 +21,7 @@ ghost use Rattle.msr_outcomes.specs.Lines.{IsEntryLine};
 ghost use Rattle.msr_outcomes.specs.Outcomes.{IsOutcomeOfDay};
 ghost use Rattle.msr_folders.specs.Days.{IsDay};
 ghost use Rattle.msr_walk.specs.Told.{IsToldOfVisit, StaysWithin, TellsDay, TellsOutcomesOf, WalksTree, WorksFor};
+ghost use Rattle.msr_walk.proofs.Working.{separate};
 ghost use Rattle.msr_walk.specs.Walk.{StopsTellingOutcomes, Walks};
 
 use crate::batch::Batch;
@@ -310,7 +311,7 @@ impl<'a, C: Claims> EntryVisitor for Walker<'a, C> {
 
     ghost laws = { within_laws (λ walker. IsEntry walker.archive.now.days) (λ walker. IsEntryLine walker.archive.now.days)
         (λ entries of. IsTally entries of.tally) (λ walker. walker.archive.now.folders.root.now) (λ walker. walker.archive.now.folders.out.now)
-        (λ walker. walker.archive.now.folders.reports.now) (λ walker. walker.apart) };
+        (λ walker. walker.archive.now.folders.reports.now) (λ walker. separate walker.archive.now.folders walker.apart) };
 
     ghost listed = { record { stays = λ walker progress past place held. held } };
 

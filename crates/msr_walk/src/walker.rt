@@ -1,5 +1,5 @@
 //! What a day needs on a walk.
-ghost use Rattle.msr_folders.specs.Within.{IsSeparate};
+ghost use Rattle.msr_options.specs.Tasks.{StandApart};
 
 use msr_options::Archiving;
 use msr_tree::Time;
@@ -12,5 +12,5 @@ pub(crate) struct Walker<'a, C> {
     pub alloc: Global,
     pub archive: &'a Archiving<'a>,
     pub now: Time,
-    ghost apart: { IsSeparate archive.now.folders.root.now archive.now.folders.out.now archive.now.folders.reports.now },
+    ghost apart: { StandApart archive.now.folders },
 }

@@ -1,5 +1,6 @@
 use Rattle.std.proofs.Common.{Ok, refl, subst, sym}
 use Rattle.std.proofs.lemmas.Result.{err_from_is_err_and}
+use Rattle.msr_walk.proofs.DayApart.{day_apart}
 use Rattle.msr_walk.proofs.DayPaths.{day_within}
 use Rattle.msr_walk.proofs.Days.{day_told, handles_named, handles_work, length_goes, tells_nothing, tells_untouched, untouched}
 use Rattle.msr_walk.proofs.Working.{goes_works_none, goes_works_then}
@@ -35,6 +36,6 @@ returns-clause-waits g c = c.in_ok-handled.ensures.waits c.args.self.now.archive
 pub returns-clause-goes : goal.returns-clause-goes
 returns-clause-goes g c =
     day_told (λ handled. handled.outcome) (λ told. told.outcome) c.args.self.now.archive.now.days (day_names c.args.self.now.archive.now.folders.root.now c.args.self.now.archive.now.folders.out.now c.args.self.now.archive.now.folders.reports.now c.args.path.now) c.args.self.now.archive.now.folders.out.now c.args.self.now.archive.now.folders.reports.now c.in_ok-length.length (Ok c.in_ok-handled.handled) _ _ _ _ c.in_ok-length.ensures.own
-    (c.in_ok-handled.handled, refl, c.of_day.ensures) c.day_length.ensures.goes
+    (c.in_ok-handled.handled, refl, c.of_day.ensures) (λ names. day_apart c.args.self.now.archive.now.folders c.args.path.now c.args.self.now.apart names c.requires) c.day_length.ensures.goes
     (handles_named (λ handled. handled.outcome) (day_names c.args.self.now.archive.now.folders.root.now c.args.self.now.archive.now.folders.out.now c.args.self.now.archive.now.folders.reports.now c.args.path.now) _ c.args.self.now.archive.now.folders.out.now c.args.self.now.archive.now.folders.reports.now _ _ (Ok c.in_ok-handled.handled) _ _ c.in_ok-day.ensures c.in_length.ensures
     (c.in_ok-handled.ensures.goes c.args.self.now.archive.now.folders.out.now c.args.self.now.archive.now.folders.reports.now (subst (λ n. AreNamesWithin c.args.self.now.archive.now.folders.out.now c.args.self.now.archive.now.folders.reports.now n) (sym c.in_ok-day.ensures) (day_within c.args.self.now.archive.now.folders.root.now c.args.self.now.archive.now.folders.out.now c.args.self.now.archive.now.folders.reports.now c.args.path.now c.requires))))
