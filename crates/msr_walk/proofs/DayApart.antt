@@ -52,7 +52,7 @@ above_same path ending more =
     let last : ℕ = suffix_len (λ byte. not (is_separator byte)) path in
     let few : last ≤ length path = suffix_len-le-length (λ byte. not (is_separator byte)) path in
     let front : length (path ++ ending) - suffix_len (λ byte. not (is_separator byte)) (path ++ ending) - 1 ≡ length path - last - 1
-        = omega (arith, more, length-append path ending) in
+    = omega (arith, more, length-append path ending) in
     ap (λ n. take n (path ++ ending)) front ∙ take-append-le (length path - last - 1) path ending (omega arith)
 
 text_above : (path : Path) → suffix_len (λ byte. not (is_separator byte)) (path ++ codes ".txt") ≡ 4 + suffix_len (λ byte. not (is_separator byte)) path
