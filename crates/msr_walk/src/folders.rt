@@ -21,7 +21,6 @@ ghost use Rattle.msr_outcomes.specs.Lines.{IsEntryLine};
 ghost use Rattle.msr_outcomes.specs.Outcomes.{IsOutcomeOfDay};
 ghost use Rattle.msr_folders.specs.Days.{IsDay};
 ghost use Rattle.msr_walk.specs.Told.{IsToldOfVisit, StaysWithin, TellsDay, TellsOutcomesOf, WalksTree, WorksFor};
-ghost use Rattle.msr_walk.proofs.Working.{separate};
 ghost use Rattle.msr_walk.specs.Walk.{StopsTellingOutcomes, Walks};
 
 use crate::batch::Batch;
@@ -139,8 +138,9 @@ impl<'a, C: Claims> Walker<'a, C> {
         ensures asked { IfOk result (λ young. young ≡ true → AsksForAge self.now.archive.now.days) }
         ensures goes { Goes (T.went tree.old) (T.went tree.new) (ChangesFiles []) }
     {
-        let input = join(self.alloc, self.archive.folders.root, path)?;
-        is_young(tree, input.as_str(), self.archive.days.older_than, self.now)
+        let archive = self.archive;
+        let input = join(self.alloc, archive.folders.root, path)?;
+        is_young(tree, input.as_str(), archive.days.older_than, self.begun)
     }
 
     /// Handles a day, unless its file was changed too late.
@@ -311,7 +311,7 @@ impl<'a, C: Claims> EntryVisitor for Walker<'a, C> {
 
     ghost laws = { within_laws (λ walker. IsEntry walker.archive.now.days) (λ walker. IsEntryLine walker.archive.now.days)
         (λ entries of. IsTally entries of.tally) (λ walker. walker.archive.now.folders.root.now) (λ walker. walker.archive.now.folders.out.now)
-        (λ walker. walker.archive.now.folders.reports.now) (λ walker. separate walker.archive.now.folders walker.apart) };
+        (λ walker. walker.archive.now.folders.reports.now) (λ walker. walker.separate) };
 
     ghost listed = { record { stays = λ walker progress past place held. held } };
 
@@ -397,7 +397,7 @@ pub fn walk<'a, T: Tree, C: Claims, O: Sink>(
         claims,
         alloc,
         archive,
-        now,
+        begun: now,
     };
     walker.visit(tree, out, &mut progress)?;
     let tally = &progress.tally;

@@ -1,4 +1,5 @@
 //! What a day needs on a walk.
+ghost use Rattle.msr_folders.specs.Within.{IsSeparate};
 ghost use Rattle.msr_options.specs.Tasks.{StandApart};
 
 use msr_options::Archiving;
@@ -11,6 +12,8 @@ pub(crate) struct Walker<'a, C> {
     pub claims: &'a C,
     pub alloc: Global,
     pub archive: &'a Archiving<'a>,
-    pub now: Time,
+    /// When the walk began.
+    pub begun: Time,
     ghost apart: { StandApart archive.now.folders },
+    ghost separate: { IsSeparate archive.now.folders.root.now archive.now.folders.out.now archive.now.folders.reports.now },
 }

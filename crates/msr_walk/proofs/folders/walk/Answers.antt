@@ -9,7 +9,7 @@ use Rattle.msr_walk.specs.Walk.{TellsOutcomes}
 use Rattle.msr_walk.proofs.folders.walk.Goals as goal
 
 pub invariant_of-walker : goal.invariant_of-walker
-invariant_of-walker g c = record { apart = c.requires.apart }
+invariant_of-walker g c = record { apart = c.requires.apart; separate = separate c.args.archive.now.folders c.requires.apart }
 
 pub visit-requires-clause-days : goal.visit-requires-clause-days
 visit-requires-clause-days g c = λ past went. c.new-progress.ensures.waits c.args.archive.now.folders.reports.now
