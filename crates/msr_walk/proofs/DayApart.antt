@@ -1,5 +1,5 @@
 -- The names of a day are apart, if the folders of an archive are, and have names.
-use Rattle.std.proofs.Common.{◌≡◌, ◌≢◌, ◌+◌, ◌-◌, ◌≤◌, ℕ, Bool, true, false, not, List, [], ◌∷◌, ◌++◌, refl, ap, sym, ◌∙◌, subst, arith, append_assoc, length, take, reverse, codes}
+use Rattle.std.proofs.Common.{◌≡◌, ◌≢◌, ◌+◌, ◌-◌, ◌≤◌, ℕ, Bool, true, false, not, [], ◌∷◌, ◌++◌, refl, ap, sym, ◌∙◌, subst, arith, append_assoc, length, take, reverse, codes}
 use Rattle.std.proofs.lemmas.List.{append_cancel_left, length-append, reverse-append, take-append-le}
 use Rattle.std.proofs.lemmas.List.Sums.{suffix_len-le-length}
 use Rattle.std.proofs.lemmas.Slice.Eq.{bytes_eq-Decides}
@@ -13,13 +13,13 @@ use Rattle.msr_naming.specs.Naming.{is_name, name_path}
 use Rattle.msr_naming.specs.declared.files.DayFiles.{DayFiles}
 use Rattle.msr_naming.specs.declared.files.Name.{Name}
 use Rattle.msr_naming.specs.declared.files.Name.TheVariants.{Records, RecordsPart, Report, ReportPart, Stamp, StampPart}
-use Rattle.msr_options.specs.Tasks.{Overlap, StandApart}
+use Rattle.msr_options.specs.Tasks.{StandApart}
 use Rattle.msr_options.specs.declared.task.Folders.{Folders}
 use Rattle.msr_tree.specs.Steps.{Path, folder_above, is_separator, stands_in}
 use Rattle.msr_walk.proofs.Aside.{overlaps_within, within_joined}
 use Rattle.msr_walk.proofs.DayPaths.{day_within}
 use Rattle.msr_walk.specs.Files.{AreNamesOfDay, day_names, files_of}
-use Rattle.msr_walk.specs.Handling.{AreNamesWithin, AreWithin}
+use Rattle.msr_walk.specs.Handling.{AreWithin}
 use Rattle.msr_walk.specs.Told.{HaveNames}
 
 differ : (one other : Path) → one ≢ other → bytes_eq one other ≡ false
@@ -45,6 +45,15 @@ endings path a x y one other not is =
     second (b ∷ c ∷ rest) = c
     second rest = 0
 
+t_is_not_f : ◌≢◌ {A = ℕ} 116 102
+t_is_not_f is = absurd (omega (arith, is))
+
+four : (n : ℕ) → 1 + (1 + (1 + (1 + n))) ≡ 4 + n
+four n = omega arith
+
+five : (n : ℕ) → 1 + (1 + (1 + (1 + (1 + n)))) ≡ 5 + n
+five n = omega arith
+
 -- the folder above a name with an ending without a slash is that of the name
 above_same : (path ending : Path) → suffix_len (λ byte. not (is_separator byte)) (path ++ ending) ≡ length ending + suffix_len (λ byte. not (is_separator byte)) path
     → folder_above (path ++ ending) ≡ take (length path - suffix_len (λ byte. not (is_separator byte)) path - 1) path
@@ -57,9 +66,11 @@ above_same path ending more =
 
 text_above : (path : Path) → suffix_len (λ byte. not (is_separator byte)) (path ++ codes ".txt") ≡ 4 + suffix_len (λ byte. not (is_separator byte)) path
 text_above path = ap (prefix_len (λ byte. not (is_separator byte))) (reverse-append path (codes ".txt"))
+    ∙ four (prefix_len (λ byte. not (is_separator byte)) (reverse path))
 
 from_above : (path : Path) → suffix_len (λ byte. not (is_separator byte)) (path ++ codes ".from") ≡ 5 + suffix_len (λ byte. not (is_separator byte)) path
 from_above path = ap (prefix_len (λ byte. not (is_separator byte))) (reverse-append path (codes ".from"))
+    ∙ five (prefix_len (λ byte. not (is_separator byte)) (reverse path))
 
 beside_so : (path : Path) → stands_in (folder_above (path ++ codes ".txt")) (path ++ codes ".from") ≡ true
 beside_so path = (bytes_eq-Decides (folder_above (path ++ codes ".from")) (folder_above (path ++ codes ".txt"))).1
@@ -145,16 +156,16 @@ module _ (folders : Folders) (path : Path) (apart : StandApart folders) (names :
       (sym report_is ∙ is ∙ report_part_is ∙ sym (append_assoc report (codes ".txt") part))
 
   not_report_stamp : files.report.path ≢ files.stamp.path
-  not_report_stamp is = endings report 46 116 102 (codes "xt") (codes "rom") (λ e. absurd cc) (sym report_is ∙ is ∙ stamp_is)
+  not_report_stamp is = endings report 46 116 102 (codes "xt") (codes "rom") t_is_not_f (sym report_is ∙ is ∙ stamp_is)
 
   not_report_stamppart : files.report.path ≢ files.stamp.part
-  not_report_stamppart is = endings report 46 116 102 (codes "xt") (codes "rom" ++ part) (λ e. absurd cc) (sym report_is ∙ is ∙ stamp_part_is)
+  not_report_stamppart is = endings report 46 116 102 (codes "xt") (codes "rom" ++ part) t_is_not_f (sym report_is ∙ is ∙ stamp_part_is)
 
   not_reportpart_stamp : files.report.part ≢ files.stamp.path
-  not_reportpart_stamp is = endings report 46 116 102 (codes "xt" ++ part) (codes "rom") (λ e. absurd cc) (sym report_part_is ∙ is ∙ stamp_is)
+  not_reportpart_stamp is = endings report 46 116 102 (codes "xt" ++ part) (codes "rom") t_is_not_f (sym report_part_is ∙ is ∙ stamp_is)
 
   not_reportpart_stamppart : files.report.part ≢ files.stamp.part
-  not_reportpart_stamppart is = endings report 46 116 102 (codes "xt" ++ part) (codes "rom" ++ part) (λ e. absurd cc) (sym report_part_is ∙ is ∙ stamp_part_is)
+  not_reportpart_stamppart is = endings report 46 116 102 (codes "xt" ++ part) (codes "rom" ++ part) t_is_not_f (sym report_part_is ∙ is ∙ stamp_part_is)
 
   not_stamp_stamppart : files.stamp.path ≢ files.stamp.part
   not_stamp_stamppart is = longer (report ++ codes ".from") 46 (decimal number ++ codes ".part")
@@ -220,12 +231,19 @@ day_apart folders path apart names day = record {
         };
         own = (
           differ _ _ (not_out folders path apart names day number _ there.records),
-          differ _ _ (not_out folders path apart names day number _ there.records_part),
-          differ _ _ (not_reports folders path apart names day number _ there.report),
-          differ _ _ (not_reports folders path apart names day number _ there.report_part),
-          differ _ _ (not_reports folders path apart names day number _ there.stamp.path),
-          differ _ _ (not_reports folders path apart names day number _ there.stamp.part),
-          tt,
+          (
+            differ _ _ (not_out folders path apart names day number _ there.records_part),
+            (
+              differ _ _ (not_reports folders path apart names day number _ there.report),
+              (
+                differ _ _ (not_reports folders path apart names day number _ there.report_part),
+                (
+                  differ _ _ (not_reports folders path apart names day number _ there.stamp.path),
+                  (differ _ _ (not_reports folders path apart names day number _ there.stamp.part), tt),
+                ),
+              ),
+            ),
+          ),
         );
       };
 }

@@ -10,14 +10,14 @@ returns-in_err-is_young-clause-goes g c =
     rw p.1 (tells_nothing (λ told. told.outcome) c.args.self.now.archive.now.days (day_names folders.root.now folders.out.now folders.reports.now c.args.path.now) folders.out.now folders.reports.now _ _ _
     (length_goes folders.out.now folders.reports.now _ _ c.is_young.ensures.goes))
 
-pub returns-then-is_young-clause-told : goal.returns-then-is_young-clause-told
-returns-then-is_young-clause-told g c = rw c.of_day.ensures (young_outcome c.args.self.now.archive.now.days (c.in_ok-is_young.ensures.asked c.if-is_young.true))
+pub returns-then-branch-clause-told : goal.returns-then-branch-clause-told
+returns-then-branch-clause-told g c = rw c.of_day.ensures (young_outcome c.args.self.now.archive.now.days (c.in_ok-is_young.ensures.asked c.if-branch.true))
 
-pub returns-then-is_young-clause-goes : goal.returns-then-is_young-clause-goes
-returns-then-is_young-clause-goes g c =
+pub returns-then-branch-clause-goes : goal.returns-then-branch-clause-goes
+returns-then-branch-clause-goes g c =
     let folders = c.args.self.now.archive.now.folders in
     tells_young (λ told. told.outcome) _ c.args.self.now.archive.now.days (day_names folders.root.now folders.out.now folders.reports.now c.args.path.now) folders.out.now folders.reports.now _ _
-    (c.in_ok-is_young.ensures.asked c.if-is_young.true) c.of_day.ensures c.in_ok-is_young.ensures.goes
+    (c.in_ok-is_young.ensures.asked c.if-branch.true) c.of_day.ensures c.in_ok-is_young.ensures.goes
 
 pub returns-clause-goes : goal.returns-clause-goes
 returns-clause-goes g c =
