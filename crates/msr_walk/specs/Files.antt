@@ -8,12 +8,13 @@ use Rattle.msr_naming.specs.Files.{FileNames}
 use Rattle.msr_naming.specs.declared.files.DayFiles.{DayFiles}
 use Rattle.msr_tree.specs.Steps.{Path}
 
--- the names of a new file that the walk makes whose claim has that number
+-- the names of a new file that is written under the one with the ending
+abbrev pub file_beside : (path ending : List ℕ) → FileNames
+file_beside path ending = record { path = path; part = ended path ending }
+
+-- those of a file that the walk makes whose claim has that number
 abbrev pub new_file : (path : List ℕ) (number : ℕ) → FileNames
-new_file path number = record {
-  path = path;
-  part = ended path (codes "." ++ (decimal number ++ codes ".part"));
-}
+new_file path number = file_beside path (codes "." ++ (decimal number ++ codes ".part"))
 
 -- the names of the files of a day
 pub record DayNames : Type 0 where

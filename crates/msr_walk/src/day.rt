@@ -5,7 +5,7 @@ ghost use Rattle.msr_making.specs.Making.{LooksForSame};
 ghost use Rattle.msr_making.specs.Places.{paths_at};
 ghost use Rattle.msr_tree.specs.Calls.{Goes};
 ghost use Rattle.msr_tree.specs.Steps.{Path};
-ghost use Rattle.msr_walk.specs.Files.{day_names, files_of, new_file, paths_of_names};
+ghost use Rattle.msr_walk.specs.Files.{day_names, file_beside, files_of, paths_of_names};
 ghost use Rattle.msr_walk.specs.Handling.{AreNamesWithin, AreWithin, IsSameBut, IsUnclaimed, WaitsWithin};
 ghost use Rattle.msr_walk.specs.Told.{HandlesDay, WorksWithin};
 
@@ -145,15 +145,13 @@ impl<C> Handled<C> {
 /// How often a day is asked for in which other walks end or clear meanwhile.
 const TRIES: u8 = 8;
 
-/// The names of a new file. It is written under a name that no other walk uses, which has the number of the claim of this
-/// one.
-fn new_name(alloc: Global, path: &str, number: u64) -> Result<NewName, AllocError>
-    ensures { IfOk result (λ name. name ≡ new_file path.now number) }
+/// The names of a new file. It is written under the one with the ending.
+fn new_name(alloc: Global, path: &str, ending: &str) -> Result<NewName, AllocError>
+    ensures { IfOk result (λ name. name ≡ file_beside path.now ending.now) }
 {
-    let ending = format!(in alloc; ".{number}.part")?;
     Ok(NewName {
         path: String::from_str(alloc, path)?,
-        part: ended(alloc, path, ending.as_str())?,
+        part: ended(alloc, path, ending)?,
     })
 }
 
@@ -236,14 +234,16 @@ impl Day {
         }
     }
 
-    /// The files that the walk makes whose claim has that number.
+    /// The files that the walk makes whose claim has that number. Each is written under a name with this number, which no
+    /// other walk uses.
     fn files(&self, alloc: Global, number: u64) -> Result<DayFiles, AllocError>
         ensures { IfOk result (λ files. files ≡ files_of self.now number) }
     {
+        let ending = format!(in alloc; ".{number}.part")?;
         Ok(DayFiles {
-            records: new_name(alloc, self.records.as_str(), number)?,
-            report: new_name(alloc, self.report.as_str(), number)?,
-            stamp: new_name(alloc, self.stamp.as_str(), number)?,
+            records: new_name(alloc, self.records.as_str(), ending.as_str())?,
+            report: new_name(alloc, self.report.as_str(), ending.as_str())?,
+            stamp: new_name(alloc, self.stamp.as_str(), ending.as_str())?,
         })
     }
 

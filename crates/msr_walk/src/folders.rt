@@ -139,6 +139,9 @@ impl<'a, C: Claims> Walker<'a, C> {
         ensures goes { Goes (T.went tree.old) (T.went tree.new) (ChangesFiles []) }
     {
         let archive = self.archive;
+        if archive.days.older_than == 0 {
+            return Ok(false);
+        }
         let input = join(self.alloc, archive.folders.root, path)?;
         is_young(tree, input.as_str(), archive.days.older_than, self.begun)
     }
