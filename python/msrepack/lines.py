@@ -294,9 +294,9 @@ def _numbers(*texts: Optional[str]) -> Tuple[Optional[int], ...]:
     return tuple(None if text is None else int(text) for text in texts)
 
 
-def _archive_totals(*told: Optional[str]) -> Line:
-    *counts, young, read, written = _numbers(*told)
-    return ArchiveTotals(*counts, read, written, young)  # type: ignore[arg-type]
+def _archive_totals(files: str, skipped: str, refused: str, *told: Optional[str]) -> Line:
+    larger, young, read, written = _numbers(*told)
+    return ArchiveTotals(int(files), int(skipped), int(refused), larger, read, written, young)
 
 
 def _refused(path: str, of: Optional[str], text: str) -> Line:
