@@ -37,8 +37,6 @@ MAKES = {verb: ("changed",) for verb in ("cut", "behead", "edit", "set", "many",
 MAKES.update({verb: ("written",) for verb in ("samples", "text")}, make=("", "written"), record=("", "written"))
 MAKES.update(copy=("read", "written"), append=("changed", "read"), claim=("changed", "changed"))
 MAKES.update(hard=("read", "changed"), soft=("", "changed"))
-# Why a folder without permission has no list: in the system's words, and in those of the transcript's own device.
-CLOSED = b"Permission denied (os error 13)", b"permission denied"
 # The settings of a run that the system has nothing for, and why.
 DURING = "what another program does, or fails to do, just while msrepack is at work on a day"
 GONE = "names that stand in a folder's list and are gone when they are looked at"
@@ -159,8 +157,6 @@ class Player(transcript.Script):
         except Unsaid as reason:
             self.skip(changed, str(reason))
         next(self.counted)
-        if told.get("names") == "closed":
-            ran = ran._replace(printed=ran.printed.replace(*CLOSED))
         rest = (b"! " + ran.complaint if ran.complaint else b"") + b"status %d\n" % ran.status
         files = {into: ran.printed} if into else {}
         return [transcript.Print(b"" if into else ran.printed, rest, files=files)]

@@ -227,8 +227,10 @@ class Walk:
         elif odd.names in NAMES:
             names = NAMES[odd.names]
             os.stat(top)
+        elif odd.names == "closed":
+            raise PermissionError(errno.EACCES, os.strerror(errno.EACCES))
         else:
-            raise OSError("permission denied" if odd.names == "closed" else "other error")
+            raise OSError("other error")
         return [name.decode() for name in sorted(names)]
 
     def folder(self, path):

@@ -8,6 +8,9 @@ use std::rt::Files;
 use std::time::{Clock, Duration};
 use std::{fs, io};
 
+/// Linux' number for want of permission.
+const EACCES: i32 = 13;
+
 /// What another program writes to a file that it took.
 const TAKEN: &[u8] = b"another's";
 
@@ -185,7 +188,7 @@ impl<'a> Files for OddFiles<'a> {
             return Ok(Names::Host(self.rt.open_dir(path)?));
         }
         if self.names.is_empty() {
-            return Err(ErrorKind::PermissionDenied.into());
+            return Err(io::Error::from_raw_os_error(EACCES));
         }
         Ok(Names::Odd(self.names))
     }

@@ -146,7 +146,7 @@ impl<'a, C: Claims> Walker<'a, C> {
         is_young(tree, input.as_str(), archive.days.older_than, self.begun)
     }
 
-    /// Handles a day, unless its file was changed too late.
+    /// Handles a day, unless its file was changed too late; refuses it if what is made of it may stand in the archive.
     fn handle<T: Tree>(
         &self,
         tree: &mut T,
@@ -166,23 +166,6 @@ impl<'a, C: Claims> Walker<'a, C> {
                 waiting: None,
             });
         }
-        self.handle_due(tree, path, apart, made)
-    }
-
-    /// The same of a day whose time has come: refuses it if what is made of it may stand in the archive.
-    fn handle_due<T: Tree>(
-        &self,
-        tree: &mut T,
-        path: &str,
-        apart: bool,
-        made: &mut String,
-    ) -> Result<Told<C::Claim>, AllocError>
-        requires { IsDay path.now }
-        ensures told { IfOk result (λ told. IsOutcomeOfDay self.now.archive.now.days told.outcome) }
-        ensures waits { IfOk result (λ told. WaitsWithin self.now.archive.now.folders.reports.now told.waiting) }
-        ensures goes { Goes (T.went tree.old) (T.went tree.new) (TellsDay (λ told. told.outcome) self.now.archive.now.days
-            (day_names self.now.archive.now.folders.root.now self.now.archive.now.folders.out.now self.now.archive.now.folders.reports.now path.now) self.now.archive.now.folders.out.now self.now.archive.now.folders.reports.now result) }
-    {
         if !apart {
             let refusal = DayFault::CannotOpen(Unopened::OUTPUTS);
             return Ok(Told {
