@@ -90,6 +90,7 @@ pub record AsksFlags (found : Found) (days : DayOptions) : Type 0 where
   pub resume : IsFlagOf (one_text found (codes "resume")) days.resume
   pub check : IsFlagOf (one_text found (codes "check")) days.check
   pub only_smaller : IsFlagOf (one_text found (codes "only-smaller")) days.only_smaller
+  pub keep_old : IsFlagOf (one_text found (codes "keep-old")) days.keep_old
   pub bytes : IsFlagOf (one_text found (codes "bytes")) days.bytes
 
 -- lines are to be told as was found

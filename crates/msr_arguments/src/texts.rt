@@ -185,6 +185,8 @@ notshown PATH                         its report did not show it, with --check: 
 differs PATH                          not the data of the file, with --check: not kept
 changed PATH                          the same, and the file was changed meanwhile
 larger PATH read N written M          it did not get smaller, with --only-smaller: not kept
+shrunk PATH samples N M               it has M samples, and N by the report of an earlier
+                                      walk, with --keep-old: what that left stays
 young PATH                            the file was changed in the last DAYS days, or in
                                       the future, with --older-than: left alone
 
@@ -195,9 +197,10 @@ files N skipped N refused N [larger N] [young N]
 
 Records and report appear under their names whole or not at all: they are written beside
 them, as PATH.N.part, and then renamed, the report first. Those of a refused file are
-removed, also if they were there before. While a walk does a file, PATH.claim stands
-beside its records, locked, and other walks leave the file alone. Nothing in ROOT is
-changed, also if links lead there. The walk goes on after a refused file.
+removed, without --keep-old also if they were there before. While a walk does a file,
+PATH.claim stands beside its records, locked, and other walks leave the file alone.
+Nothing in ROOT is changed, also if links lead there. The walk goes on after a refused
+file.
 
 Status 0 if all was walked and nothing refused, else 1; 2 if the command line is wrong.",
     after: "Examples:
@@ -213,6 +216,7 @@ Status 0 if all was walked and nothing refused, else 1; 2 if the command line is
         RESUME,
         CHECKED,
         ONLY_SMALLER,
+        KEEP_OLD,
         DAYS_OLDER_THAN,
         BYTES,
         DAYS_QUIET,
@@ -395,6 +399,14 @@ has, neither they nor the report are kept, nor what an earlier walk made of it, 
 line counts it: `files N skipped N refused N larger N`",
 );
 
+const KEEP_OLD: Argument = Argument::Flag(
+    "keep-old",
+    "Keep what an earlier walk made of a file that is refused now, or has fewer samples",
+    "Keep what an earlier walk made of a file, records, report and the line of `--resume`, if
+the file is refused now, or has fewer samples than that report tells: then `shrunk PATH
+samples N M` is printed, and it is one of those refused",
+);
+
 const DAYS_OLDER_THAN: Argument = Argument::Days(
     "0",
     "Only days whose file was not changed for so many days; 0: all",
@@ -493,11 +505,11 @@ const DAYS_JSON: Argument = Argument::Flag(
     "Print each line as an object of JSON",
     "Print each line as an object of JSON (JSON Lines): `what`, its first word, and `path`,
 which is the name itself; then its numbers by their names, `read` and `written`, with
---bytes `bytes_read` and `bytes_written`. A refusal and what is skipped have `text`, what
-stands after the path in words, and a refusal before it `side`, that is file, records or
-report, and `offset`, `number`, `name` and `value` of a fault of a record, as far as there
-are these; last `reason`, if one is known. A channel has `id`, and no `path`;
-the last object has the counts",
+--bytes `bytes_read` and `bytes_written`, of `shrunk` `samples_was` and `samples`. A
+refusal and what is skipped have `text`, what stands after the path in words, and a
+refusal before it `side`, that is file, records or report, and `offset`, `number`, `name`
+and `value` of a fault of a record, as far as there are these; last `reason`, if one is
+known. A channel has `id`, and no `path`; the last object has the counts",
 );
 
 const STRICT: Argument = Argument::Flag(

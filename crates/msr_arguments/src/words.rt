@@ -239,6 +239,7 @@ fn days_in<'a>(found: &ArgMatches<'a>) -> Result<DayOptions, LineFault<'a>>
         resume: flag_in(found, "resume"),
         check: flag_in(found, "check"),
         only_smaller: flag_in(found, "only-smaller"),
+        keep_old: flag_in(found, "keep-old"),
         older_than: older_than_in(found),
         bytes: flag_in(found, "bytes"),
         telling: telling_in(found),

@@ -12,6 +12,15 @@ pub struct Repacked {
     pub bytes_read: u64,
     /// The greatest number of 64 bits if they are more, which no file has.
     pub bytes_written: u64,
+    /// How many samples all its segments have, or the greatest number of 64 bits.
+    pub samples: u64,
+}
+
+/// How many samples a day had by the report of an earlier walk, and how many it has now.
+#[derive(Clone, Copy)]
+pub struct Shrinkage {
+    pub was: u64,
+    pub is: u64,
 }
 
 /// Why a day file or a folder is refused, or what was made of a day is not kept.
@@ -29,6 +38,8 @@ pub enum DayFault {
     Changed,
     /// Its records are not smaller than its file, and only those are kept that are.
     Larger(Repacked),
+    /// It has fewer samples than an earlier walk left of it, and that is to stay.
+    Shrunk(Shrinkage),
     /// It stood in the list of its folder, and was gone when it was looked at.
     Gone,
     /// Another walk has the day.

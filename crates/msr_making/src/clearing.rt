@@ -2,7 +2,8 @@
 ghost use Rattle.std.specs.Prelude.{◌≡◌, []};
 ghost use Rattle.msr_tree.specs.Calls.{Goes};
 ghost use Rattle.msr_tree.specs.Folders.{ChangesFiles};
-ghost use Rattle.msr_making.specs.Clearing.{FindsNone, GivesUp, SaysEnd, beside_paths};
+ghost use Rattle.msr_making.specs.Clearing.{EndsRefused, FindsNone, GivesUp, SaysEnd, beside_paths};
+ghost use Rattle.msr_making.specs.Told.{stays_for};
 ghost use Rattle.msr_making.specs.Places.{paths_at, paths_of};
 
 use crate::answer::{DayEnd, DayFault, DayOutcome, Left};
@@ -10,6 +11,7 @@ use crate::hold::Hold;
 use crate::looks::look_at_day;
 use crate::places::{Places, places_of};
 use msr_naming::{DayFiles, clear_files};
+use msr_options::DayOptions;
 use msr_tree::{Tree, TreeFault};
 use std::alloc::AllocError;
 
@@ -113,22 +115,41 @@ fn clear_day<T: Tree>(
     }
 }
 
-/// A day is refused: what stands beside its names goes, and if it is this walk's still, what has its names.
+/// Whether what an earlier walk left of a day stays that is refused for that: not if it is only no smaller.
+fn stays(asked: &DayOptions, why: DayFault) -> bool
+    ensures { result ≡ stays_for asked.now why }
+{
+    match why {
+        DayFault::Larger(_) => false,
+        _ => asked.keep_old,
+    }
+}
+
+/// A day is refused: what stands beside its names goes, and if it is this walk's still, what has its names, unless that is to
+/// stay.
 pub(crate) fn give_up<T: Tree, H: Hold>(
     tree: &mut T,
     input: &str,
     files: &DayFiles,
     hold: &H,
     was_left: bool,
+    asked: &DayOptions,
     why: DayFault,
 ) -> DayEnd
     ensures told { SaysEnd why result }
-    ensures goes { Goes (T.went tree.old) (T.went tree.new) (GivesUp (paths_of input.now files.now) files.now result) }
+    ensures goes { Goes (T.went tree.old) (T.went tree.new) (EndsRefused (paths_of input.now files.now) files.now asked.now why result) }
 {
     let is_swept = sweep(tree, files);
     if !hold.is_held() {
         return DayEnd {
             outcome: Ok(DayOutcome::Refused(DayFault::ClaimedByAnother)),
+            left: Left::of_swept(is_swept),
+            is_stored: true,
+        };
+    }
+    if stays(asked, why) {
+        return DayEnd {
+            outcome: Ok(DayOutcome::Refused(why)),
             left: Left::of_swept(is_swept),
             is_stored: true,
         };

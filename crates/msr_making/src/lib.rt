@@ -11,13 +11,14 @@ mod making;
 mod parts;
 mod places;
 mod repacking;
+mod shrinking;
 mod stamp;
 mod stamping;
 mod verifying;
 mod writing;
 
 pub use age::is_young;
-pub use answer::{DayEnd, DayFault, DayOutcome, Left, Repacked};
+pub use answer::{DayEnd, DayFault, DayOutcome, Left, Repacked, Shrinkage};
 pub use hold::Hold;
 pub use kept::same_day;
 pub use making::do_day;

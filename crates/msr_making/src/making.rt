@@ -10,11 +10,11 @@ use crate::answer::{DayEnd, DayFault, DayOutcome, Left, Repacked, Stop};
 use crate::clearing::give_up;
 use crate::hold::Hold;
 use crate::kept::kept;
-use crate::looks::{DayLook, Sight, is_shared, look_at_day};
+use crate::looks::{DayLook, is_shared, look_at_day};
 use crate::places::{Places, places_of};
+use crate::shrinking::write_held;
 use crate::stamping::stamp_asked;
 use crate::verifying::verify_asked;
-use crate::writing::write_day;
 use msr_naming::{Act, DayFiles, Name, Naming, name_files};
 use msr_options::{DayOptions, Side, Unopened};
 use msr_tree::{Tree, TreeFault};
@@ -70,16 +70,16 @@ fn prepare_day<T: Tree, H: Hold>(
     tree: &mut T,
     alloc: Global,
     input: &str,
-    sight: Sight,
+    look: &DayLook,
     files: &DayFiles,
     hold: &mut H,
     asked: &DayOptions,
 ) -> Result<Repacked, Stop>
     ensures told { IsRepackedAs asked.now result }
-    ensures goes { Goes (T.went tree.old) (T.went tree.new) (PreparesDay input.now sight files.now asked.now result) }
+    ensures goes { Goes (T.went tree.old) (T.went tree.new) (PreparesDay input.now look.now files.now asked.now result) }
 {
-    let repacked = write_day(tree, alloc, input, sight, files, hold, asked)?;
-    match verify_asked(tree, alloc, input, sight, files, asked) {
+    let repacked = write_held(tree, alloc, input, look, files, hold, asked)?;
+    match verify_asked(tree, alloc, input, look.input, files, asked) {
         Ok(()) => {}
         Err(stop) => return Err(stop),
     }
@@ -120,16 +120,16 @@ fn make_day<T: Tree, H: Hold>(
     tree: &mut T,
     alloc: Global,
     input: &str,
-    sight: Sight,
+    look: &DayLook,
     files: &DayFiles,
     hold: &mut H,
     is_free: bool,
     asked: &DayOptions,
 ) -> Making
     ensures told { IsRepackedAs asked.now result.result }
-    ensures goes { Goes (T.went tree.old) (T.went tree.new) (MakesDay input.now sight files.now is_free asked.now result) }
+    ensures goes { Goes (T.went tree.old) (T.went tree.new) (MakesDay input.now look.now files.now is_free asked.now result) }
 {
-    match prepare_day(tree, alloc, input, sight, files, hold, asked) {
+    match prepare_day(tree, alloc, input, look, files, hold, asked) {
         Ok(repacked) => {
             let naming = name_files(tree, files, is_free);
             Making {
@@ -159,7 +159,7 @@ fn do_found<T: Tree, H: Hold>(
     ensures goes { Goes (T.went tree.old) (T.went tree.new) (DoesFound input.now look.now files.now was_left asked.now result) }
 {
     let is_free = look.is_untouched(was_left);
-    let making = make_day(tree, alloc, input, look.input, files, hold, is_free, asked);
+    let making = make_day(tree, alloc, input, look, files, hold, is_free, asked);
     match making.result {
         Ok(repacked) => DayEnd {
             outcome: Ok(DayOutcome::Done(repacked)),
@@ -176,7 +176,7 @@ fn do_found<T: Tree, H: Hold>(
         },
         Err(stop) => match stop {
             Stop::Refused(why) => {
-                let end = give_up(tree, input, files, &*hold, was_left, why);
+                let end = give_up(tree, input, files, &*hold, was_left, asked, why);
                 DayEnd {
                     outcome: end.outcome,
                     left: end.left,
@@ -193,8 +193,8 @@ fn do_found<T: Tree, H: Hold>(
 }
 
 /// Does a day that this walk has: leaves it alone if an earlier walk did it and that is asked for, or repacks it. If it is
-/// refused or not to be kept, no records and no report of it are left, unless its own file may be one of those: then nothing
-/// is touched.
+/// refused or not to be kept, no records and no report of it are left, unless those of an earlier walk are to stay, or its own
+/// file may be one of those: then nothing is touched.
 pub fn do_day<T: Tree, H: Hold>(
     tree: &mut T,
     alloc: Global,

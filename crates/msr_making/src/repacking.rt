@@ -6,7 +6,7 @@ ghost use Rattle.msr_tree.specs.Folders.{ChangesFiles};
 ghost use Rattle.msr_options.specs.Choice.{record_size};
 ghost use Rattle.msr_report.specs.Proper.{IsProper, records_in};
 ghost use Rattle.msr_folders.specs.Totals.{saturated};
-ghost use Rattle.msr_making.specs.Day.{IsReportLeft, RepacksDay, VerifiesRepack, told_of_report, told_of};
+ghost use Rattle.msr_making.specs.Day.{IsReportLeft, RepacksDay, samples_in, VerifiesRepack, told_of_report, told_of};
 
 use crate::answer::{DayFault, Repacked};
 use msr_compare::{CompareFault, Comparison};
@@ -34,6 +34,17 @@ fn records_written(report: &Report) -> u64
         records += line.records;
     }
     records
+}
+
+/// How many samples the segments of a report have, or the greatest number of 64 bits if they are more.
+pub(crate) fn samples_reported(report: &Report) -> u64
+    ensures { result ≡ saturated (samples_in report.now.segments.items) }
+{
+    let mut samples: u64 = 0;
+    for line in &report.segments {
+        samples = samples.saturating_add(line.samples);
+    }
+    samples
 }
 
 /// The bytes of so many records, or the greatest number of 64 bits if they are more.
@@ -87,6 +98,7 @@ pub(crate) fn repack_day_of<S: Source, W: Sink, T: Sink>(
         written,
         bytes_read,
         bytes_written: bytes_of_records(written, options),
+        samples: samples_reported(&report),
     })
 }
 
@@ -120,6 +132,7 @@ pub(crate) fn counts_kept<S: Source>(
         written,
         bytes_read,
         bytes_written: bytes_of_records(written, options),
+        samples: samples_reported(&report),
     })
 }
 

@@ -20,6 +20,7 @@ in_length record_length days = record {
   resume = days.resume;
   check = days.check;
   only_smaller = days.only_smaller;
+  keep_old = days.keep_old;
   older_than = days.older_than;
   bytes = days.bytes;
   telling = days.telling;

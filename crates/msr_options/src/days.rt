@@ -18,6 +18,8 @@ pub struct DayOptions {
     pub check: bool,
     /// Whether only days are kept that get smaller in bytes.
     pub only_smaller: bool,
+    /// Whether what an earlier walk left of a day stays if the day is refused, or has fewer samples now.
+    pub keep_old: bool,
     /// For so many days a file has to be unchanged; 0 for any file.
     pub older_than: u32,
     /// Whether lines tell bytes too.

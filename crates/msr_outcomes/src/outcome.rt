@@ -6,7 +6,7 @@ ghost use Rattle.msr_outcomes.specs.Outcomes.{of_day};
 
 use msr_folders::{JsonText, Shown, ToldFault, fault_json, reason_json, skip_text};
 use msr_input::ReadFault;
-use msr_making::{DayFault, DayOutcome, Repacked};
+use msr_making::{DayFault, DayOutcome, Repacked, Shrinkage};
 use msr_options::{DayOptions, ListForm, Side};
 use msr_sds::SdsFault;
 use msr_tool::ToolFault;
@@ -98,7 +98,11 @@ fn day_refusal_text(alloc: Global, why: DayFault) -> Result<String, AllocError>
         DayFault::Listing => "listing",
         DayFault::ClaimedByAnother => "another walk is at work",
         DayFault::Tool(fault) => return ToldStop { fault }.to_string(alloc),
-        DayFault::NotShown | DayFault::Differs | DayFault::Changed | DayFault::Larger(_) => "",
+        DayFault::NotShown
+        | DayFault::Differs
+        | DayFault::Changed
+        | DayFault::Larger(_)
+        | DayFault::Shrunk(_) => "",
     };
     String::from_str(alloc, text)
 }
@@ -181,6 +185,7 @@ impl Outcome {
             Outcome::Refused(DayFault::Differs) => "differs",
             Outcome::Refused(DayFault::Changed) => "changed",
             Outcome::Refused(DayFault::Larger(_)) => "larger",
+            Outcome::Refused(DayFault::Shrunk(_)) => "shrunk",
             Outcome::Refused(_) => "refused",
         }
     }
@@ -198,6 +203,9 @@ impl Outcome {
             Outcome::Refused(DayFault::Differs) => Ok(String::new(alloc)),
             Outcome::Refused(DayFault::Changed) => Ok(String::new(alloc)),
             Outcome::Refused(DayFault::Larger(repacked)) => counts_told(alloc, repacked, bytes),
+            Outcome::Refused(DayFault::Shrunk(Shrinkage { was, is })) => {
+                format!(in alloc; " samples {was} {is}")
+            }
             Outcome::Refused(why) => {
                 let text = day_refusal_text(alloc, why)?;
                 format!(in alloc; ": {text}")
@@ -233,6 +241,9 @@ impl Outcome {
             Outcome::Refused(DayFault::Differs) => Ok(String::new(alloc)),
             Outcome::Refused(DayFault::Changed) => Ok(String::new(alloc)),
             Outcome::Refused(DayFault::Larger(repacked)) => repacked_json(alloc, repacked, bytes),
+            Outcome::Refused(DayFault::Shrunk(Shrinkage { was, is })) => {
+                format!(in alloc; ",\"samples_was\":{was},\"samples\":{is}")
+            }
             Outcome::Refused(why) => day_refusal_json(alloc, why),
         }
     }

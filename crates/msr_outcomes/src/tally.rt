@@ -76,6 +76,7 @@ impl Tally {
                 | DayFault::NotShown
                 | DayFault::Differs
                 | DayFault::Changed
+                | DayFault::Shrunk(_)
                 | DayFault::Gone
                 | DayFault::ClaimedByAnother
                 | DayFault::Tool(_) => self.refused = self.refused.saturating_add(1),

@@ -1,0 +1,96 @@
+//! Whether a day has fewer samples than an earlier walk left of it.
+ghost use Rattle.std.specs.Prelude.{◌≡◌, IfErr, IfOk};
+ghost use Rattle.msr_devices.specs.Device.{CanCountCall};
+ghost use Rattle.msr_tree.specs.Calls.{Goes};
+ghost use Rattle.msr_making.specs.Ending.{WasHeld, WritesHeld};
+ghost use Rattle.msr_making.specs.Places.{paths_of};
+ghost use Rattle.msr_making.specs.Shrinking.{IsStopOf, LooksBack, TellsBack};
+
+use crate::answer::{DayFault, Repacked, Shrinkage, Stop};
+use crate::hold::Hold;
+use crate::looks::DayLook;
+use crate::parts::called;
+use crate::repacking::samples_reported;
+use crate::writing::write_day;
+use msr_devices::Source;
+use msr_naming::DayFiles;
+use msr_options::{DayOptions, Side};
+use msr_report_reader::{ReportFault, read_report};
+use msr_tool::ToolFault;
+use msr_tree::Tree;
+use std::alloc::Global;
+
+/// How many samples the report tells that a source has, if it has one.
+fn samples_told<S: Source>(alloc: Global, source: &mut S) -> Result<Option<u64>, Stop>
+    requires { CanCountCall (S.device source.old) }
+    ensures { TellsBack (S.device source.old) result }
+{
+    match read_report(alloc, source) {
+        Ok(report) => Ok(Some(samples_reported(&report))),
+        Err(ReportFault::Line(_)) => Ok(None),
+        Err(ReportFault::Read) => Err(Stop::Refused(DayFault::Tool(ToolFault::Read))),
+        Err(ReportFault::Memory) => Err(Stop::Memory),
+    }
+}
+
+/// How many samples a day has by the report of an earlier walk that stands beside its records, if what that left is to stay.
+fn samples_left<T: Tree>(
+    tree: &mut T,
+    alloc: Global,
+    report: &str,
+    look: &DayLook,
+    asked: &DayOptions,
+) -> Result<Option<u64>, Stop>
+    ensures { Goes (T.went tree.old) (T.went tree.new) (LooksBack report.now look.now asked.now result) }
+{
+    if !asked.keep_old || look.records.regular().is_none() {
+        return Ok(None);
+    }
+    let Some(facts) = look.report.regular() else {
+        return Ok(None);
+    };
+    let opened = tree.open_found(report, &facts);
+    let why = tree.reason();
+    let mut source = called(Side::Report, opened, why)?;
+    samples_told(alloc, &mut source)
+}
+
+/// Holds what was written of a day against what an earlier walk left of it, if that is to stay.
+fn held_against<T: Tree>(
+    tree: &mut T,
+    alloc: Global,
+    report: &str,
+    look: &DayLook,
+    asked: &DayOptions,
+    written: Result<Repacked, Stop>,
+) -> Result<Repacked, Stop>
+    ensures { Goes (T.went tree.old) (T.went tree.new) (HoldsAgainst report.now look.now asked.now written result) }
+{
+    let is = match written {
+        Ok(repacked) => repacked.samples,
+        Err(Stop::Refused(DayFault::Larger(repacked))) => repacked.samples,
+        Err(_) => return written,
+    };
+    match samples_left(tree, alloc, report, look, asked)? {
+        Some(was) if is < was => Err(Stop::Refused(DayFault::Shrunk(Shrinkage { was, is }))),
+        _ => written,
+    }
+}
+
+/// Writes what is made of a day beside its names, as `write_day` does. If what an earlier walk left is to stay, a day with
+/// fewer samples is refused.
+pub(crate) fn write_held<T: Tree, H: Hold>(
+    tree: &mut T,
+    alloc: Global,
+    input: &str,
+    look: &DayLook,
+    files: &DayFiles,
+    hold: &mut H,
+    asked: &DayOptions,
+) -> Result<Repacked, Stop>
+    ensures told { WasHeld asked.now result }
+    ensures goes { Goes (T.went tree.old) (T.went tree.new) (WritesHeld input.now look.now files.now asked.now result) }
+{
+    let written = write_day(tree, alloc, input, look.input, files, hold, asked);
+    held_against(tree, alloc, files.report.path.as_str(), look, asked, written)
+}
