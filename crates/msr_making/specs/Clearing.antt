@@ -6,9 +6,10 @@ use Rattle.msr_tree.specs.Steps.{AtEachMoment, Path, Step, failures}
 use Rattle.msr_naming.specs.Naming.{AreDayNames, day_paths}
 use Rattle.msr_naming.specs.Promise.{HasOwn, HasReport}
 use Rattle.msr_naming.specs.declared.files.DayFiles.{DayFiles}
+use Rattle.msr_options.specs.declared.days.DayOptions.{DayOptions}
 use Rattle.msr_making.specs.Looking.{Asks}
 use Rattle.msr_making.specs.Places.{DayPaths, IsUnseen}
-use Rattle.msr_making.specs.Told.{IsClearedThere}
+use Rattle.msr_making.specs.Told.{IsClearedThere, IsLeftFor, stays_for}
 use Rattle.msr_making.specs.declared.answer.DayEnd.{DayEnd}
 use Rattle.msr_making.specs.declared.answer.DayFault.{DayFault}
 use Rattle.msr_making.specs.declared.answer.DayFault.TheVariants.{ClaimedByAnother}
@@ -34,6 +35,17 @@ pub record GivesUp (paths : DayPaths) (files : DayFiles) (end : DayEnd) (old new
   pub killed : (is_own : (records report : List ℕ) → Bool) → AreDayNames files
       → HasReport is_own files old → AtEachMoment (HasReport is_own files) old new
   pub cleared : IfOk end.outcome (λ outcome. (outcome ≡ Refused ClaimedByAnother) ⊎ (AreDayNames files → IsClearedThere paths old new))
+  pub unstamped : end.left ≡ left.Stamp → ⊥
+  pub unstored : end.is_stored ≡ false → failures old < failures new
+  pub changes : ChangesFiles (day_paths files) old new
+
+-- The same of a day that is refused for that, unless what an earlier walk left is to stay.
+pub record EndsRefused (paths : DayPaths) (files : DayFiles) (asked : DayOptions) (why : DayFault) (end : DayEnd) (old new : List Step) : Type 0 where
+  pub safe : end.is_stored ≡ true → (is_own : (records report : List ℕ) → Bool) (is_of : (stamp records report : List ℕ) → Bool)
+      → AreDayNames files → HasOwn is_own is_of files old → AtEachMoment (HasOwn is_own is_of files) old new
+  pub killed : (is_own : (records report : List ℕ) → Bool) → AreDayNames files
+      → HasReport is_own files old → AtEachMoment (HasReport is_own files) old new
+  pub left : IfOk end.outcome (λ outcome. (outcome ≡ Refused ClaimedByAnother) ⊎ (AreDayNames files → IsLeftFor (stays_for asked why) why paths old new))
   pub unstamped : end.left ≡ left.Stamp → ⊥
   pub unstored : end.is_stored ≡ false → failures old < failures new
   pub changes : ChangesFiles (day_paths files) old new

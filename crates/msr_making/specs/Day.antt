@@ -1,11 +1,13 @@
 -- What is said of a day file that was repacked, or refused, whatever files its bytes are of.
 use Rattle.std.specs.Prelude.{◌≡◌, ◌⊎◌, ◌<◌, ◌*◌, ℕ, ⊤, false, IsTrue, List, Option, None, Some, Result, Ok, Err}
+use Rattle.std.specs.List.{sum_by}
 use Rattle.msr_devices.specs.Device.{Device, HasLeft, Takes}
 use Rattle.msr_report_reader.specs.Reading.{IsReadFrom}
 use Rattle.msr_report_reader.specs.declared.fault.ReportFault.{ReportFault}
 use Rattle.msr_report_reader.specs.declared.fault.ReportFault.TheVariants as report_stop
 use Rattle.msr_report.specs.Proper.{records_in}
 use Rattle.msr_report.specs.declared.report.Report.{Report}
+use Rattle.msr_report.specs.declared.report.SegmentLine.{SegmentLine}
 use Rattle.msr_input.specs.declared.fault.ReadFault.TheVariants as read
 use Rattle.msr_compare.specs.Answers.{HaveSameSegments}
 use Rattle.msr_compare.specs.declared.comparison.Comparison.{Comparison}
@@ -24,22 +26,28 @@ use Rattle.msr_folders.specs.Totals.{saturated}
 use Rattle.msr_making.specs.declared.answer.DayOutcome.{DayOutcome}
 use Rattle.msr_making.specs.declared.answer.DayOutcome.TheVariants as outcomes
 use Rattle.msr_making.specs.declared.answer.DayFault.{DayFault}
-use Rattle.msr_making.specs.declared.answer.DayFault.TheVariants.{CannotOpen, Changed, NotShown, Differs, Larger, ClaimedByAnother, Tool}
+use Rattle.msr_making.specs.declared.answer.DayFault.TheVariants.{CannotOpen, Changed, NotShown, Differs, Larger, Shrunk, ClaimedByAnother, Tool}
 use Rattle.msr_making.specs.declared.answer.Repacked.{Repacked}
+use Rattle.msr_making.specs.declared.answer.Shrinkage.{Shrinkage}
 
 -- the bytes that were written are those of the records that were, or the greatest number of 64 bits if they are more
 abbrev pub HasBytesWritten : Choice → Repacked → Type 0
 HasBytesWritten choice repacked = repacked.bytes_written ≡ saturated (repacked.written * record_size choice)
 
+-- how many samples the segments of these lines have
+abbrev pub samples_in : List SegmentLine → ℕ
+samples_in lines = sum_by (λ line. line.samples) lines
+
 -- The input was repacked, what was told is the text of its report, and the counts are those of this report: the
--- records that were read, and those that were written, and their bytes. How many bytes were read is what the source
--- counted.
+-- records that were read, and those that were written, and their bytes, and the samples. How many bytes were read is what
+-- the source counted.
 pub record IsCounted (choice : Choice) (input records told : List ℕ) (repacked : Repacked) : Type 0 where
   pub report : Report
   pub reported : IsReported choice input records told report
   pub read : repacked.read ≡ report.counts.read
   pub written : repacked.written ≡ records_in report.segments.items
   pub bytes : HasBytesWritten choice repacked
+  pub samples : repacked.samples ≡ saturated (samples_in report.segments.items)
 
 -- what an answer says of the input, of the records that were written, and of the text of the report
 abbrev pub CountAnswers : Choice → (input written told : List ℕ) → Result Repacked ToolFault → Type 0
@@ -174,6 +182,14 @@ pub record IsLarger (asked : DayOptions) (repacked : Repacked) : Type 0 where
   pub only_smaller : IsTrue asked.only_smaller
   pub larger : ¬ (GotSmaller repacked)
 
+-- Some input was repacked to fewer samples than an earlier walk left, and it was asked for that such a day stays as it is.
+pub record IsShrunk (asked : DayOptions) (shrinkage : Shrinkage) : Type 0 where
+  pub repacked : Repacked
+  pub answer : HasAnswer asked.options (Ok repacked)
+  pub keep_old : IsTrue asked.keep_old
+  pub is : shrinkage.is ≡ repacked.samples
+  pub fewer : shrinkage.is < shrinkage.was
+
 -- It was asked for that what is written is verified, and it was not shown.
 pub record IsNotShown (asked : DayOptions) : Type 0 where
   pub check : IsTrue asked.check
@@ -192,6 +208,7 @@ IsRepackedDay asked (Err NotShown) = IsNotShown asked
 IsRepackedDay asked (Err Differs) = IsDifferent asked
 IsRepackedDay asked (Err Changed) = IsDifferent asked
 IsRepackedDay asked (Err (Larger repacked)) = IsLarger asked repacked
+IsRepackedDay asked (Err (Shrunk shrinkage)) = IsShrunk asked shrinkage
 IsRepackedDay asked (Err ClaimedByAnother) = ⊤
 IsRepackedDay asked (Err (Tool fault)) = HasAnswer asked.options (Err fault)
 IsRepackedDay asked (Err _) = ⊥
@@ -210,6 +227,7 @@ pub record IsReportKept (choice : Choice) (repacked : Repacked) : Type 0 where
   pub read : repacked.read ≡ report.counts.read
   pub written : repacked.written ≡ records_in report.segments.items
   pub bytes : HasBytesWritten choice repacked
+  pub samples : repacked.samples ≡ saturated (samples_in report.segments.items)
 
 -- the same of the text that a source has
 pub record IsReportLeft (choice : Choice) (source : Device) (repacked : Repacked) : Type 0 where

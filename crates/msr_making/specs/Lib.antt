@@ -6,6 +6,7 @@ pub mod Looking
 pub mod Making
 pub mod Parts
 pub mod Places
+pub mod Shrinking
 pub mod Stamp
 pub mod Stamping
 pub mod Told

@@ -1,16 +1,22 @@
 -- What an outcome says of a day by what its names lead to, while nobody else changes them.
-use Rattle.std.specs.Prelude.{◌≡◌, ◌<◌, ◌⊎◌, ℕ, IsTrue, List, length, Some, Ok, Err, IsSomeAnd}
-use Rattle.msr_tree.specs.Steps.{Step, failures, seen}
+use Rattle.std.specs.Prelude.{◌≡◌, ◌<◌, ◌≤◌, ◌⊎◌, ℕ, Bool, true, false, IsTrue, List, length, Some, Ok, Err, IsSome, IsSomeAnd}
+use Rattle.msr_tree.specs.Steps.{Step, failures, now, seen}
+use Rattle.msr_folders.specs.Totals.{saturated}
 use Rattle.msr_options.specs.declared.days.DayOptions.{DayOptions}
+use Rattle.msr_options.specs.declared.hint.Side.{Side}
+use Rattle.msr_options.specs.declared.hint.Side.TheVariants.{Records, Report as OfReport}
+use Rattle.msr_report.specs.declared.report.Report.{Report}
+use Rattle.msr_report_reader.specs.Reading.{IsReadFrom}
 use Rattle.msr_tool.specs.declared.fault.ToolFault.{ToolFault}
-use Rattle.msr_making.specs.Day.{AsksForAge, CountAnswers, GotSmaller, IsKept, IsOtherData, IsVerifiedBy, ShowsWritten}
+use Rattle.msr_making.specs.Day.{AsksForAge, CountAnswers, GotSmaller, IsKept, IsOtherData, IsVerifiedBy, ShowsWritten, samples_in}
 use Rattle.msr_making.specs.Places.{DayPaths, IsOneOfMade, IsUnseen}
 use Rattle.msr_making.specs.Stamp.{stamp_text}
 use Rattle.msr_making.specs.declared.answer.DayFault.{DayFault}
-use Rattle.msr_making.specs.declared.answer.DayFault.TheVariants.{CannotOpen, Changed, ClaimedByAnother, Differs, Gone, Larger, Listing, NotShown, Tool}
+use Rattle.msr_making.specs.declared.answer.DayFault.TheVariants.{CannotOpen, Changed, ClaimedByAnother, Differs, Gone, Larger, Listing, NotShown, Shrunk, Tool}
 use Rattle.msr_making.specs.declared.answer.DayOutcome.{DayOutcome}
 use Rattle.msr_making.specs.declared.answer.DayOutcome.TheVariants.{Done, Refused, Same, Young}
 use Rattle.msr_making.specs.declared.answer.Repacked.{Repacked}
+use Rattle.msr_making.specs.declared.answer.Shrinkage.{Shrinkage}
 use Rattle.msr_making.specs.declared.stamp.Stamp.{Stamp}
 
 -- The bytes of the day's file were repacked, with these counts, to these records and this text.
@@ -19,6 +25,19 @@ pub record IsRepackOf (asked : DayOptions) (paths : DayPaths) (repacked : Repack
   pub has_input : seen old paths.input ≡ Some input
   pub answers : CountAnswers asked.options input records text (Ok repacked)
   pub bytes_read : repacked.bytes_read ≡ length input
+
+-- An earlier walk left records of a day, and a report that tells so many samples.
+pub record LeavesSamples (paths : DayPaths) (samples : ℕ) (past : List Step) : Type 0 where
+  pub report : Report
+  pub text : List ℕ
+  pub reads : IsReadFrom report text
+  pub has_report : seen past paths.report ≡ Some text
+  pub has_records : IsSome (seen past paths.records)
+  pub are : samples ≡ saturated (samples_in report.segments.items)
+
+-- if what an earlier walk left is to stay, a day has no fewer samples than that
+abbrev pub IsUnshrunk : DayOptions → DayPaths → Repacked → List Step → Type 0
+IsUnshrunk asked paths repacked past = IsTrue asked.keep_old → (was : ℕ) → LeavesSamples paths was past → was ≤ repacked.samples
 
 -- The names of records and report lead to the records and the report of a repack of what the day's file has.
 pub record IsDoneThere (asked : DayOptions) (paths : DayPaths) (repacked : Repacked) (old new : List Step) : Type 0 where
@@ -29,6 +48,7 @@ pub record IsDoneThere (asked : DayOptions) (paths : DayPaths) (repacked : Repac
   pub has_report : seen new paths.report ≡ Some text
   pub verified : IsTrue asked.check → IsVerifiedBy asked.options repack.input records text
   pub smaller : IsTrue asked.only_smaller → GotSmaller repacked
+  pub unshrunk : IsUnshrunk asked paths repacked old
 
 -- An earlier walk left the day: its stamp is of a file as long as the day's own is, and records and report stand beside it.
 pub record IsLeftThere (asked : DayOptions) (paths : DayPaths) (repacked : Repacked) (past : List Step) : Type 0 where
@@ -81,6 +101,18 @@ pub record IsLargerThere (asked : DayOptions) (paths : DayPaths) (repacked : Rep
   pub repack : IsRepackOf asked paths repacked records text old
   pub only_smaller : IsTrue asked.only_smaller
   pub larger : ¬ (GotSmaller repacked)
+  pub unshrunk : IsUnshrunk asked paths repacked old
+
+-- It was repacked, and has fewer samples than an earlier walk left, which is to stay.
+pub record IsShrunkThere (asked : DayOptions) (paths : DayPaths) (shrinkage : Shrinkage) (old : List Step) : Type 0 where
+  pub repacked : Repacked
+  pub records : List ℕ
+  pub text : List ℕ
+  pub repack : IsRepackOf asked paths repacked records text old
+  pub keep_old : IsTrue asked.keep_old
+  pub left : LeavesSamples paths shrinkage.was old
+  pub is : shrinkage.is ≡ repacked.samples
+  pub fewer : shrinkage.is < shrinkage.was
 
 -- Why a day is refused. What could not be opened or made says that a call failed, or that the day's own file is one of
 -- those that are made; nothing is said of other processes.
@@ -90,6 +122,7 @@ IsRefusedThere asked paths NotShown old new = IsNotShownThere asked paths old
 IsRefusedThere asked paths Differs old new = IsDifferentThere asked paths old
 IsRefusedThere asked paths Changed old new = IsDifferentThere asked paths old
 IsRefusedThere asked paths (Larger repacked) old new = IsLargerThere asked paths repacked old
+IsRefusedThere asked paths (Shrunk shrinkage) old new = IsShrunkThere asked paths shrinkage old
 IsRefusedThere asked paths (Tool fault) old new = IsFaultThere asked paths fault old
 IsRefusedThere asked paths ClaimedByAnother old new = Unit {0}
 IsRefusedThere asked paths Gone old new = ⊥
@@ -101,9 +134,34 @@ IsClearedFor (CannotOpen unopened) paths old new = Unit {0}
 IsClearedFor ClaimedByAnother paths old new = Unit {0}
 IsClearedFor why paths old new = IsClearedThere paths old new
 
+-- what is made of a day is what it was
+abbrev pub AreUntouched : DayPaths → (old new : List Step) → Type 0
+AreUntouched paths old new = (now new paths.records ≡ now old paths.records) × (now new paths.report ≡ now old paths.report) × (now new paths.stamp ≡ now old paths.stamp)
+
+-- unless a file that is made could not be, or not get its name
+abbrev pub UnlessMade : Side → Type 0 → Type 0
+UnlessMade Records kept = Unit {0}
+UnlessMade OfReport kept = Unit {0}
+UnlessMade side kept = kept
+
+-- whether what was made of a day is what it was if it is refused for that, unless another walk has it
+abbrev pub IsKeptFor : DayFault → DayPaths → (old new : List Step) → Type 0
+IsKeptFor (CannotOpen unopened) paths old new = UnlessMade unopened.side (AreUntouched paths old new)
+IsKeptFor ClaimedByAnother paths old new = Unit {0}
+IsKeptFor why paths old new = AreUntouched paths old new
+
+-- whether what an earlier walk left of a day stays if it is refused for that
+abbrev pub stays_for : DayOptions → DayFault → Bool
+stays_for asked (Larger repacked) = false
+stays_for asked why = asked.keep_old
+
+abbrev pub IsLeftFor : (stays : Bool) → DayFault → DayPaths → (old new : List Step) → Type 0
+IsLeftFor true why paths old new = IsKeptFor why paths old new
+IsLeftFor false why paths old new = IsClearedFor why paths old new
+
 -- what an outcome says of a day, by what its names lead to before it is done and after
 abbrev pub IsOutcomeThere : DayOptions → DayPaths → DayOutcome → (old new : List Step) → Type 0
 IsOutcomeThere asked paths (Done repacked) old new = IsDoneThere asked paths repacked old new
 IsOutcomeThere asked paths (Same repacked) old new = IsSameThere asked paths repacked old
 IsOutcomeThere asked paths Young old new = AsksForAge asked
-IsOutcomeThere asked paths (Refused why) old new = IsRefusedThere asked paths why old new × IsClearedFor why paths old new
+IsOutcomeThere asked paths (Refused why) old new = IsRefusedThere asked paths why old new × IsLeftFor (stays_for asked why) why paths old new

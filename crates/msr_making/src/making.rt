@@ -2,7 +2,7 @@
 ghost use Rattle.std.specs.Prelude.{IfOk};
 ghost use Rattle.msr_tree.specs.Calls.{Goes};
 ghost use Rattle.msr_making.specs.Day.{IsDayOutcome};
-ghost use Rattle.msr_making.specs.Ending.{DoesFound, IsNamedAs, IsRepackedAs, MakesDay, PreparesDay, SeeksDay, WasFound};
+ghost use Rattle.msr_making.specs.Ending.{DoesFound, IsMadeSide, IsNamedAs, IsRepackedAs, MakesDay, PreparesDay, SeeksDay, WasFound};
 ghost use Rattle.msr_making.specs.Making.{DoesDay};
 ghost use Rattle.msr_making.specs.Places.{paths_at};
 
@@ -106,7 +106,9 @@ fn named<T: Tree>(tree: &T, naming: Naming, repacked: Repacked) -> Result<Repack
 }
 
 /// Of which file something could not be done.
-fn side_of(act: Act) -> Side {
+fn side_of(act: Act) -> Side
+    ensures { IsMadeSide result }
+{
     match act {
         Act::Remove(name) | Act::Store(name) | Act::Rename(_, name) => match name {
             Name::Records | Name::RecordsPart => Side::Records,

@@ -1,10 +1,10 @@
 //! Whether a day has fewer samples than an earlier walk left of it.
-ghost use Rattle.std.specs.Prelude.{◌≡◌, IfErr, IfOk};
+ghost use Rattle.std.specs.Prelude.{IfErr, IfOk, IfSome, IsTrue};
 ghost use Rattle.msr_devices.specs.Device.{CanCountCall};
 ghost use Rattle.msr_tree.specs.Calls.{Goes};
 ghost use Rattle.msr_making.specs.Ending.{WasHeld, WritesHeld};
-ghost use Rattle.msr_making.specs.Places.{paths_of};
-ghost use Rattle.msr_making.specs.Shrinking.{IsStopOf, LooksBack, TellsBack};
+ghost use Rattle.msr_making.specs.Shrinking.{AsksForLeft, HoldsAgainst, IsStopOfReading, ReadsSamples};
+ghost use Rattle.msr_making.specs.Writing.{WasRepacked};
 
 use crate::answer::{DayFault, Repacked, Shrinkage, Stop};
 use crate::hold::Hold;
@@ -23,7 +23,8 @@ use std::alloc::Global;
 /// How many samples the report tells that a source has, if it has one.
 fn samples_told<S: Source>(alloc: Global, source: &mut S) -> Result<Option<u64>, Stop>
     requires { CanCountCall (S.device source.old) }
-    ensures { TellsBack (S.device source.old) result }
+    ensures stops { IfErr result IsStopOfReading }
+    ensures reads { ReadsSamples (S.device source.old) result }
 {
     match read_report(alloc, source) {
         Ok(report) => Ok(Some(samples_reported(&report))),
@@ -37,11 +38,13 @@ fn samples_told<S: Source>(alloc: Global, source: &mut S) -> Result<Option<u64>,
 fn samples_left<T: Tree>(
     tree: &mut T,
     alloc: Global,
-    report: &str,
+    files: &DayFiles,
     look: &DayLook,
     asked: &DayOptions,
 ) -> Result<Option<u64>, Stop>
-    ensures { Goes (T.went tree.old) (T.went tree.new) (LooksBack report.now look.now asked.now result) }
+    ensures asked { IfOk result (λ left. IfSome left (λ was. IsTrue asked.now.keep_old)) }
+    ensures stops { IfErr result IsStopOfReading }
+    ensures goes { Goes (T.went tree.old) (T.went tree.new) (AsksForLeft files.now look.now asked.now result) }
 {
     if !asked.keep_old || look.records.regular().is_none() {
         return Ok(None);
@@ -49,7 +52,7 @@ fn samples_left<T: Tree>(
     let Some(facts) = look.report.regular() else {
         return Ok(None);
     };
-    let opened = tree.open_found(report, &facts);
+    let opened = tree.open_found(files.report.path.as_str(), &facts);
     let why = tree.reason();
     let mut source = called(Side::Report, opened, why)?;
     samples_told(alloc, &mut source)
@@ -59,19 +62,20 @@ fn samples_left<T: Tree>(
 fn held_against<T: Tree>(
     tree: &mut T,
     alloc: Global,
-    report: &str,
+    files: &DayFiles,
     look: &DayLook,
     asked: &DayOptions,
     written: Result<Repacked, Stop>,
 ) -> Result<Repacked, Stop>
-    ensures { Goes (T.went tree.old) (T.went tree.new) (HoldsAgainst report.now look.now asked.now written result) }
+    ensures told { WasRepacked asked.now written → WasHeld asked.now result }
+    ensures goes { Goes (T.went tree.old) (T.went tree.new) (HoldsAgainst files.now look.now asked.now written result) }
 {
     let is = match written {
         Ok(repacked) => repacked.samples,
         Err(Stop::Refused(DayFault::Larger(repacked))) => repacked.samples,
         Err(_) => return written,
     };
-    match samples_left(tree, alloc, report, look, asked)? {
+    match samples_left(tree, alloc, files, look, asked)? {
         Some(was) if is < was => Err(Stop::Refused(DayFault::Shrunk(Shrinkage { was, is }))),
         _ => written,
     }
@@ -92,5 +96,5 @@ pub(crate) fn write_held<T: Tree, H: Hold>(
     ensures goes { Goes (T.went tree.old) (T.went tree.new) (WritesHeld input.now look.now files.now asked.now result) }
 {
     let written = write_day(tree, alloc, input, look.input, files, hold, asked);
-    held_against(tree, alloc, files.report.path.as_str(), look, asked, written)
+    held_against(tree, alloc, files, look, asked, written)
 }
