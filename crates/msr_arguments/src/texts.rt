@@ -402,9 +402,9 @@ line counts it: `files N skipped N refused N larger N`",
 const KEEP_OLD: Argument = Argument::Flag(
     "keep-old",
     "Keep what an earlier walk made of a file that is refused now, or has fewer samples",
-    "Keep what an earlier walk made of a file, records, report and the line of `--resume`, if
-the file is refused now, or has fewer samples than that report tells: then `shrunk PATH
-samples N M` is printed, and it is one of those refused",
+    "Keep what an earlier walk made of a file, records and report, if the file is refused now,
+or has fewer samples than that report tells. Of one with fewer `shrunk PATH samples N M`
+is printed, how many it had and has; it is one of those refused",
 );
 
 const DAYS_OLDER_THAN: Argument = Argument::Days(

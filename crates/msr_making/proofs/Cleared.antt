@@ -1,5 +1,5 @@
 -- What was made of a day goes.
-use Rattle.std.proofs.Common.{◌≡◌, ◌⊎◌, ◌≤◌, inl, inr, ⊎_elim, Bool, true, List, [], ◌∷◌, refl, ◌∙◌, ap, subst, Result, Ok, Err, None, OnOk, IfOk, option_map, arith}
+use Rattle.std.proofs.Common.{◌≡◌, ◌⊎◌, ◌≤◌, inl, inr, ⊎_elim, Bool, true, false, List, [], ◌∷◌, refl, sym, ◌∙◌, ap, subst, Result, Ok, Err, None, OnOk, IfOk, option_map, arith}
 use Rattle.std.specs.declared.alloc.AllocError.{AllocError}
 use Rattle.msr_tree.specs.Calls.{DoesStep, Goes}
 use Rattle.msr_tree.specs.Folders.{ChangesFiles}
@@ -14,10 +14,11 @@ use Rattle.msr_naming.specs.Naming.{AreDayNames, day_paths, told}
 use Rattle.msr_naming.specs.Promise.{ClearsDay, HasOwn, HasReport}
 use Rattle.msr_naming.specs.declared.fallback.Naming.{Naming}
 use Rattle.msr_naming.specs.declared.files.DayFiles.{DayFiles}
-use Rattle.msr_making.specs.Clearing.{FindsNone, GivesUp, beside_paths}
+use Rattle.msr_making.specs.Clearing.{EndsRefused, FindsNone, GivesUp, beside_paths}
 use Rattle.msr_making.specs.Looking.{FindsDay, IsDayLook, IsSightAt, IsUnfound}
 use Rattle.msr_making.specs.Places.{DayPaths, IsUnseen, paths_of}
-use Rattle.msr_making.specs.Told.{IsClearedThere}
+use Rattle.msr_options.specs.declared.days.DayOptions.{DayOptions}
+use Rattle.msr_making.specs.Told.{IsClearedThere, IsLeftFor, stays_for}
 use Rattle.msr_making.specs.declared.answer.DayEnd.{DayEnd}
 use Rattle.msr_making.specs.declared.answer.DayFault.{DayFault}
 use Rattle.msr_making.specs.declared.answer.DayFault.TheVariants.{ClaimedByAnother}
@@ -30,6 +31,7 @@ use Rattle.msr_making.specs.declared.looks.Sight.{Sight}
 use Rattle.msr_making.specs.declared.looks.Sight.TheVariants.{Nothing}
 use Rattle.msr_making.proofs.Owns.{AreNone, more_beside, none_beside, none_empty, own_each, own_kept, report_each, report_kept}
 use Rattle.msr_making.proofs.Sights.{asks_as}
+use Rattle.msr_making.proofs.Untouched.{cleared_for, kept_for, untouched_by}
 
 abbrev pub ended : DayOutcome → Result DayOutcome AllocError
 ended outcome = Ok outcome
@@ -103,23 +105,6 @@ module _ (input : Path) (files : DayFiles) where
       earlier (Err e) p q r few is = tt
 
   -- nothing more is done
-  pub ends_beside : (names : List Path) (none : AreDayNames files → AreNone files names) (more : (name : Path) → IsNoneOf name (day_paths files) → IsNoneOf name names) (outcome : Result DayOutcome AllocError) (rest : Left) (one two : List Step → Type 0)
-      → (rest ≡ left.Stamp → ⊥) → ((p q : List Step) → ChangesFiles names p q → IfOk outcome (λ o. (o ≡ Refused ClaimedByAnother) ⊎ (AreDayNames files → IsClearedThere paths p q)))
-      → Goes one two (λ p q. ChangesFiles names p q) → Goes one two (GivesUp paths files (record { outcome = outcome; left = rest; is_stored = true }))
-  ends_beside names none more outcome rest one two unstamped cleared goes = goes_as _ _ one two
-      (λ p q x. record {
-        safe = λ stored is_own is_of are has. own_each files names (none are) p q x is_own is_of has;
-        killed = λ is_own are has. report_each files names (none are) p is_own has q x;
-        cleared = cleared p q x;
-        unstamped = unstamped;
-        unstored = λ not. absurd cc;
-        changes = changes_more names (day_paths files) p q more x;
-      }) goes
-
-  pub ends_unheld : (rest : Left) (one two : List Step → Type 0) → (rest ≡ left.Stamp → ⊥) → Goes one two (λ p q. ChangesFiles (beside_paths files) p q)
-      → Goes one two (GivesUp paths files (record { outcome = Ok (Refused ClaimedByAnother); left = rest; is_stored = true }))
-  ends_unheld rest one two unstamped goes = ends_beside (beside_paths files) (none_beside files) (more_beside files) (ended (Refused ClaimedByAnother)) rest one two unstamped (λ p q x. inl refl) goes
-
   pub ends_gone : (why : DayFault) (rest : Left) (answer : Bool) (one two : List Step → Type 0) → answer ≡ true → (rest ≡ left.Stamp → ⊥) → Goes one two (FindsNone paths (Ok answer))
       → Goes one two (GivesUp paths files (record { outcome = Ok (Refused why); left = rest; is_stored = true }))
   ends_gone why rest answer one two so unstamped goes = goes_as _ _ one two
@@ -191,3 +176,44 @@ module _ (input : Path) (files : DayFiles) where
         unstored = x.unstored;
         changes = x.changes;
       }) goes
+
+  -- what was made of the day goes, or that is to stay
+  pub ends_cleared : (asked : DayOptions) (why : DayFault) (end : DayEnd) (one two : List Step → Type 0) → stays_for asked why ≡ false → Goes one two (GivesUp paths files end) → Goes one two (EndsRefused paths files asked why end)
+  ends_cleared asked why end one two goes_it goes = goes_as _ _ one two
+      (λ p q x. record {
+        safe = x.safe;
+        killed = x.killed;
+        stays = left end.outcome p q x.cleared;
+        unstamped = x.unstamped;
+        unstored = x.unstored;
+        changes = x.changes;
+      }) goes
+    where
+      left : (outcome : Result DayOutcome AllocError) (p q : List Step) → IfOk outcome (λ o. (o ≡ Refused ClaimedByAnother) ⊎ (AreDayNames files → IsClearedThere paths p q))
+          → IfOk outcome (λ o. (o ≡ Refused ClaimedByAnother) ⊎ (AreDayNames files → IsLeftFor (stays_for asked why) why paths p q))
+      left (Ok o) p q is = ⊎_elim (λ other. inl other)
+          (λ so. inr (λ are. subst (λ (stays : Bool). IsLeftFor stays why paths p q) (sym goes_it) (cleared_for paths p q why (so are)))) is
+      left (Err e) p q is = tt
+
+  ends_still : (asked : DayOptions) (why : DayFault) (outcome : DayOutcome) (rest : Left) (one two : List Step → Type 0) → (rest ≡ left.Stamp → ⊥)
+      → ((p q : List Step) → ChangesFiles (beside_paths files) p q → (outcome ≡ Refused ClaimedByAnother) ⊎ (AreDayNames files → IsLeftFor (stays_for asked why) why paths p q))
+      → Goes one two (λ p q. ChangesFiles (beside_paths files) p q) → Goes one two (EndsRefused paths files asked why (record { outcome = Ok outcome; left = rest; is_stored = true }))
+  ends_still asked why outcome rest one two unstamped stays goes = goes_as _ _ one two
+      (λ p q x. record {
+        safe = λ stored is_own is_of are has. own_each files (beside_paths files) (none_beside files are) p q x is_own is_of has;
+        killed = λ is_own are has. report_each files (beside_paths files) (none_beside files are) p is_own has q x;
+        stays = stays p q x;
+        unstamped = unstamped;
+        unstored = λ not. absurd cc;
+        changes = changes_more (beside_paths files) (day_paths files) p q (more_beside files) x;
+      }) goes
+
+  pub ends_unheld : (asked : DayOptions) (why : DayFault) (rest : Left) (one two : List Step → Type 0) → (rest ≡ left.Stamp → ⊥) → Goes one two (λ p q. ChangesFiles (beside_paths files) p q)
+      → Goes one two (EndsRefused paths files asked why (record { outcome = Ok (Refused ClaimedByAnother); left = rest; is_stored = true }))
+  ends_unheld asked why rest one two unstamped goes = ends_still asked why (Refused ClaimedByAnother) rest one two unstamped (λ p q x. inl refl) goes
+
+  pub ends_kept : (asked : DayOptions) (why : DayFault) (rest : Left) (one mid two : List Step → Type 0) → stays_for asked why ≡ true → (rest ≡ left.Stamp → ⊥) → Goes one mid (λ p q. ChangesFiles (beside_paths files) p q) → Goes mid two (λ p q. ChangesFiles [] p q)
+      → Goes one two (EndsRefused paths files asked why (record { outcome = Ok (Refused why); left = rest; is_stored = true }))
+  ends_kept asked why rest one mid two stays unstamped first second = ends_still asked why (Refused why) rest one two unstamped
+      (λ p q x. inr (λ are. subst (λ (stay : Bool). IsLeftFor stay why paths p q) (sym stays) (kept_for paths p q why (untouched_by input files (beside_paths files) (none_beside files are) p q x))))
+      (goes_both _ _ _ one mid two (λ p q r x y. changes_then (beside_paths files) p q r x (changes_more [] (beside_paths files) q r (λ n none. tt) y)) first second)

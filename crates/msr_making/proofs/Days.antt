@@ -1,5 +1,5 @@
 -- Answers about days, whatever files their bytes are of.
-use Rattle.std.proofs.Common.{◌≡◌, ◌⊎◌, ⊎_elim, ℕ, refl, subst, IfOk, sym, map, List, [], inl, inr, Result, Ok, Err, IsTrue}
+use Rattle.std.proofs.Common.{◌≡◌, ◌⊎◌, ⊎_elim, ℕ, refl, subst, IfOk, sym, map, List, [], Some, inl, inr, Result, Ok, Err, IsTrue}
 use Rattle.std.proofs.lemmas.List.{append-nil}
 use Rattle.msr_devices.specs.Device.{Device}
 use Rattle.msr_options.specs.Choice.{Choice}
@@ -14,7 +14,8 @@ use Rattle.std.specs.declared.alloc.AllocError.{AllocError}
 use Rattle.msr_tree.specs.declared.tree.TreeFault.{TreeFault}
 use Rattle.msr_tree.specs.declared.tree.TreeFault.TheVariants as call
 use Rattle.msr_making.specs.Day.{CountAnswers, HasAnswer, IsDayOutcome, IsDone, IsReadOrMemory, IsRepackedDay, RepacksDay, VerifiedAnswers}
-use Rattle.msr_making.specs.Ending.{IsRepackedAs, NamedAs}
+use Rattle.msr_making.specs.Ending.{IsRepackedAs, NamedAs, WasHeld}
+use Rattle.msr_making.specs.Shrinking.{IsStopOfReading, counts_of}
 use Rattle.msr_making.specs.Verifying.{WasVerifiedAs}
 use Rattle.msr_making.specs.Writing.{IsFit, WasRepacked}
 use Rattle.msr_making.specs.declared.answer.DayFault.{DayFault}
@@ -104,6 +105,27 @@ unfit_as asked (Refused (Tool why)) is = is
 unfit_as asked (Refused why) is = absurd is
 unfit_as asked Memory is = tt
 
+pub unfit_held : (asked : DayOptions) (written : Result Repacked Stop) → WasRepacked asked written → WasHeld asked written
+unfit_held asked (Ok repacked) is = is
+unfit_held asked (Err stop) is = unfit_as asked stop is
+
+-- what could not be held against what an earlier walk left
+untold_as : (asked : DayOptions) (repacked : Repacked) (stop : Stop) → HasAnswer asked.options (Ok repacked) → IsStopOfReading stop → IsRepackedAs asked (Err stop)
+untold_as asked repacked (Refused (CannotOpen unopened)) does is = tt
+untold_as asked repacked (Refused why) does is =
+    let rest = unread_of asked.options does.input does.written does.told repacked fault.Read does.answers (inl refl) in
+    subst (λ (w : DayFault). IsRepackedDay asked (Err w)) (sym is) (record { input = does.input; written = does.written; told = rest.0; answers = rest.1 })
+untold_as asked repacked Memory does is = tt
+
+pub has_answer : (asked : DayOptions) (repacked : Repacked) (written : Result Repacked Stop) → counts_of written ≡ Some repacked → WasRepacked asked written → HasAnswer asked.options (Ok repacked)
+has_answer asked repacked (Ok given) of was = let same : given ≡ repacked = cc in subst (λ (r : Repacked). HasAnswer asked.options (Ok r)) same was.answer
+has_answer asked repacked (Err (Refused (Larger given))) of was = let same : given ≡ repacked = cc in subst (λ (r : Repacked). HasAnswer asked.options (Ok r)) same was.answer
+has_answer asked repacked (Err (Refused why)) of was = absurd cc
+has_answer asked repacked (Err Memory) of was = absurd cc
+
+pub unread_as : (asked : DayOptions) (repacked : Repacked) (written : Result Repacked Stop) (stop : Stop) → counts_of written ≡ Some repacked → IsStopOfReading stop → WasRepacked asked written → IsRepackedAs asked (Err stop)
+unread_as asked repacked written stop of is was = untold_as asked repacked stop (has_answer asked repacked written of was) is
+
 -- what was not verified
 pub unverified_as : (asked : DayOptions) (repacked : Repacked) (stop : Stop) → IsFit asked repacked → IsTrue asked.check → WasVerifiedAs asked.options (Err stop) → IsRepackedAs asked (Err stop)
 unverified_as asked repacked (Refused why) fit check is = day_unkept asked repacked why fit.answer check is
@@ -112,7 +134,7 @@ unverified_as asked repacked Memory fit check is = tt
 -- what was made gets its names, or not
 pub named_was : (asked : DayOptions) (repacked : Repacked) (answer : Result (Unit {0}) TreeFault) (result : Result Repacked Stop) → NamedAs repacked answer result → IsDone asked repacked → IsRepackedAs asked result
 named_was asked repacked (Ok x) result is done = subst (λ (r : Result Repacked Stop). IsRepackedAs asked r) (sym is) done
-named_was asked repacked (Err call.Failed) result is done = subst (λ (r : Result Repacked Stop). IsRepackedAs asked r) (sym is.1) tt
+named_was asked repacked (Err call.Failed) result is done = subst (λ (r : Result Repacked Stop). IsRepackedAs asked r) (sym is.2) tt
 named_was asked repacked (Err call.Memory) result is done = subst (λ (r : Result Repacked Stop). IsRepackedAs asked r) (sym is) tt
 
 -- how a day ends that is refused

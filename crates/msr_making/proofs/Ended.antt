@@ -1,5 +1,5 @@
 -- How a day ends.
-use Rattle.std.proofs.Common.{◌≡◌, ◌⊎◌, ◌≤◌, ◌&&◌, inl, inr, ⊎_elim, ℕ, Bool, true, false, List, [], ◌∷◌, refl, sym, ◌∙◌, subst, Result, Ok, Err, Some, None, Option, IfOk, IsSomeAnd, arith}
+use Rattle.std.proofs.Common.{◌≡◌, ◌⊎◌, ◌≤◌, ◌&&◌, inl, inr, ⊎_elim, ℕ, Bool, true, false, List, [], ◌∷◌, refl, sym, ◌∙◌, subst, Result, Ok, Err, Some, None, Option, IfOk, IsSome, IsSomeAnd, arith}
 use Rattle.std.specs.declared.alloc.AllocError.{AllocError}
 use Rattle.msr_options.specs.declared.days.DayOptions.{DayOptions}
 use Rattle.msr_tree.specs.Calls.{AreOneFile, Goes}
@@ -12,16 +12,16 @@ use Rattle.msr_naming.proofs.FallingBack.{goes_both}
 use Rattle.msr_naming.specs.Naming.{AreDayNames, day_paths}
 use Rattle.msr_naming.specs.Promise.{HasOwn, HasReport, IsFreeIf}
 use Rattle.msr_naming.specs.declared.files.DayFiles.{DayFiles}
-use Rattle.msr_making.specs.Clearing.{GivesUp, SaysEnd}
+use Rattle.msr_making.specs.Clearing.{EndsRefused, SaysEnd}
 use Rattle.msr_making.specs.Ending.{DoesFound, IsMade, MadeAs, MakesDay, SeeksDay}
-use Rattle.msr_making.specs.Looking.{IsDayLook, IsSightAt, IsUnfound}
+use Rattle.msr_making.specs.Looking.{IsDayLook, IsLookedAt, IsSightAt, IsUnfound}
 use Rattle.msr_making.specs.Making.{DoesDay, IsOwnOfFile}
 use Rattle.msr_making.specs.Places.{AreFileNames, DayPaths, ShowsAllLeft, paths_of}
 use Rattle.msr_making.specs.Stamping.{StampsAsked}
-use Rattle.msr_making.specs.Told.{IsClearedFor, IsClearedThere, IsOutcomeThere, IsRefusedThere}
+use Rattle.msr_making.specs.Told.{IsKeptFor, IsLeftFor, IsOutcomeThere, IsRefusedThere, IsUnshrunk, LeavesSamples, stays_for}
 use Rattle.msr_making.specs.declared.answer.DayEnd.{DayEnd}
 use Rattle.msr_making.specs.declared.answer.DayFault.{DayFault}
-use Rattle.msr_making.specs.declared.answer.DayFault.TheVariants.{CannotOpen, Changed, ClaimedByAnother, Differs, Gone, Larger, Listing, NotShown, Tool}
+use Rattle.msr_making.specs.declared.answer.DayFault.TheVariants.{CannotOpen, Changed, ClaimedByAnother, Differs, Gone, Larger, Listing, NotShown, Shrunk, Tool}
 use Rattle.msr_making.specs.declared.answer.DayOutcome.{DayOutcome}
 use Rattle.msr_making.specs.declared.answer.DayOutcome.TheVariants.{Done, Refused, Same, Young}
 use Rattle.msr_making.specs.declared.answer.Left.{Left}
@@ -31,13 +31,13 @@ use Rattle.msr_making.specs.declared.answer.Stop.{Stop}
 use Rattle.msr_making.specs.declared.answer.Stop.TheVariants as stop
 use Rattle.msr_making.specs.declared.looks.DayLook.{DayLook}
 use Rattle.msr_making.specs.declared.looks.Sight.{Sight}
-use Rattle.msr_making.specs.declared.looks.Sight.TheVariants.{Unknown}
 use Rattle.msr_making.specs.declared.making.Found.{Found}
 use Rattle.msr_making.specs.declared.making.Found.TheVariants.{Ended, Open}
 use Rattle.msr_making.specs.declared.making.Making.{Making}
 use Rattle.msr_making.proofs.Cleared.{unseen_by}
 use Rattle.msr_making.proofs.Owns.{free_kept, more_stamp, none_empty, none_stamp, own_each, own_kept, report_each, report_kept}
 use Rattle.msr_making.proofs.Sights.{day_look_later, looks_kept}
+use Rattle.msr_making.proofs.Untouched.{kept_for, left_claimed, left_then}
 
 -- a refusal said of a day is so later
 refused_later : (asked : DayOptions) (paths : DayPaths) (why : DayFault) (old mid new : List Step) → failures mid ≤ failures new → IsRefusedThere asked paths why old mid → IsRefusedThere asked paths why old new
@@ -46,15 +46,11 @@ refused_later asked paths NotShown old mid new few is = is
 refused_later asked paths Differs old mid new few is = is
 refused_later asked paths Changed old mid new few is = is
 refused_later asked paths (Larger repacked) old mid new few is = is
+refused_later asked paths (Shrunk shrinkage) old mid new few is = is
 refused_later asked paths (Tool fault) old mid new few is = is
 refused_later asked paths ClaimedByAnother old mid new few is = is
 refused_later asked paths Gone old mid new few is = is
 refused_later asked paths Listing old mid new few is = is
-
-cleared_for : (why : DayFault) (paths : DayPaths) (old new : List Step) → IsClearedThere paths old new → IsClearedFor why paths old new
-cleared_for (CannotOpen u) paths old new is = tt
-cleared_for ClaimedByAnother paths old new is = tt
-cleared_for why paths old new is = is
 
 module _ (input : Path) (look : DayLook) (files : DayFiles) (was_left : Bool) (asked : DayOptions) where
   abbrev paths : DayPaths
@@ -67,20 +63,20 @@ module _ (input : Path) (look : DayLook) (files : DayFiles) (was_left : Bool) (a
   module _ (is_free : Bool) (free : is_free ≡ true → (was_left ≡ false) × IsUnfound look) (making : Making) where
     -- it is done
     pub done_so : (repacked : Repacked) (rest : Left) (one mid two : List Step → Type 0) → making.result ≡ Ok repacked
-        → Goes one mid (MakesDay input look.input files is_free asked making) → Goes mid two (StampsAsked look.input files making.is_stored rest)
+        → Goes one mid (MakesDay input look files is_free asked making) → Goes mid two (StampsAsked look.input files making.is_stored rest)
         → Goes one two (DoesFound input look files was_left asked (record { outcome = Ok (Done repacked); left = rest; is_stored = making.is_stored }))
     done_so repacked rest one mid two is first second = goes_both _ _ _ one mid two
         (λ p q r x y. record {
           safe = λ stored is_own is_of names looked settled own has.
-              let so = x.safe stored is_own is_of names looked.input (free_if is_free p free looked settled) own has in
+              let so = x.safe stored is_own is_of names looked (free_if is_free p free looked.are settled) own has in
               joined (HasOwn is_own is_of files) p q r so (own_each files (files.stamp.part ∷ []) (none_stamp files names.names) q r y.changes is_own is_of (at_end (HasOwn is_own is_of files) p q so));
           killed = λ is_own names looked settled own has.
-              let so = x.killed is_own names looked.input (free_if is_free p free looked settled) own has in
+              let so = x.killed is_own names looked (free_if is_free p free looked.are settled) own has in
               joined (HasReport is_own files) p q r so (report_each files (files.stamp.part ∷ []) (none_stamp files names.names) q is_own (at_end (HasReport is_own files) p q so) r y.changes);
           outcome = λ names looked.
               let it = made p q x names looked in
               let none = none_stamp files names.names in
-              inr (record {
+              record {
                 records = it.records;
                 text = it.text;
                 repack = record { input = it.bytes; has_input = it.has_input; answers = it.fit.counted; bytes_read = it.fit.read };
@@ -88,15 +84,16 @@ module _ (input : Path) (look : DayLook) (files : DayFiles) (was_left : Bool) (a
                 has_report = seen_kept (files.stamp.part ∷ []) files.report.path q r none.report y.changes ∙ it.has_report;
                 verified = it.verified;
                 smaller = it.fit.smaller;
-              });
+                unshrunk = it.unshrunk;
+              };
           stamp = λ waits names looked settled.
               let it = made p q x names looked in
               let none = none_stamp files names.names in
               let waiting = y.waits waits in
-              let named = it.named waiting.0 (free_if is_free p free looked settled) in
+              let named = it.named waiting.0 (free_if is_free p free looked.are settled) in
               record {
                 facts = waiting.1.facts;
-                looked = subst (λ (s : Sight). IsSightAt input p s) waiting.1.found looked.input;
+                looked = subst (λ (s : Sight). IsSightAt input p s) waiting.1.found looked.are.input;
                 bytes = it.bytes;
                 records = it.records;
                 text = it.text;
@@ -116,41 +113,38 @@ module _ (input : Path) (look : DayLook) (files : DayFiles) (was_left : Bool) (a
           changes = changes_then (day_paths files) p q r x.changes (changes_more (files.stamp.part ∷ []) (day_paths files) q r (λ n none. more_stamp files n none) y.changes);
         }) first second
       where
-        made : (p q : List Step) → MakesDay input look.input files is_free asked making p q → AreFileNames input files → IsDayLook paths look p → IsMade input files asked is_free making.is_stored repacked p q
+        made : (p q : List Step) → MakesDay input look files is_free asked making p q → AreFileNames input files → IsLookedAt paths look p → IsMade input files asked is_free making.is_stored repacked p q
         made p q x names looked =
-            subst (λ (m : Result Repacked Stop). MadeAs input look.input files asked is_free making.is_stored m p q) is (x.said names looked.input)
+            subst (λ (m : Result Repacked Stop). MadeAs input files asked is_free making.is_stored m p q) is (x.said names looked)
 
     refused_so : (why : DayFault) (outcome : Result DayOutcome AllocError) (p q r : List Step) → failures p ≤ failures q → failures q ≤ failures r → IfOk outcome (λ o. (o ≡ Refused ClaimedByAnother) ⊎ (o ≡ Refused why))
-        → IfOk outcome (λ o. (o ≡ Refused ClaimedByAnother) ⊎ (AreDayNames files → IsClearedThere paths q r)) → AreDayNames files → (look.input ≡ Unknown) ⊎ IsRefusedThere asked paths why p q
-        → IfOk outcome (λ o. (look.input ≡ Unknown) ⊎ IsOutcomeThere asked paths o p r)
-    refused_so why (Ok o) p q r few more says cleared are refused = ⊎_elim (λ u. inl u) (λ is. inr (told is)) refused
+        → IfOk outcome (λ o. (o ≡ Refused ClaimedByAnother) ⊎ (AreDayNames files → IsLeftFor (stays_for asked why) why paths q r)) → AreDayNames files
+        → IsRefusedThere asked paths why p q × IsKeptFor why paths p q → IfOk outcome (λ o. IsOutcomeThere asked paths o p r)
+    refused_so why (Ok o) p q r few more says left are is = ⊎_elim other
+        (λ e. ⊎_elim other
+        (λ so. subst (λ (x : DayOutcome). IsOutcomeThere asked paths x p r) (sym e)
+        (refused_later asked paths why p q r more is.0, left_then paths p q r (stays_for asked why) why few is.1 (so are)))
+        left) says
       where
         other : o ≡ Refused ClaimedByAnother → IsOutcomeThere asked paths o p r
-        other e = subst (λ (x : DayOutcome). IsOutcomeThere asked paths x p r) (sym e) (tt, tt)
-
-        told : IsRefusedThere asked paths why p q → IsOutcomeThere asked paths o p r
-        told is = ⊎_elim other
-            (λ e. ⊎_elim other
-            (λ so. subst (λ (x : DayOutcome). IsOutcomeThere asked paths x p r) (sym e)
-            (refused_later asked paths why p q r more is, cleared_for why paths p r (⊎_elim (λ none. inl none) (λ failed. inr (omega arith)) (so are))))
-            cleared) says
-    refused_so why (Err e) p q r few more says cleared are refused = tt
+        other e = subst (λ (x : DayOutcome). IsOutcomeThere asked paths x p r) (sym e) (tt, left_claimed paths p r asked.keep_old)
+    refused_so why (Err e) p q r few more says left are is = tt
 
     -- it is refused
     pub given_up : (why : DayFault) (end : DayEnd) (is_stored : Bool) (one mid two : List Step → Type 0) → making.result ≡ Err (stop.Refused why) → SaysEnd why end → (is_stored ≡ true → (end.is_stored ≡ true) × (making.is_stored ≡ true)) → (is_stored ≡ false → (end.is_stored ≡ false) ⊎ (making.is_stored ≡ false))
-        → Goes one mid (MakesDay input look.input files is_free asked making) → Goes mid two (GivesUp paths files end)
+        → Goes one mid (MakesDay input look files is_free asked making) → Goes mid two (EndsRefused paths files asked why end)
         → Goes one two (DoesFound input look files was_left asked (record { outcome = end.outcome; left = end.left; is_stored = is_stored }))
     given_up why end is_stored one mid two is says both neither first second = goes_both _ _ _ one mid two
         (λ p q r x y. record {
           safe = λ stored is_own is_of names looked settled own has.
-              let so = x.safe (both stored).1 is_own is_of names looked.input (free_if is_free p free looked settled) own has in
+              let so = x.safe (both stored).1 is_own is_of names looked (free_if is_free p free looked.are settled) own has in
               joined (HasOwn is_own is_of files) p q r so (y.safe (both stored).0 is_own is_of names.names (at_end (HasOwn is_own is_of files) p q so));
           killed = λ is_own names looked settled own has.
-              let so = x.killed is_own names looked.input (free_if is_free p free looked settled) own has in
+              let so = x.killed is_own names looked (free_if is_free p free looked.are settled) own has in
               joined (HasReport is_own files) p q r so (y.killed is_own names.names (at_end (HasReport is_own files) p q so));
           outcome = λ names looked.
-              refused_so why end.outcome p q r (no_fewer (day_paths files) p q x.changes) (no_fewer (day_paths files) q r y.changes) says y.cleared names.names
-              (subst (λ (m : Result Repacked Stop). MadeAs input look.input files asked is_free making.is_stored m p q) is (x.said names looked.input));
+              refused_so why end.outcome p q r (no_fewer (day_paths files) p q x.changes) (no_fewer (day_paths files) q r y.changes) says y.stays names.names
+              (subst (λ (m : Result Repacked Stop). MadeAs input files asked is_free making.is_stored m p q) is (x.said names looked));
           stamp = λ waits names looked settled. absurd (y.unstamped waits);
           unstored = λ not.
               let few = no_fewer (day_paths files) p q x.changes in
@@ -160,12 +154,12 @@ module _ (input : Path) (look : DayLook) (files : DayFiles) (was_left : Bool) (a
         }) first second
 
     -- memory was refused
-    pub stopped_so : (e : AllocError) (one two : List Step → Type 0) → Goes one two (MakesDay input look.input files is_free asked making)
+    pub stopped_so : (e : AllocError) (one two : List Step → Type 0) → Goes one two (MakesDay input look files is_free asked making)
         → Goes one two (DoesFound input look files was_left asked (record { outcome = Err e; left = left.Parts; is_stored = making.is_stored }))
     stopped_so e one two goes = goes_as _ _ one two
         (λ p q x. record {
-          safe = λ stored is_own is_of names looked settled own has. x.safe stored is_own is_of names looked.input (free_if is_free p free looked settled) own has;
-          killed = λ is_own names looked settled own has. x.killed is_own names looked.input (free_if is_free p free looked settled) own has;
+          safe = λ stored is_own is_of names looked settled own has. x.safe stored is_own is_of names looked (free_if is_free p free looked.are settled) own has;
+          killed = λ is_own names looked settled own has. x.killed is_own names looked (free_if is_free p free looked.are settled) own has;
           outcome = λ names looked. tt;
           stamp = λ waits names looked settled. absurd cc;
           unstored = x.unstored;
@@ -186,13 +180,35 @@ module _ (paths : DayPaths) (asked : DayOptions) (old mid new : List Step) (chan
   few : failures old ≤ failures mid
   few = no_fewer [] old mid changes
 
-  cleared_so : IsClearedThere paths mid new → IsClearedThere paths old new
-  cleared_so is = let f = few in ⊎_elim (λ none. inl none) (λ failed. inr (omega arith)) is
+  left_so : (stays : Bool) (why : DayFault) → IsLeftFor stays why paths mid new → IsLeftFor stays why paths old new
+  left_so stays why is = left_then paths old mid new stays why few (kept_for paths old mid why (
+    now_kept [] paths.records old mid tt changes,
+    now_kept [] paths.report old mid tt changes,
+    now_kept [] paths.stamp old mid tt changes,
+  )) is
 
-  for_so : (why : DayFault) → IsClearedFor why paths mid new → IsClearedFor why paths old new
-  for_so (CannotOpen u) is = tt
-  for_so ClaimedByAnother is = tt
-  for_so why is = cleared_so is
+  samples_so : (was : ℕ) → LeavesSamples paths was mid → LeavesSamples paths was old
+  samples_so was is = record {
+    report = is.report;
+    text = is.text;
+    reads = is.reads;
+    has_report = seen_so paths.report _ is.has_report;
+    has_records = subst (λ (x : Option (List ℕ)). IsSome x) (seen_kept [] paths.records old mid tt changes) is.has_records;
+    are = is.are;
+  }
+
+  samples_later : (was : ℕ) → LeavesSamples paths was old → LeavesSamples paths was mid
+  samples_later was is = record {
+    report = is.report;
+    text = is.text;
+    reads = is.reads;
+    has_report = seen_kept [] paths.report old mid tt changes ∙ is.has_report;
+    has_records = subst (λ (x : Option (List ℕ)). IsSome x) (sym (seen_kept [] paths.records old mid tt changes)) is.has_records;
+    are = is.are;
+  }
+
+  unshrunk_so : (repacked : Repacked) → IsUnshrunk asked paths repacked mid → IsUnshrunk asked paths repacked old
+  unshrunk_so repacked is = λ keep was left. is keep was (samples_later was left)
 
   refused_before : (why : DayFault) → IsRefusedThere asked paths why mid new → IsRefusedThere asked paths why old new
   refused_before (CannotOpen u) is = let f = few in ⊎_elim
@@ -228,6 +244,17 @@ module _ (paths : DayPaths) (asked : DayOptions) (old mid new : List Step) (chan
     repack = record { input = is.repack.input; has_input = seen_so paths.input _ is.repack.has_input; answers = is.repack.answers; bytes_read = is.repack.bytes_read };
     only_smaller = is.only_smaller;
     larger = is.larger;
+    unshrunk = unshrunk_so repacked is.unshrunk;
+  }
+  refused_before (Shrunk shrinkage) is = record {
+    repacked = is.repacked;
+    records = is.records;
+    text = is.text;
+    repack = record { input = is.repack.input; has_input = seen_so paths.input _ is.repack.has_input; answers = is.repack.answers; bytes_read = is.repack.bytes_read };
+    keep_old = is.keep_old;
+    left = samples_so shrinkage.was is.left;
+    is = is.is;
+    fewer = is.fewer;
   }
   refused_before (Tool fault) is = record { input = is.input; written = is.written; told = is.told; has_input = seen_so paths.input _ is.has_input; answers = is.answers }
   refused_before ClaimedByAnother is = is
@@ -243,6 +270,7 @@ module _ (paths : DayPaths) (asked : DayOptions) (old mid new : List Step) (chan
     has_report = is.has_report;
     verified = is.verified;
     smaller = is.smaller;
+    unshrunk = unshrunk_so repacked is.unshrunk;
   }
   outcome_before Young is = is
   outcome_before (Same repacked) is = record {
@@ -257,7 +285,7 @@ module _ (paths : DayPaths) (asked : DayOptions) (old mid new : List Step) (chan
       has_records = some_so paths.records _ is.left.has_records;
     };
   }
-  outcome_before (Refused why) is = (refused_before why is.0, for_so why is.1)
+  outcome_before (Refused why) is = (refused_before why is.0, left_so (stays_for asked why) why is.1)
 
 -- of the same names
 pub seeks_at : (a b : DayPaths) (asked : DayOptions) (result : Result Found AllocError) (one two : List Step → Type 0) → a ≡ b → Goes one two (SeeksDay a asked result) → Goes one two (SeeksDay b asked result)
@@ -304,17 +332,17 @@ module _ (input : Path) (files : DayFiles) (was_left : Bool) (asked : DayOptions
     own_later : (is_own : (records report : List ℕ) → Bool) → IsOwnOfFile input asked.options is_own old → IsOwnOfFile input asked.options is_own mid
     own_later is_own own bytes records text report has reported = own bytes records text report (sym (seen_kept [] input old mid tt changes) ∙ has) reported
 
-  outcome_known : (look : DayLook) (result : Result DayOutcome AllocError) (p q r : List Step) → (look.input ≡ Unknown → ⊥) → ChangesFiles [] p q
-      → IfOk result (λ o. (look.input ≡ Unknown) ⊎ IsOutcomeThere asked (paths_of input files) o q r) → IfOk result (λ o. IsOutcomeThere asked (paths_of input files) o p r)
-  outcome_known look (Ok o) p q r known changes is = ⊎_elim (λ u. absurd (known u)) (λ so. outcome_before (paths_of input files) asked p q r changes o so) is
-  outcome_known look (Err e) p q r known changes is = tt
+  outcome_known : (result : Result DayOutcome AllocError) (p q r : List Step) → ChangesFiles [] p q
+      → IfOk result (λ o. IsOutcomeThere asked (paths_of input files) o q r) → IfOk result (λ o. IsOutcomeThere asked (paths_of input files) o p r)
+  outcome_known (Ok o) p q r changes is = outcome_before (paths_of input files) asked p q r changes o is
+  outcome_known (Err e) p q r changes is = tt
 
   -- it is done
   pub day_found : (look : DayLook) (end : DayEnd) (one mid two : List Step → Type 0) → Goes one mid (SeeksDay (paths_of input files) asked (Ok (Open look))) → Goes mid two (DoesFound input look files was_left asked end)
       → Goes one two (DoesDay input files was_left asked end)
   day_found look end one mid two first second = goes_both _ _ _ one mid two
       (λ p q r x y.
-      let looked = day_look_later (paths_of input files) look p q x.changes x.said.0.are in
+      let looked : IsLookedAt (paths_of input files) look q = record { are = day_look_later (paths_of input files) look p q x.changes x.said.0.are; known = x.said.1 } in
       record {
         safe = λ stored is_own is_of names settled own has.
             joined (HasOwn is_own is_of files) p q r (own_each files [] (none_empty files) p q x.changes is_own is_of has)
@@ -322,7 +350,7 @@ module _ (input : Path) (files : DayFiles) (was_left : Bool) (asked : DayOptions
         killed = λ is_own names settled own has.
             joined (HasReport is_own files) p q r (report_each files [] (none_empty files) p is_own has q x.changes)
             (y.killed is_own names looked (settled_later p q x.changes settled) (own_later p q x.changes is_own own) (report_kept files [] (none_empty files) p is_own has q x.changes));
-        outcome = λ names. outcome_known look end.outcome p q r x.said.1 x.changes (y.outcome names looked);
+        outcome = λ names. outcome_known end.outcome p q r x.changes (y.outcome names looked);
         stamp = λ waits names settled.
             let it = y.stamp waits names looked (settled_later p q x.changes settled) in
             record {

@@ -3,11 +3,14 @@ pub mod Cleared
 pub mod Compared
 pub mod Days
 pub mod Ended
+pub mod Fewer
+pub mod Held
 pub mod Lefts
 pub mod Made
 pub mod Owns
 pub mod Seeking
 pub mod Sights
 pub mod Stamped
+pub mod Untouched
 pub mod Verified
 pub mod Written

@@ -1,5 +1,5 @@
 -- A day is prepared, and made.
-use Rattle.std.proofs.Common.{◌≡◌, ◌⊎◌, ◌<◌, ◌≤◌, inl, inr, ⊎_elim, ℕ, Bool, true, false, List, [], refl, sym, ◌∙◌, ap, subst, Result, Ok, Err, Some, OnOk, IsErrOf, IsTrue, length, arith}
+use Rattle.std.proofs.Common.{◌≡◌, ◌<◌, ◌≤◌, inr, ℕ, Bool, true, false, List, [], refl, sym, ◌∙◌, ap, subst, Result, Ok, Err, Some, OnOk, IsErrOf, IsTrue, length, arith}
 use Rattle.msr_options.specs.declared.days.DayOptions.{DayOptions}
 use Rattle.msr_options.specs.declared.hint.Unopened.{Unopened}
 use Rattle.msr_tree.specs.Calls.{Goes}
@@ -18,23 +18,23 @@ use Rattle.msr_naming.specs.declared.fallback.Naming.{Naming}
 use Rattle.msr_naming.specs.declared.files.DayFiles.{DayFiles}
 use Rattle.msr_naming.specs.declared.naming.Stopped.{Stopped}
 use Rattle.msr_naming.specs.declared.files.Name.TheVariants.{RecordsPart, ReportPart}
-use Rattle.msr_making.specs.Ending.{IsNamedAs, MadeAs, MakesDay, NamedAs, PreparedAs, PreparesDay}
-use Rattle.msr_making.specs.Looking.{IsSightAt}
+use Rattle.msr_making.specs.Ending.{IsMadeSide, IsNamedAs, MadeAs, MakesDay, NamedAs, PreparedAs, PreparesDay, WritesHeld}
+use Rattle.msr_making.specs.Looking.{IsLookedAt}
 use Rattle.msr_making.specs.Making.{IsOwnOfFile}
 use Rattle.msr_making.specs.Parts.{part_paths}
-use Rattle.msr_making.specs.Places.{AreFileNames}
+use Rattle.msr_making.specs.Places.{AreFileNames, paths_of}
 use Rattle.msr_making.specs.Verifying.{FailsIfUnopened, VerifiedOf, VerifiesAsked}
-use Rattle.msr_making.specs.Writing.{IfSeen, IsFitOf, IsWrittenTo, WritesDay, WrittenAs}
-use Rattle.msr_making.specs.declared.answer.DayFault.TheVariants.{CannotOpen, Changed, ClaimedByAnother, Differs, Larger, NotShown, Tool}
+use Rattle.msr_making.specs.Writing.{IfSeen, IsFitOf, IsWrittenTo}
+use Rattle.msr_making.specs.declared.answer.DayFault.TheVariants.{CannotOpen, Changed, ClaimedByAnother, Differs, NotShown, Tool}
 use Rattle.msr_making.specs.declared.answer.Repacked.{Repacked}
 use Rattle.msr_making.specs.declared.answer.Stop.{Stop}
 use Rattle.msr_making.specs.declared.answer.Stop.TheVariants.{Memory, Refused}
-use Rattle.msr_making.specs.declared.looks.Sight.{Sight}
-use Rattle.msr_making.specs.declared.looks.Sight.TheVariants.{Unknown}
+use Rattle.msr_making.specs.declared.looks.DayLook.{DayLook}
 use Rattle.msr_making.proofs.Days.{unread_of}
 use Rattle.msr_making.proofs.Owns.{free_kept, more_parts, none_parts, own_each, own_kept, report_each, report_kept}
+use Rattle.msr_making.proofs.Untouched.{kept_for, unless_made, untouched_by}
 
-module _ (input : Path) (sight : Sight) (files : DayFiles) (asked : DayOptions) where
+module _ (input : Path) (look : DayLook) (files : DayFiles) (asked : DayOptions) where
   abbrev l : List Path
   l = part_paths files
 
@@ -42,63 +42,49 @@ module _ (input : Path) (sight : Sight) (files : DayFiles) (asked : DayOptions) 
   own_none : AreFileNames input files → IsNoneOf input l
   own_none names = more_parts files input names.own
 
-  -- what was not written
-  refused_as : (stop : Stop) (old new : List Step) → WrittenAs (IfSeen input old) ((sight ≡ Unknown) ⊎ (failures old < failures new)) files asked (λ bytes. length bytes) (Err stop) new
-      → PreparedAs input sight files asked (Err stop) old new
-  refused_as (Refused (CannotOpen why)) old new is = ⊎_elim (λ unknown. inl unknown) (λ failed. inr (inr failed)) is
-  refused_as (Refused (Larger repacked)) old new is = inr (record {
-    records = is.2.records;
-    text = is.2.text;
-    repack = record { input = is.0; has_input = is.1; answers = is.2.answers.counted; bytes_read = is.2.answers.read };
-    only_smaller = is.2.answers.only_smaller;
-    larger = is.2.answers.larger;
-  })
-  refused_as (Refused (Tool why)) old new is = inr (record { input = is.0; written = is.2.records; told = is.2.text; has_input = is.1; answers = is.2.answers })
-  refused_as (Refused why) old new is = absurd is.2.answers
-  refused_as Memory old new is = tt
-
-  pub not_written : (stop : Stop) (one two : List Step → Type 0) → Goes one two (WritesDay input sight files asked (Err stop)) → Goes one two (PreparesDay input sight files asked (Err stop))
-  not_written stop one two goes = goes_as _ _ one two (λ p q w. record { changes = w.changes; said = λ names at. refused_as stop p q (w.said at) }) goes
+  -- what was not written, or has fewer samples
+  pub not_written : (stop : Stop) (one two : List Step → Type 0) → Goes one two (WritesHeld input look files asked (Err stop)) → Goes one two (PreparesDay input look files asked (Err stop))
+  not_written stop one two goes = goes_as _ _ one two (λ p q w. record { changes = w.changes; said = w.said }) goes
 
   -- what was not verified
   unverified_as : (repacked : Repacked) (stop : Stop) (bytes records text : List ℕ) (old mid new : List Step) → failures old ≤ failures mid → seen old input ≡ Some bytes
       → IsFitOf asked (length bytes) bytes records text repacked → IsTrue asked.check → FailsIfUnopened (Err stop) mid new → VerifiedOf asked.options bytes records text (Err stop)
-      → PreparedAs input sight files asked (Err stop) old new
-  unverified_as repacked (Refused (CannotOpen why)) bytes records text old mid new few has fit check failed is = inr (inr (omega arith))
-  unverified_as repacked (Refused NotShown) bytes records text old mid new few has fit check failed is = inr (record {
+      → PreparedAs input files asked (Err stop) old new
+  unverified_as repacked (Refused (CannotOpen why)) bytes records text old mid new few has fit check failed is = inr (omega arith)
+  unverified_as repacked (Refused NotShown) bytes records text old mid new few has fit check failed is = record {
     repacked = repacked;
     records = records;
     text = text;
     repack = record { input = bytes; has_input = has; answers = fit.counted; bytes_read = fit.read };
     check = check;
     unshown = is;
-  })
-  unverified_as repacked (Refused Differs) bytes records text old mid new few has fit check failed is = inr (record {
+  }
+  unverified_as repacked (Refused Differs) bytes records text old mid new few has fit check failed is = record {
     repacked = repacked;
     records = records;
     text = text;
     repack = record { input = bytes; has_input = has; answers = fit.counted; bytes_read = fit.read };
     check = check;
     other = is;
-  })
-  unverified_as repacked (Refused Changed) bytes records text old mid new few has fit check failed is = inr (record {
+  }
+  unverified_as repacked (Refused Changed) bytes records text old mid new few has fit check failed is = record {
     repacked = repacked;
     records = records;
     text = text;
     repack = record { input = bytes; has_input = has; answers = fit.counted; bytes_read = fit.read };
     check = check;
     other = is;
-  })
+  }
   unverified_as repacked (Refused (Tool why)) bytes records text old mid new few has fit check failed is =
       let rest = unread_of asked.options bytes records text repacked why fit.counted is in
-      inr (record { input = bytes; written = records; told = rest.0; has_input = has; answers = rest.1 })
+      record { input = bytes; written = records; told = rest.0; has_input = has; answers = rest.1 }
   unverified_as repacked (Refused why) bytes records text old mid new few has fit check failed is = absurd is
   unverified_as repacked Memory bytes records text old mid new few has fit check failed is = tt
 
   -- what is seen of what was written
-  module _ (names : AreFileNames input files) (old mid : List Step) (repacked : Repacked) (writes : WritesDay input sight files asked (Ok repacked) old mid) (at : IsSightAt input old sight) where
+  module _ (names : AreFileNames input files) (old mid : List Step) (repacked : Repacked) (writes : WritesHeld input look files asked (Ok repacked) old mid) (at : IsLookedAt (paths_of input files) look old) where
     abbrev wrote : IfSeen input old (λ bytes. IsWrittenTo files asked (length bytes) bytes mid repacked)
-    wrote = writes.said at
+    wrote = (writes.said names at).wrote
 
     ready_at : AreReady files wrote.2.records wrote.2.text mid
     ready_at = wrote.2.ready (names.names.apart RecordsPart ReportPart refl)
@@ -112,33 +98,33 @@ module _ (input : Path) (sight : Sight) (files : DayFiles) (asked : DayOptions) 
     text_at : seen mid files.report.part ≡ Some wrote.2.text
     text_at = seen_ready mid files.report.part wrote.2.text ready_at.report_is
 
-  parts_changes : {A : Result (Unit {0}) Stop} (repacked : Repacked) (old mid new : List Step) → WritesDay input sight files asked (Ok repacked) old mid → VerifiesAsked input files asked A mid new → ChangesFiles l old new
+  parts_changes : {A : Result (Unit {0}) Stop} (repacked : Repacked) (old mid new : List Step) → WritesHeld input look files asked (Ok repacked) old mid → VerifiesAsked input files asked A mid new → ChangesFiles l old new
   parts_changes repacked old mid new writes verifies = changes_then l old mid new writes.changes (changes_more [] l mid new (λ n none. tt) verifies.changes)
 
-  pub not_verified : (repacked : Repacked) (stop : Stop) (one mid two : List Step → Type 0) → IsTrue asked.check → Goes one mid (WritesDay input sight files asked (Ok repacked))
-      → Goes mid two (VerifiesAsked input files asked (Err stop)) → Goes one two (PreparesDay input sight files asked (Err stop))
+  pub not_verified : (repacked : Repacked) (stop : Stop) (one mid two : List Step → Type 0) → IsTrue asked.check → Goes one mid (WritesHeld input look files asked (Ok repacked))
+      → Goes mid two (VerifiesAsked input files asked (Err stop)) → Goes one two (PreparesDay input look files asked (Err stop))
   not_verified repacked stop one mid two check first second = goes_both _ _ _ one mid two
       (λ p q r w v. record {
         changes = parts_changes {A = Err stop} repacked p q r w v;
         said = λ names at.
-            let wrote_it = w.said at in
+            let wrote_it = (w.said names at).wrote in
             unverified_as repacked stop wrote_it.0 wrote_it.2.records wrote_it.2.text p q r (no_fewer l p q w.changes) wrote_it.1 wrote_it.2.fit check v.failed
             (v.said wrote_it.0 wrote_it.2.records wrote_it.2.text (input_at names p q repacked w at) (records_at names p q repacked w at) (text_at names p q repacked w at) check);
       }) first second
 
   -- another walk has it
-  pub not_held : (repacked : Repacked) (one mid two : List Step → Type 0) → Goes one mid (WritesDay input sight files asked (Ok repacked))
-      → Goes mid two (VerifiesAsked input files asked (Ok tt)) → Goes one two (PreparesDay input sight files asked (Err (Refused ClaimedByAnother)))
+  pub not_held : (repacked : Repacked) (one mid two : List Step → Type 0) → Goes one mid (WritesHeld input look files asked (Ok repacked))
+      → Goes mid two (VerifiesAsked input files asked (Ok tt)) → Goes one two (PreparesDay input look files asked (Err (Refused ClaimedByAnother)))
   not_held repacked one mid two first second = goes_both _ _ _ one mid two
-      (λ p q r w v. record { changes = parts_changes {A = Ok tt} repacked p q r w v; said = λ names at. inr tt }) first second
+      (λ p q r w v. record { changes = parts_changes {A = Ok tt} repacked p q r w v; said = λ names at. tt }) first second
 
-  pub prepared : (repacked : Repacked) (one mid two : List Step → Type 0) → Goes one mid (WritesDay input sight files asked (Ok repacked))
-      → Goes mid two (VerifiesAsked input files asked (Ok tt)) → Goes one two (PreparesDay input sight files asked (Ok repacked))
+  pub prepared : (repacked : Repacked) (one mid two : List Step → Type 0) → Goes one mid (WritesHeld input look files asked (Ok repacked))
+      → Goes mid two (VerifiesAsked input files asked (Ok tt)) → Goes one two (PreparesDay input look files asked (Ok repacked))
   prepared repacked one mid two first second = goes_both _ _ _ one mid two
       (λ p q r w v. record {
         changes = parts_changes {A = Ok tt} repacked p q r w v;
         said = λ names at.
-            let wrote_it = w.said at in
+            let wrote_it = (w.said names at).wrote in
             let ready = ready_at names p q repacked w at in
             record {
               bytes = wrote_it.0;
@@ -147,6 +133,7 @@ module _ (input : Path) (sight : Sight) (files : DayFiles) (asked : DayOptions) 
               has_input = wrote_it.1;
               fit = wrote_it.2.fit;
               verified = λ check. v.said wrote_it.0 wrote_it.2.records wrote_it.2.text (input_at names p q repacked w at) (records_at names p q repacked w at) (text_at names p q repacked w at) check;
+              unshrunk = (w.said names at).unshrunk;
               ready = record {
                 records_are = ready_kept [] files.records.part wrote_it.2.records q r tt v.changes ready.records_are;
                 report_is = ready_kept [] files.report.part wrote_it.2.text q r tt v.changes ready.report_is;
@@ -156,22 +143,22 @@ module _ (input : Path) (sight : Sight) (files : DayFiles) (asked : DayOptions) 
 
   -- what was prepared gets its names
   module _ (is_free : Bool) where
-    pub not_made : (stop : Stop) (one two : List Step → Type 0) → Goes one two (PreparesDay input sight files asked (Err stop))
-        → Goes one two (MakesDay input sight files is_free asked (record { result = Err stop; is_stored = true }))
+    pub not_made : (stop : Stop) (one two : List Step → Type 0) → Goes one two (PreparesDay input look files asked (Err stop))
+        → Goes one two (MakesDay input look files is_free asked (record { result = Err stop; is_stored = true }))
     not_made stop one two goes = goes_as _ _ one two (λ p q prepares. record {
       safe = λ is is_own is_of names at free own has. own_each files l (none_parts files names.names) p q prepares.changes is_own is_of has;
       killed = λ is_own names at free own has. report_each files l (none_parts files names.names) p is_own has q prepares.changes;
-      said = λ names at. by_stop stop p q (prepares.said names at);
+      said = λ names at. by_stop stop p q names prepares.changes (prepares.said names at);
       unstored = λ not. absurd cc;
       changes = changes_more l (day_paths files) p q (λ n none. more_parts files n none) prepares.changes;
     }) goes
       where
-        by_stop : (why : Stop) (p q : List Step) → PreparedAs input sight files asked (Err why) p q → MadeAs input sight files asked is_free true (Err why) p q
-        by_stop (Refused why) p q is = is
-        by_stop Memory p q is = tt
+        by_stop : (why : Stop) (p q : List Step) → AreFileNames input files → ChangesFiles l p q → PreparedAs input files asked (Err why) p q → MadeAs input files asked is_free true (Err why) p q
+        by_stop (Refused why) p q names changes is = (is, kept_for (paths_of input files) p q why (untouched_by input files l (none_parts files names.names) p q changes))
+        by_stop Memory p q names changes is = tt
 
-    module _ (repacked : Repacked) (naming : Naming) (old mid new : List Step) (prepares : PreparesDay input sight files asked (Ok repacked) old mid) (names_it : NamesDay files is_free naming mid new) where
-      own_parts : (is_own : (records report : List ℕ) → Bool) → AreFileNames input files → IsSightAt input old sight → IsOwnOfFile input asked.options is_own old → HaveOwnParts files is_own mid
+    module _ (repacked : Repacked) (naming : Naming) (old mid new : List Step) (prepares : PreparesDay input look files asked (Ok repacked) old mid) (names_it : NamesDay files is_free naming mid new) where
+      own_parts : (is_own : (records report : List ℕ) → Bool) → AreFileNames input files → IsLookedAt (paths_of input files) look old → IsOwnOfFile input asked.options is_own old → HaveOwnParts files is_own mid
       own_parts is_own names at own =
           let it = prepares.said names at in
           record { records = it.records; report = it.text; ready = it.ready; own = own it.bytes it.records it.text it.fit.counted.report it.has_input it.fit.counted.reported }
@@ -181,17 +168,18 @@ module _ (input : Path) (sight : Sight) (files : DayFiles) (asked : DayOptions) 
 
       made_as : (answer : Result (Unit {0}) TreeFault) (result : Result Repacked Stop) → NamedAs repacked answer result → OnOk answer (AreDayNames files → SeesNames files mid new)
           → OnOk answer (naming.is_stored ≡ true → AreDayNames files → IsFreeIf is_free files mid → GivesNames files mid new) → (IsErrOf answer fault.Failed → failures mid < failures new)
-          → AreFileNames input files → IsSightAt input old sight → MadeAs input sight files asked is_free naming.is_stored result old new
+          → AreFileNames input files → IsLookedAt (paths_of input files) look old → MadeAs input files asked is_free naming.is_stored result old new
       made_as (Ok x) result is sees gives cause names at =
           let it = prepares.said names at in
           let both = sees names.names it.records it.text it.ready in
-          subst (λ (r : Result Repacked Stop). MadeAs input sight files asked is_free naming.is_stored r old new) (sym is) (record {
+          subst (λ (r : Result Repacked Stop). MadeAs input files asked is_free naming.is_stored r old new) (sym is) (record {
             bytes = it.bytes;
             records = it.records;
             text = it.text;
             has_input = it.has_input;
             fit = it.fit;
             verified = it.verified;
+            unshrunk = it.unshrunk;
             has_records = both.0;
             has_report = both.1;
             named = λ stored free. (gives stored names.names (free_mid names.names free)).named it.records it.text it.ready;
@@ -199,11 +187,11 @@ module _ (input : Path) (sight : Sight) (files : DayFiles) (asked : DayOptions) 
       made_as (Err fault.Failed) result is sees gives cause names at =
           let few = no_fewer l old mid prepares.changes in
           let more = cause refl in
-          subst (λ (r : Result Repacked Stop). MadeAs input sight files asked is_free naming.is_stored r old new) (sym is.1) (inr (inr (omega arith)))
+          subst (λ (r : Result Repacked Stop). MadeAs input files asked is_free naming.is_stored r old new) (sym is.2) (inr (omega arith), unless_made is.0.side _ is.1)
       made_as (Err fault.Memory) result is sees gives cause names at =
-          subst (λ (r : Result Repacked Stop). MadeAs input sight files asked is_free naming.is_stored r old new) (sym is) tt
+          subst (λ (r : Result Repacked Stop). MadeAs input files asked is_free naming.is_stored r old new) (sym is) tt
 
-      pub made_named : (result : Result Repacked Stop) → IsNamedAs naming repacked result → MakesDay input sight files is_free asked (record { result = result; is_stored = naming.is_stored }) old new
+      pub made_named : (result : Result Repacked Stop) → IsNamedAs naming repacked result → MakesDay input look files is_free asked (record { result = result; is_stored = naming.is_stored }) old new
       made_named result is = record {
         safe = λ stored is_own is_of names at free own has.
             joined (HasOwn is_own is_of files) old mid new
@@ -219,18 +207,18 @@ module _ (input : Path) (sight : Sight) (files : DayFiles) (asked : DayOptions) 
       }
 
     pub made : (repacked : Repacked) (naming : Naming) (result : Result Repacked Stop) (one mid two : List Step → Type 0) → IsNamedAs naming repacked result
-        → Goes one mid (PreparesDay input sight files asked (Ok repacked)) → Goes mid two (NamesDay files is_free naming)
-        → Goes one two (MakesDay input sight files is_free asked (record { result = result; is_stored = naming.is_stored }))
+        → Goes one mid (PreparesDay input look files asked (Ok repacked)) → Goes mid two (NamesDay files is_free naming)
+        → Goes one two (MakesDay input look files is_free asked (record { result = result; is_stored = naming.is_stored }))
     made repacked naming result one mid two is first second = goes_both _ _ _ one mid two (λ p q r x y. made_named repacked naming p q r x y result is) first second
 
 -- names were given, or not
 pub named_well : (naming : Naming) (repacked : Repacked) (x : Unit {0}) → naming.answer ≡ Ok x → IsNamedAs naming repacked (Ok repacked)
 named_well naming repacked x is = subst (λ (a : Result (Unit {0}) Stopped). NamedAs repacked (told a) (Ok repacked)) (sym is) refl
 
-pub named_failed : (naming : Naming) (repacked : Repacked) (stopped : Stopped) (u : Unopened) → naming.answer ≡ Err stopped → stopped.fault ≡ fault.Failed → IsNamedAs naming repacked (Err (Refused (CannotOpen u)))
-named_failed naming repacked stopped u is why =
+pub named_failed : (naming : Naming) (repacked : Repacked) (stopped : Stopped) (u : Unopened) → IsMadeSide u.side → naming.answer ≡ Err stopped → stopped.fault ≡ fault.Failed → IsNamedAs naming repacked (Err (Refused (CannotOpen u)))
+named_failed naming repacked stopped u side is why =
     let e : told naming.answer ≡ Err fault.Failed = ap told is ∙ ap (λ f. Err f) why in
-    subst (λ (a : Result (Unit {0}) TreeFault). NamedAs repacked a (Err (Refused (CannotOpen u)))) (sym e) (u, refl)
+    subst (λ (a : Result (Unit {0}) TreeFault). NamedAs repacked a (Err (Refused (CannotOpen u)))) (sym e) (u, side, refl)
 
 pub named_memory : (naming : Naming) (repacked : Repacked) (stopped : Stopped) → naming.answer ≡ Err stopped → stopped.fault ≡ fault.Memory → IsNamedAs naming repacked (Err Memory)
 named_memory naming repacked stopped is why =

@@ -9,20 +9,20 @@ use Rattle.msr_tree.specs.Steps.{Path, Step}
 use Rattle.msr_making.specs.Day.{IsKept}
 use Rattle.msr_making.specs.Ending.{SaysFound, SeeksDay}
 use Rattle.msr_making.specs.Keeping.{AsksForKept}
-use Rattle.msr_making.specs.Looking.{Asks, AsksForShared, FindsBeside, FindsDay, HasUnknown, IsDayLook, SaysDay, SeesAt}
+use Rattle.msr_making.specs.Looking.{Asks, AsksForShared, FindsBeside, FindsDay, HasUnknown, IsDayLook, IsKnown, SaysDay, SeesAt}
 use Rattle.msr_making.specs.Making.{LooksForSame}
 use Rattle.msr_making.specs.Places.{DayPaths}
-use Rattle.msr_making.specs.Told.{IsLeftThere, IsSameThere}
+use Rattle.msr_making.specs.Told.{IsLeftFor, IsLeftThere, IsSameThere}
 use Rattle.msr_making.specs.declared.answer.DayFault.TheVariants.{CannotOpen}
 use Rattle.msr_making.specs.declared.answer.DayOutcome.TheVariants.{Refused, Same}
 use Rattle.msr_making.specs.declared.answer.Repacked.{Repacked}
 use Rattle.msr_making.specs.declared.looks.DayLook.{DayLook}
 use Rattle.msr_making.specs.declared.looks.Sight.{Sight}
-use Rattle.msr_making.specs.declared.looks.Sight.TheVariants.{Unknown}
 use Rattle.msr_making.specs.declared.making.Found.TheVariants.{Ended, Open}
 use Rattle.msr_naming.proofs.FallingBack.{goes_both}
 use Rattle.msr_tree.specs.Calls.{AreOneFile}
 use Rattle.msr_tree.proofs.Filing.{changes_none, changes_then, no_fewer, now_kept, seen_kept}
+use Rattle.msr_making.proofs.Untouched.{left_untouched}
 use Rattle.msr_making.proofs.Sights.{asks_as, asks_then, day_look_later, found_day, said_nothing}
 
 abbrev given : {A : Type 0} → A → Result A AllocError
@@ -33,8 +33,16 @@ said_then : (paths : DayPaths) (look : DayLook) (old mid new : List Step) → Ch
 said_then paths look old mid new changes said = record { are = said.are; failed = λ u. let few = no_fewer [] mid new changes in let more = said.failed u in omega arith }
 
 module _ (paths : DayPaths) (asked : DayOptions) (look : DayLook) where
+  -- nothing was made
+  untouched : (u : Unopened) (p q : List Step) → ChangesFiles [] p q → IsLeftFor asked.keep_old (CannotOpen u) paths p q
+  untouched u p q changes = left_untouched paths p q asked.keep_old (CannotOpen u) (
+    now_kept [] paths.records p q tt changes,
+    now_kept [] paths.report p q tt changes,
+    now_kept [] paths.stamp p q tt changes,
+  ) tt
+
   pub found_unknown : (u : Unopened) (one two : List Step → Type 0) → HasUnknown look → Goes one two (FindsDay paths (Ok look)) → Goes one two (SeeksDay paths asked (Ok (Ended (Refused (CannotOpen u)))))
-  found_unknown u one two unknown goes = asks_as _ (SaysFound paths asked) (given look) (given (Ended (Refused (CannotOpen u)))) one two (λ p q x said. (inr (said.failed unknown), tt)) goes
+  found_unknown u one two unknown goes = asks_as _ (SaysFound paths asked) (given look) (given (Ended (Refused (CannotOpen u)))) one two (λ p q x said. (inr (said.failed unknown), untouched u p q x)) goes
 
   pub found_shared : (u : Unopened) (answer : Bool) (one mid two : List Step → Type 0) → answer ≡ true → Goes one mid (FindsDay paths (Ok look)) → Goes mid two (AsksForShared paths (Ok answer))
       → Goes one two (SeeksDay paths asked (Ok (Ended (Refused (CannotOpen u)))))
@@ -44,14 +52,14 @@ module _ (paths : DayPaths) (asked : DayOptions) (look : DayLook) where
         ⊎_elim
             (λ one. inl (⊎_elim (λ a. inl (one_before p q x paths.records a)) (λ b. inr (⊎_elim (λ a. inl (one_before p q x paths.report a)) (λ a. inr (one_before p q x paths.stamp a)) b)) one))
             (λ failed. inr (omega arith)) (shared is),
-        tt,
+        untouched u p r (changes_then [] p q r x y),
       )) first second
     where
       one_before : (p q : List Step) → ChangesFiles [] p q → (path : Path) → AreOneFile paths.input path q → AreOneFile paths.input path p
       one_before p q x path is = (is.0, sym (now_kept [] paths.input p q tt x) ∙ is.1, sym (now_kept [] path p q tt x) ∙ is.2)
 
   -- it is to be made
-  pub found_open : {A : Type 0} (Second : (old new : List Step) → A → Type 0) (second : Result A AllocError) (one mid two : List Step → Type 0) → (look.input ≡ Unknown → ⊥) → Goes one mid (FindsDay paths (Ok look)) → Goes mid two (Asks Second second)
+  pub found_open : {A : Type 0} (Second : (old new : List Step) → A → Type 0) (second : Result A AllocError) (one mid two : List Step → Type 0) → IsKnown look → Goes one mid (FindsDay paths (Ok look)) → Goes mid two (Asks Second second)
       → Goes one two (SeeksDay paths asked (Ok (Open look)))
   found_open Second second one mid two known first last = asks_then _ Second (SaysFound paths asked) (given look) second (given (Open look)) one mid two
       (λ p q r x y said other. (said_then paths look p q r y said, known)) first last

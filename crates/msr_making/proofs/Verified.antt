@@ -1,5 +1,5 @@
 -- What was written of a day is read again.
-use Rattle.std.proofs.Common.{◌≡◌, ◌⊎◌, ⊎_elim, ◌≤◌, ℕ, false, List, [], refl, sym, ◌∙◌, subst, Result, Ok, Err, Some, IfOk, arith}
+use Rattle.std.proofs.Common.{◌≡◌, ⊎_elim, ◌≤◌, ℕ, false, List, [], refl, sym, ◌∙◌, subst, Result, Ok, Err, Some, IfOk, arith}
 use Rattle.msr_devices.specs.Device.{Device, HasLeft, unused}
 use Rattle.msr_options.specs.Choice.{Choice}
 use Rattle.msr_options.specs.declared.days.DayOptions.{DayOptions}

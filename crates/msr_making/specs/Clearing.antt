@@ -45,7 +45,7 @@ pub record EndsRefused (paths : DayPaths) (files : DayFiles) (asked : DayOptions
       → AreDayNames files → HasOwn is_own is_of files old → AtEachMoment (HasOwn is_own is_of files) old new
   pub killed : (is_own : (records report : List ℕ) → Bool) → AreDayNames files
       → HasReport is_own files old → AtEachMoment (HasReport is_own files) old new
-  pub left : IfOk end.outcome (λ outcome. (outcome ≡ Refused ClaimedByAnother) ⊎ (AreDayNames files → IsLeftFor (stays_for asked why) why paths old new))
+  pub stays : IfOk end.outcome (λ outcome. (outcome ≡ Refused ClaimedByAnother) ⊎ (AreDayNames files → IsLeftFor (stays_for asked why) why paths old new))
   pub unstamped : end.left ≡ left.Stamp → ⊥
   pub unstored : end.is_stored ≡ false → failures old < failures new
   pub changes : ChangesFiles (day_paths files) old new

@@ -1,5 +1,5 @@
 -- What a look at the names of a day tells.
-use Rattle.std.specs.Prelude.{◌≡◌, ◌<◌, ◌⊎◌, Bool, true, List, [], None, Some, IfOk, Result}
+use Rattle.std.specs.Prelude.{◌≡◌, ◌≢◌, ◌<◌, ◌⊎◌, Bool, true, List, [], None, Some, IfOk, Result}
 use Rattle.std.specs.declared.alloc.AllocError.{AllocError}
 use Rattle.msr_tree.specs.Calls.{AreOneFile, Looks}
 use Rattle.msr_tree.specs.Folders.{ChangesFiles}
@@ -22,6 +22,10 @@ IsSightAt path past Unknown = Unit {0}
 pub record IsRegular (sight : Sight) (facts : Facts) : Type 0 where
   pub found : sight ≡ Found facts
   pub regular : facts.kind ≡ Regular
+
+-- and what else was found is none
+abbrev pub IsIrregular : Sight → Type 0
+IsIrregular sight = (facts : Facts) → sight ≡ Found facts → facts.kind ≢ Regular
 
 -- of a day those that are looked at for what an earlier walk left
 pub record AreRegular (look : DayLook) (facts : DayFacts) : Type 0 where

@@ -78,12 +78,17 @@ abbrev pub HeldFor : DayPaths → DayLook → DayOptions → Repacked → (writt
 HeldFor paths look asked repacked written result old new =
     ((result ≡ written) × IsNoFewer paths look asked repacked old) ⊎ (IsFewer paths asked repacked result old ⊎ IsUntold result old new)
 
+-- the counts of a day that was repacked
+abbrev pub counts_of : Result Repacked Stop → Option Repacked
+counts_of (Ok repacked) = Some repacked
+counts_of (Err (Refused (Larger repacked))) = Some repacked
+counts_of (Err stop) = None
+
 -- what was written of a day is told again, unless it has fewer samples
-abbrev pub HeldAgainst : DayPaths → DayLook → DayOptions → (written result : Result Repacked Stop) → (old new : List Step) → Type 0
-HeldAgainst paths look asked (Ok repacked) result old new = HeldFor paths look asked repacked (Ok repacked) result old new
-HeldAgainst paths look asked (Err (Refused (Larger repacked))) result old new = HeldFor paths look asked repacked (Err (Refused (Larger repacked))) result old new
-HeldAgainst paths look asked (Err stop) result old new = result ≡ Err stop
+abbrev pub HeldAgainst : DayPaths → DayLook → DayOptions → (counts : Option Repacked) → (written result : Result Repacked Stop) → (old new : List Step) → Type 0
+HeldAgainst paths look asked (Some repacked) written result old new = HeldFor paths look asked repacked written result old new
+HeldAgainst paths look asked None written result old new = result ≡ written
 
 pub record HoldsAgainst (files : DayFiles) (look : DayLook) (asked : DayOptions) (written result : Result Repacked Stop) (old new : List Step) : Type 0 where
   pub changes : ChangesFiles [] old new
-  pub said : (input : Path) → IsDayLook (paths_of input files) look old → HeldAgainst (paths_of input files) look asked written result old new
+  pub said : (input : Path) → IsDayLook (paths_of input files) look old → HeldAgainst (paths_of input files) look asked (counts_of written) written result old new

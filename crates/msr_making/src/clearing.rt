@@ -115,6 +115,17 @@ fn clear_day<T: Tree>(
     }
 }
 
+/// Whether the next walk sees that something may be left of a day: if a walk was killed that had it, only if something is
+/// seen. Else that is known by the claim alone.
+fn shows_left<T: Tree>(tree: &mut T, places: Places<'_>, was_left: bool) -> bool
+    ensures { Goes (T.went tree.old) (T.went tree.new) (ChangesFiles []) }
+{
+    if !was_left {
+        return true;
+    }
+    is_seen(tree, places)
+}
+
 /// Whether what an earlier walk left of a day stays that is refused for that: not if it is only no smaller.
 fn stays(asked: &DayOptions, why: DayFault) -> bool
     ensures { result ≡ stays_for asked.now why }
@@ -148,9 +159,10 @@ pub(crate) fn give_up<T: Tree, H: Hold>(
         };
     }
     if stays(asked, why) {
+        let is_shown = shows_left(tree, places_of(input, files), was_left);
         return DayEnd {
             outcome: Ok(DayOutcome::Refused(why)),
-            left: Left::of_swept(is_swept),
+            left: Left::of_swept(is_shown & is_swept),
             is_stored: true,
         };
     }

@@ -1,7 +1,7 @@
 //! What stands under the names of a day.
-ghost use Rattle.std.specs.Prelude.{◌≡◌, IfSome, false, true};
+ghost use Rattle.std.specs.Prelude.{◌≡◌, IfSome, None, false, true};
 ghost use Rattle.msr_tree.specs.Calls.{Goes};
-ghost use Rattle.msr_making.specs.Looking.{AreRegular, AsksForOne, AsksForShared, FindsBeside, FindsDay, HasUnknown, IsKnown, IsRegular, IsUnfound, SeesAt};
+ghost use Rattle.msr_making.specs.Looking.{AreRegular, AsksForOne, AsksForShared, FindsBeside, FindsDay, HasUnknown, IsIrregular, IsKnown, IsRegular, IsUnfound, SeesAt};
 ghost use Rattle.msr_making.specs.Places.{paths_at};
 
 use crate::places::Places;
@@ -21,7 +21,8 @@ pub(crate) enum Sight {
 impl Sight {
     /// What was told of a regular file.
     pub(crate) fn regular(self) -> Option<Facts>
-        ensures { IfSome result (IsRegular self) }
+        ensures found { IfSome result (IsRegular self) }
+        ensures none { result ≡ None → IsIrregular self }
     {
         match self {
             Sight::Found(facts) if facts.kind == Kind::Regular => Some(facts),
@@ -39,7 +40,8 @@ impl Sight {
     }
 
     fn is_unknown(self) -> bool
-        ensures { result ≡ true → self ≡ Sight.Unknown }
+        ensures yes { result ≡ true → self ≡ Sight.Unknown }
+        ensures no { result ≡ false → self ≡ Sight.Unknown → ⊥ }
     {
         match self {
             Sight::Unknown => true,
@@ -106,7 +108,7 @@ impl DayLook {
             Sight::Unknown => true,
             Sight::Nothing => false,
             Sight::Found(_) => {
-                self.records.is_unknown() || self.report.is_unknown() || self.stamp.is_unknown()
+                self.records.is_unknown() | self.report.is_unknown() | self.stamp.is_unknown()
             }
         }
     }

@@ -1,9 +1,9 @@
 //! Whether a day has fewer samples than an earlier walk left of it.
-ghost use Rattle.std.specs.Prelude.{IfErr, IfOk, IfSome, IsTrue};
+ghost use Rattle.std.specs.Prelude.{◌≡◌, IfErr, IfOk, IfSome, IsTrue, Some};
 ghost use Rattle.msr_devices.specs.Device.{CanCountCall};
 ghost use Rattle.msr_tree.specs.Calls.{Goes};
 ghost use Rattle.msr_making.specs.Ending.{WasHeld, WritesHeld};
-ghost use Rattle.msr_making.specs.Shrinking.{AsksForLeft, HoldsAgainst, IsStopOfReading, ReadsSamples};
+ghost use Rattle.msr_making.specs.Shrinking.{AsksForLeft, HoldsAgainst, IsStopOfReading, ReadsSamples, counts_of};
 ghost use Rattle.msr_making.specs.Writing.{WasRepacked};
 
 use crate::answer::{DayFault, Repacked, Shrinkage, Stop};
@@ -46,7 +46,10 @@ fn samples_left<T: Tree>(
     ensures stops { IfErr result IsStopOfReading }
     ensures goes { Goes (T.went tree.old) (T.went tree.new) (AsksForLeft files.now look.now asked.now result) }
 {
-    if !asked.keep_old || look.records.regular().is_none() {
+    if !asked.keep_old {
+        return Ok(None);
+    }
+    if look.records.regular().is_none() {
         return Ok(None);
     }
     let Some(facts) = look.report.regular() else {
@@ -58,7 +61,39 @@ fn samples_left<T: Tree>(
     samples_told(alloc, &mut source)
 }
 
-/// Holds what was written of a day against what an earlier walk left of it, if that is to stay.
+/// The same answer of a day with these counts, unless it has fewer samples than an earlier walk left and that is to stay.
+fn held_for<T: Tree>(
+    tree: &mut T,
+    alloc: Global,
+    files: &DayFiles,
+    look: &DayLook,
+    asked: &DayOptions,
+    repacked: Repacked,
+    written: Result<Repacked, Stop>,
+) -> Result<Repacked, Stop>
+    requires { counts_of written ≡ Some repacked }
+    ensures told { WasRepacked asked.now written → WasHeld asked.now result }
+    ensures goes { Goes (T.went tree.old) (T.went tree.new) (HoldsAgainst files.now look.now asked.now written result) }
+{
+    let is = repacked.samples;
+    match samples_left(tree, alloc, files, look, asked)? {
+        Some(was) if is < was => Err(Stop::Refused(DayFault::Shrunk(Shrinkage { was, is }))),
+        _ => written,
+    }
+}
+
+/// The counts of a day that was repacked.
+fn counts_of(written: Result<Repacked, Stop>) -> Option<Repacked>
+    ensures { result ≡ counts_of written }
+{
+    match written {
+        Ok(repacked) => Some(repacked),
+        Err(Stop::Refused(DayFault::Larger(repacked))) => Some(repacked),
+        Err(_) => None,
+    }
+}
+
+/// The same answer of what was written of a day, with the same exception.
 fn held_against<T: Tree>(
     tree: &mut T,
     alloc: Global,
@@ -70,14 +105,9 @@ fn held_against<T: Tree>(
     ensures told { WasRepacked asked.now written → WasHeld asked.now result }
     ensures goes { Goes (T.went tree.old) (T.went tree.new) (HoldsAgainst files.now look.now asked.now written result) }
 {
-    let is = match written {
-        Ok(repacked) => repacked.samples,
-        Err(Stop::Refused(DayFault::Larger(repacked))) => repacked.samples,
-        Err(_) => return written,
-    };
-    match samples_left(tree, alloc, files, look, asked)? {
-        Some(was) if is < was => Err(Stop::Refused(DayFault::Shrunk(Shrinkage { was, is }))),
-        _ => written,
+    match counts_of(written) {
+        Some(repacked) => held_for(tree, alloc, files, look, asked, repacked, written),
+        None => written,
     }
 }
 

@@ -71,7 +71,7 @@ abbrev pub is_skipped : Outcome → Bool
 is_skipped (Skipped fault) = true
 is_skipped _ = false
 
--- refused, or not kept since it is not shown or not the same data
+-- refused, or not kept since it is not shown, not the same data, or fewer samples
 abbrev pub is_refused : Outcome → Bool
 is_refused (Refused (Larger repacked)) = false
 is_refused (Refused why) = true

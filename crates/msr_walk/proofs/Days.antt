@@ -1,14 +1,15 @@
 -- What becomes of days.
-use Rattle.std.proofs.Common.{◌≡◌, ℕ, refl, sym, subst, Bool, false, IfOk, List, [], Option, Some, Result, Ok, Err}
+use Rattle.std.proofs.Common.{◌≡◌, ℕ, refl, sym, subst, Bool, true, false, IfOk, List, [], Option, Some, Result, Ok, Err}
 use Rattle.msr_folders.proofs.WalkedLemmas.{goes_none, goes_so, goes_then}
 use Rattle.msr_kinds.specs.declared.lengths.Length.{Length}
 use Rattle.msr_making.specs.Day.{AsksForAge, IsDayOutcome}
 use Rattle.msr_making.specs.Making.{DoesDay, LooksForSame}
 use Rattle.msr_tree.specs.Folders.{ChangesFiles}
-use Rattle.msr_making.specs.Told.{IsOutcomeThere}
+use Rattle.msr_making.proofs.Untouched.{left_claimed, left_untouched}
+use Rattle.msr_making.specs.Told.{AreUntouched, IsLeftFor, IsOutcomeThere, UnlessMade}
 use Rattle.msr_making.specs.declared.answer.DayEnd.{DayEnd}
 use Rattle.msr_making.specs.declared.answer.DayFault.{DayFault}
-use Rattle.msr_making.specs.declared.answer.DayFault.TheVariants.{CannotOpen, Changed, ClaimedByAnother, Differs, Gone, Larger, Listing, NotShown, Tool}
+use Rattle.msr_making.specs.declared.answer.DayFault.TheVariants.{CannotOpen, Changed, ClaimedByAnother, Differs, Gone, Larger, Listing, NotShown, Shrunk, Tool}
 use Rattle.msr_making.specs.declared.answer.DayOutcome.{DayOutcome}
 use Rattle.msr_making.specs.declared.answer.DayOutcome.TheVariants as outcomes
 use Rattle.msr_making.specs.Places.{DayPaths}
@@ -18,6 +19,8 @@ use Rattle.msr_naming.specs.declared.files.DayFiles.{DayFiles}
 use Rattle.msr_options.specs.Days.{in_length}
 use Rattle.std.specs.declared.alloc.AllocError.{AllocError}
 use Rattle.msr_options.specs.declared.days.DayOptions.{DayOptions}
+use Rattle.msr_options.specs.declared.hint.Side.{Side}
+use Rattle.msr_options.specs.declared.hint.Side.TheVariants.{Records}
 use Rattle.msr_options.specs.declared.hint.Unopened.{Unopened}
 use Rattle.msr_folders.proofs.WithinLemmas.{within_none, within_then}
 use Rattle.msr_folders.specs.Within.{ChangesWithin}
@@ -40,28 +43,41 @@ looks_work out reports names asked result old new looks = works_only out reports
 pub length_works : (out reports : Path) (old new : List Step) → ChangesFiles [] old new → WorksWithin out reports old new
 length_works out reports old new leaves = works_only out reports [] old new (λ name lacks none. tt) leaves.changes leaves.folders
 
+-- with another reason
+left_again : (stays : Bool) (paths : DayPaths) (one other : Unopened) (old new : List Step) → other.side ≡ one.side → IsLeftFor stays (CannotOpen one) paths old new → IsLeftFor stays (CannotOpen other) paths old new
+left_again true paths one other old new same is = subst (λ (s : Side). UnlessMade s (AreUntouched paths old new)) (sym same) is
+left_again false paths one other old new same is = tt
+
+-- records that were not made
+left_unmade : (stays : Bool) (paths : DayPaths) (unopened : Unopened) (old new : List Step) → unopened.side ≡ Records → IsLeftFor stays (CannotOpen unopened) paths old new
+left_unmade true paths unopened old new is = subst (λ (s : Side). UnlessMade s (AreUntouched paths old new)) (sym is) tt
+left_unmade false paths unopened old new is = tt
+
 pub there_again : (asked : DayOptions) (paths : DayPaths) (outcome told : DayOutcome) (old new : List Step) → IsSameBut outcome told
     → IsOutcomeThere asked paths outcome old new → IsToldThere asked paths told old new
 there_again asked paths (outcomes.Done repacked) told old new same is = subst (λ o. IsToldThere asked paths o old new) (sym same) is
 there_again asked paths (outcomes.Same repacked) told old new same is = subst (λ o. IsToldThere asked paths o old new) (sym same) is
 there_again asked paths outcomes.Young told old new same is = subst (λ o. IsToldThere asked paths o old new) (sym same) is
-there_again asked paths (outcomes.Refused (CannotOpen unopened)) told old new same is = subst (λ o. IsToldThere asked paths o old new) (sym same.1) tt
+there_again asked paths (outcomes.Refused (CannotOpen unopened)) told old new same is =
+    subst (λ o. IsToldThere asked paths o old new) (sym same.2) (left_again asked.keep_old paths unopened same.0 old new same.1 is.1)
 there_again asked paths (outcomes.Refused NotShown) told old new same is = subst (λ o. IsToldThere asked paths o old new) (sym same) is
 there_again asked paths (outcomes.Refused Differs) told old new same is = subst (λ o. IsToldThere asked paths o old new) (sym same) is
 there_again asked paths (outcomes.Refused Changed) told old new same is = subst (λ o. IsToldThere asked paths o old new) (sym same) is
 there_again asked paths (outcomes.Refused (Larger repacked)) told old new same is = subst (λ o. IsToldThere asked paths o old new) (sym same) is
+there_again asked paths (outcomes.Refused (Shrunk shrinkage)) told old new same is = subst (λ o. IsToldThere asked paths o old new) (sym same) is
 there_again asked paths (outcomes.Refused ClaimedByAnother) told old new same is = subst (λ o. IsToldThere asked paths o old new) (sym same) is
 there_again asked paths (outcomes.Refused (Tool fault)) told old new same is = subst (λ o. IsToldThere asked paths o old new) (sym same) is
 there_again asked paths (outcomes.Refused Gone) told old new same is = absurd is.0
 there_again asked paths (outcomes.Refused Listing) told old new same is = absurd is.0
 
 pub unclaimed_told : (asked : DayOptions) (paths : DayPaths) (why : DayFault) (old new : List Step) → IsUnclaimed why → IsToldThere asked paths (outcomes.Refused why) old new
-unclaimed_told asked paths (CannotOpen unopened) old new is = tt
-unclaimed_told asked paths ClaimedByAnother old new is = (tt, tt)
+unclaimed_told asked paths (CannotOpen unopened) old new is = left_unmade asked.keep_old paths unopened old new is
+unclaimed_told asked paths ClaimedByAnother old new is = (tt, left_claimed paths old new asked.keep_old)
 unclaimed_told asked paths NotShown old new is = absurd is
 unclaimed_told asked paths Differs old new is = absurd is
 unclaimed_told asked paths Changed old new is = absurd is
 unclaimed_told asked paths (Larger repacked) old new is = absurd is
+unclaimed_told asked paths (Shrunk shrinkage) old new is = absurd is
 unclaimed_told asked paths (Tool fault) old new is = absurd is
 unclaimed_told asked paths Gone old new is = absurd is
 unclaimed_told asked paths Listing old new is = absurd is
@@ -157,7 +173,8 @@ untouched_there days names out reports unopened past = record {
   for_day = record { record_length = days.options.record_length; is = refl; own = λ same. refl };
   of = outcomes.Refused (CannotOpen unopened);
   same = refl;
-  there = λ are. told_now (in_length days.options.record_length days) names out reports (outcomes.Refused (CannotOpen unopened)) past past tt;
+  there = λ are. told_now (in_length days.options.record_length days) names out reports (outcomes.Refused (CannotOpen unopened)) past past
+      (left_untouched (paths_of_names names) past past days.keep_old (CannotOpen unopened) (refl, refl, refl) tt);
 }
 
 -- of a day that is young
@@ -192,6 +209,7 @@ outcome_of asked path channel outcome day is = subst (λ o. IsOutcomeOf asked pa
     by (outcomes.Refused NotShown) same so = record { day = day; outcome_is = subst (λ o. IsOutcomeOfDay asked o) same is }
     by (outcomes.Refused Changed) same so = record { day = day; outcome_is = subst (λ o. IsOutcomeOfDay asked o) same is }
     by (outcomes.Refused Differs) same so = record { day = day; outcome_is = subst (λ o. IsOutcomeOfDay asked o) same is }
+    by (outcomes.Refused (Shrunk shrinkage)) same so = record { day = day; outcome_is = subst (λ o. IsOutcomeOfDay asked o) same is }
     by (outcomes.Refused (Larger repacked)) same so = record { day = day; outcome_is = subst (λ o. IsOutcomeOfDay asked o) same is }
     by (outcomes.Refused ClaimedByAnother) same so = record { day = day; outcome_is = subst (λ o. IsOutcomeOfDay asked o) same is }
     by (outcomes.Refused (Tool fault)) same so = record { day = day; outcome_is = subst (λ o. IsOutcomeOfDay asked o) same is }

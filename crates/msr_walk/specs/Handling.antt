@@ -8,6 +8,7 @@ use Rattle.msr_making.specs.declared.answer.DayOutcome.{DayOutcome}
 use Rattle.msr_making.specs.declared.answer.DayOutcome.TheVariants.{Refused}
 use Rattle.msr_naming.specs.declared.batch.Waiting.{Waiting}
 use Rattle.msr_naming.specs.declared.files.DayFiles.{DayFiles}
+use Rattle.msr_options.specs.declared.hint.Side.TheVariants.{Records}
 use Rattle.msr_options.specs.declared.hint.Unopened.{Unopened}
 use Rattle.msr_folders.specs.Walks.{HoldsAt}
 use Rattle.msr_tree.specs.Steps.{Path, Step}
@@ -27,12 +28,12 @@ pub record AreNamesWithin (out reports : Path) (names : DayNames) : Type 0 where
 
 -- an outcome but for why something could not be opened
 abbrev pub IsSameBut : (outcome told : DayOutcome) → Type 0
-IsSameBut (Refused (CannotOpen unopened)) told = (other : Unopened) × (told ≡ Refused (CannotOpen other))
+IsSameBut (Refused (CannotOpen unopened)) told = (other : Unopened) × (other.side ≡ unopened.side) × (told ≡ Refused (CannotOpen other))
 IsSameBut outcome told = told ≡ outcome
 
 -- a fault of a day that is not claimed
 abbrev pub IsUnclaimed : DayFault → Type 0
-IsUnclaimed (CannotOpen unopened) = Unit {0}
+IsUnclaimed (CannotOpen unopened) = unopened.side ≡ Records
 IsUnclaimed ClaimedByAnother = Unit {0}
 IsUnclaimed _ = ⊥
 

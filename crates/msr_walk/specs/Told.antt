@@ -8,7 +8,7 @@ use Rattle.msr_folders.specs.Visits.{IsWalk, TellsThese}
 use Rattle.msr_folders.specs.Walks.{IsWalked, VisitDoes}
 use Rattle.msr_folders.specs.Within.{ChangesWithin}
 use Rattle.msr_making.specs.Places.{DayPaths}
-use Rattle.msr_making.specs.Told.{IsOutcomeThere}
+use Rattle.msr_making.specs.Told.{IsLeftFor, IsOutcomeThere, stays_for}
 use Rattle.msr_making.specs.declared.answer.DayFault.TheVariants.{CannotOpen, Gone as WasGone, Listing}
 use Rattle.msr_making.specs.declared.answer.DayOutcome.{DayOutcome}
 use Rattle.msr_making.specs.declared.answer.DayOutcome.TheVariants as outcomes
@@ -32,9 +32,9 @@ use Rattle.msr_outcomes.specs.declared.outcome.Outcome.TheVariants.{Refused, Ski
 use Rattle.msr_outcomes.specs.declared.tally.Tally.{Tally}
 
 -- What an outcome says of a day by what its names lead to. No clause speaks of claims, links and missing folders, for which
--- a day may not be opened.
+-- a day may not be opened: of such a day only that is said which stays.
 abbrev pub IsToldThere : DayOptions → DayPaths → DayOutcome → (old new : List Step) → Type 0
-IsToldThere asked paths (outcomes.Refused (CannotOpen unopened)) old new = Unit {0}
+IsToldThere asked paths (outcomes.Refused (CannotOpen unopened)) old new = IsLeftFor (stays_for asked (CannotOpen unopened)) (CannotOpen unopened) paths old new
 IsToldThere asked paths outcome old new = IsOutcomeThere asked paths outcome old new
 
 -- What is done of an archive: only what stands within two folders is changed, and no folder is listed.

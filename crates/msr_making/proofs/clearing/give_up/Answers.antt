@@ -1,6 +1,6 @@
-use Rattle.std.proofs.Common.{inl, refl}
+use Rattle.std.proofs.Common.{inl, inr, refl, sym, ◌∙◌}
 use Rattle.msr_making.specs.Clearing.{beside_paths}
-use Rattle.msr_making.proofs.Cleared.{ends_unheld, then_gives}
+use Rattle.msr_making.proofs.Cleared.{ends_cleared, ends_kept, ends_unheld, then_gives}
 use Rattle.msr_making.proofs.Owns.{more_beside, none_beside}
 use Rattle.msr_making.proofs.clearing.give_up.Goals as goal
 
@@ -8,10 +8,16 @@ pub returns-then-not-is_held-clause-told : goal.returns-then-not-is_held-clause-
 returns-then-not-is_held-clause-told g c = inl refl
 
 pub returns-then-not-is_held-clause-goes : goal.returns-then-not-is_held-clause-goes
-returns-then-not-is_held-clause-goes g c = ends_unheld c.args.input.now c.args.files.now c.of_swept.result _ _ c.of_swept.ensures c.sweep-is_swept.ensures
+returns-then-not-is_held-clause-goes g c = ends_unheld c.args.input.now c.args.files.now c.args.asked.now c.args.why c.of_swept.result _ _ c.of_swept.ensures c.sweep-is_swept.ensures
+
+pub returns-then-stays-clause-told : goal.returns-then-stays-clause-told
+returns-then-stays-clause-told g c = inr refl
+
+pub returns-then-stays-clause-goes : goal.returns-then-stays-clause-goes
+returns-then-stays-clause-goes g c = ends_kept c.args.input.now c.args.files.now c.args.asked.now c.args.why c.of_swept-then-stays.result _ _ _ (sym c.stays.ensures ∙ c.if-stays.true) c.of_swept-then-stays.ensures c.sweep-is_swept.ensures c.shows_left-is_shown.ensures
 
 pub returns-clause-told : goal.returns-clause-told
 returns-clause-told g c = c.clear_day.ensures.told
 
 pub returns-clause-goes : goal.returns-clause-goes
-returns-clause-goes g c = then_gives c.args.input.now c.args.files.now (beside_paths c.args.files.now) (none_beside c.args.files.now) (more_beside c.args.files.now) c.clear_day.result _ _ _ c.sweep-is_swept.ensures c.clear_day.ensures.goes
+returns-clause-goes g c = ends_cleared c.args.input.now c.args.files.now c.args.asked.now c.args.why c.clear_day.result _ _ (sym c.stays.ensures ∙ c.if-stays.false) (then_gives c.args.input.now c.args.files.now (beside_paths c.args.files.now) (none_beside c.args.files.now) (more_beside c.args.files.now) c.clear_day.result _ _ _ c.sweep-is_swept.ensures c.clear_day.ensures.goes)

@@ -23,6 +23,7 @@ returns-clause-left g c =
         read = refl;
         written = c.records_written-written.ensures;
         bytes = search rules;
+        samples = c.samples_reported.ensures;
       };
       left = read.1;
     }

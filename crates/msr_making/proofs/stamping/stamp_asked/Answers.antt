@@ -15,7 +15,7 @@ pub returns-then-not-is_still : goal.returns-then-not-is_still
 returns-then-not-is_still g c = stamps_changed c.args.sight c.args.files.now c.args.is_stored _ _ c.is_still.ensures
 
 pub returns-then-write_stamp : goal.returns-then-write_stamp
-returns-then-write_stamp g c = stamps_well c.args.sight c.args.files.now c.args.is_stored c.in-Some.facts c.of-stamp.result c.write_stamp.result _ _ _ c.in-Some.ensures.found c.if-not-is_stored.false c.of-stamp.ensures c.if-write_stamp.true c.is_still.ensures c.write_stamp.ensures
+returns-then-write_stamp g c = stamps_well c.args.sight c.args.files.now c.args.is_stored c.in-Some.facts c.of-stamp.result c.write_stamp.result _ _ _ c.in-Some.ensures.found.found c.if-not-is_stored.false c.of-stamp.ensures c.if-write_stamp.true c.is_still.ensures c.write_stamp.ensures
 
 pub returns-in-Ok : goal.returns-in-Ok
 returns-in-Ok g c =

@@ -1,0 +1,77 @@
+-- What is made of a day stays what it is.
+use Rattle.std.proofs.Common.{◌≤◌, inl, inr, ⊎_elim, Bool, true, false, List, sym, ◌∙◌, subst, arith}
+use Rattle.msr_naming.specs.declared.files.DayFiles.{DayFiles}
+use Rattle.msr_options.specs.declared.hint.Side.{Side}
+use Rattle.msr_options.specs.declared.hint.Side.TheVariants.{File, Outputs, Records, Report}
+use Rattle.msr_tree.specs.Folders.{ChangesFiles}
+use Rattle.msr_tree.specs.Steps.{Path, Step, failures}
+use Rattle.msr_tree.proofs.Filing.{now_kept}
+use Rattle.msr_making.specs.Ending.{IsMadeSide}
+use Rattle.msr_making.specs.Places.{DayPaths, paths_of}
+use Rattle.msr_making.specs.Told.{AreUntouched, IsClearedFor, IsClearedThere, IsKeptFor, IsLeftFor, UnlessMade}
+use Rattle.msr_making.specs.declared.answer.DayFault.{DayFault}
+use Rattle.msr_making.specs.declared.answer.DayFault.TheVariants.{CannotOpen, ClaimedByAnother}
+use Rattle.msr_making.proofs.Owns.{AreNone}
+
+pub untouched_by : (input : Path) (files : DayFiles) (names : List Path) → AreNone files names → (old new : List Step) → ChangesFiles names old new → AreUntouched (paths_of input files) old new
+untouched_by input files names none old new changes = (
+  now_kept names files.records.path old new none.records changes,
+  now_kept names files.report.path old new none.report changes,
+  now_kept names files.stamp.path old new none.stamp changes,
+)
+
+module _ (paths : DayPaths) (old mid new : List Step) where
+  pub untouched_then : AreUntouched paths old mid → AreUntouched paths mid new → AreUntouched paths old new
+  untouched_then one two = (two.0 ∙ one.0, two.1 ∙ one.1, two.2 ∙ one.2)
+
+  unless_then : (side : Side) → UnlessMade side (AreUntouched paths old mid) → UnlessMade side (AreUntouched paths mid new) → UnlessMade side (AreUntouched paths old new)
+  unless_then Records one two = tt
+  unless_then Report one two = tt
+  unless_then File one two = untouched_then one two
+  unless_then Outputs one two = untouched_then one two
+
+  pub kept_then : (why : DayFault) → IsKeptFor why paths old mid → IsKeptFor why paths mid new → IsKeptFor why paths old new
+  kept_then (CannotOpen unopened) one two = unless_then unopened.side one two
+  kept_then ClaimedByAnother one two = tt
+  kept_then why one two = untouched_then one two
+
+  pub cleared_later : (why : DayFault) → failures old ≤ failures mid → IsClearedFor why paths mid new → IsClearedFor why paths old new
+  cleared_later (CannotOpen unopened) few is = tt
+  cleared_later ClaimedByAnother few is = tt
+  cleared_later why few is = ⊎_elim (λ none. inl none) (λ failed. inr (omega arith)) is
+
+  -- whether it is to stay or not
+  pub left_then : (stays : Bool) (why : DayFault) → failures old ≤ failures mid → IsKeptFor why paths old mid → IsLeftFor stays why paths mid new → IsLeftFor stays why paths old new
+  left_then true why few one two = kept_then why one two
+  left_then false why few one two = cleared_later why few two
+
+module _ (paths : DayPaths) (old new : List Step) where
+  unless : (side : Side) → AreUntouched paths old new → UnlessMade side (AreUntouched paths old new)
+  unless Records is = tt
+  unless Report is = tt
+  unless File is = is
+  unless Outputs is = is
+
+  pub kept_for : (why : DayFault) → AreUntouched paths old new → IsKeptFor why paths old new
+  kept_for (CannotOpen unopened) is = unless unopened.side is
+  kept_for ClaimedByAnother is = tt
+  kept_for why is = is
+
+  pub cleared_for : (why : DayFault) → IsClearedThere paths old new → IsClearedFor why paths old new
+  cleared_for (CannotOpen unopened) is = tt
+  cleared_for ClaimedByAnother is = tt
+  cleared_for why is = is
+
+  -- what another walk has is nobody's to leave
+  pub left_claimed : (stays : Bool) → IsLeftFor stays ClaimedByAnother paths old new
+  left_claimed true = tt
+  left_claimed false = tt
+
+  -- nothing was touched, and nothing is to go
+  pub left_untouched : (stays : Bool) (why : DayFault) → AreUntouched paths old new → IsClearedFor why paths old new → IsLeftFor stays why paths old new
+  left_untouched true why is cleared = kept_for why is
+  left_untouched false why is cleared = cleared
+
+-- a file that is made
+pub unless_made : (side : Side) (kept : Type 0) → IsMadeSide side → UnlessMade side kept
+unless_made side kept is = ⊎_elim (λ e. subst (λ (s : Side). UnlessMade s kept) (sym e) tt) (λ e. subst (λ (s : Side). UnlessMade s kept) (sym e) tt) is
