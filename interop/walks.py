@@ -11,7 +11,7 @@ import time
 from collections import namedtuple
 
 import model
-from reports import NotAReport, parsed, verdict
+from reports import MOST, NotAReport, parsed, verdict
 
 DAY_PATH = re.compile(
     r"(\d{4})/([A-Za-z0-9]{1,8})/([A-Za-z0-9]{1,8})/([A-Za-z0-9]{1,8})\.([A-Z])"
@@ -46,6 +46,10 @@ class NotKept(NotDone):
 
 class Larger(NotDone):
     """A day that did not get smaller, with its counts."""
+
+
+class Shrunk(NotDone):
+    """A day with fewer samples than an earlier walk left of it: how many that were, and how many it has."""
 
 
 def is_like(pattern, path):
@@ -219,6 +223,11 @@ class Walk:
             return f'{{"what":"{word}","path":"{path}"{self.told(*counts)}}}'
         return f"{word} {path}{self.told(*counts)}"
 
+    def shrunk(self, path, was, samples):
+        if self.task.json:
+            return f'{{"what":"shrunk","path":"{path}","samples_was":{was},"samples":{samples}}}'
+        return f"shrunk {path} samples {was} {samples}"
+
     @staticmethod
     def names_in(top, odd):
         """The names in a folder, in the order of their bytes; an odd one cannot be listed, or has odd names."""
@@ -281,6 +290,9 @@ class Walk:
         except Larger as why:
             self.larger += 1
             return self.counted("larger", path, *why.args)
+        except Shrunk as why:
+            self.refused += 1
+            return self.shrunk(path, *why.args)
         except NotKept as why:
             self.refused += 1
             return self.line(str(why), path)
@@ -315,17 +327,19 @@ class Walk:
             os.close(claim.file)
 
     def do(self, source, places, claim):
-        """What is done with a day that this walk has; what is not done leaves neither records nor report."""
+        """What is done with a day that this walk has; what is not done leaves neither records nor report, unless those of
+        an earlier walk are to stay, and it is not only no smaller."""
         if self.task.resume:
             counts = self.counts_before(source, places)
             if counts:
                 return ("same", *counts)
         try:
             return ("done", *self.repack(source, places, claim))
-        except NotDone:
+        except NotDone as why:
             if not self.has(claim):
                 raise NotDone(TAKEN) from None
-            self.remove(*places[:3])
+            if not self.task.keep_old or isinstance(why, Larger):
+                self.remove(*places[:3])
             raise
 
     def remove(self, *paths):
@@ -453,6 +467,8 @@ class Walk:
             raise NotDone(fault, "file" if fault.startswith("offset") else None)
         read = parsed(report.encode())
         counts = read.counts[0], sum(line.records for line in read.lines), len(content), len(records)
+        if self.task.keep_old and all(map(os.path.isfile, places[:2])):
+            self.look_back(places.report, samples_in(read))
         if self.task.only_smaller and len(content) <= len(records):
             raise Larger(*counts)
         if self.task.check:
@@ -465,6 +481,13 @@ class Walk:
             with contextlib.suppress(OSError):
                 self.rename(parts[2], places.stamp)
         return counts
+
+    def look_back(self, path, samples):
+        """A day may not have fewer samples than the report of an earlier walk tells, if it is one."""
+        with contextlib.suppress(NotAReport):
+            was = samples_in(parsed(self.read_again(path, "report")))
+            if samples < was:
+                raise Shrunk(was, samples)
 
     def write(self, path, content, side):
         """Makes a file with its folder, in the place of one that stands there; nothing is written to that one."""
@@ -660,6 +683,11 @@ class Verification:
         if content is None:
             raise NotDone(f"{which}: read fault")
         return content
+
+
+def samples_in(report):
+    """How many samples the segments of a report have, as far as 64 bits count them."""
+    return min(MOST, sum(line.samples for line in report.lines))
 
 
 def stamp_of(path):

@@ -98,6 +98,22 @@ class Changed(_Named):
     WORD = "changed"
 
 
+@dataclass(frozen=True)
+class Shrunk:
+    """The file has fewer samples than an earlier walk found in it, `was`, and what that made of it stays.
+
+    >>> parse("shrunk 2020/XX/TEST/BHN.D/XX.TEST.00.BHN.D.2020.001 samples 500 400")
+    Shrunk(path='2020/XX/TEST/BHN.D/XX.TEST.00.BHN.D.2020.001', was=500, samples=400)
+    """
+
+    path: str
+    was: int
+    samples: int
+
+    def __str__(self) -> str:
+        return f"shrunk {self.path} samples {self.was} {self.samples}"
+
+
 class Young(_Named):
     """The file was changed in the last days, or in the future, and was left alone.
 
@@ -266,7 +282,7 @@ class VerifyTotals:
         )
 
 
-ArchiveLine = Union[Done, Same, Larger, Young, NotShown, Differs, Changed, Skipped, Refused, Channel, ArchiveTotals]
+ArchiveLine = Union[Done, Same, Larger, Young, NotShown, Differs, Changed, Shrunk, Skipped, Refused, Channel, ArchiveTotals]
 VerifyLine = Union[Verified, Missing, NotShown, Differs, Skipped, Refused, Orphan, VerifyTotals]
 Line = Union[ArchiveLine, VerifyLine]
 
@@ -309,6 +325,7 @@ FORMS: Tuple[Tuple["re.Pattern[str]", Maker], ...] = (
         lambda word, path, *counts: COUNTED[word](path, *_numbers(*counts)),
     ),
     (re.compile(f"({'|'.join(NAMED)}) (.*)"), lambda word, path: NAMED[word](path)),
+    (re.compile(f"shrunk (.*) samples {N} {N}"), lambda path, *counts: Shrunk(path, *map(int, counts))),
     (re.compile("skipped (.*?): (not an SDS path|not waveform data|bad day)"), Skipped),
     (re.compile(f"refused (.*?): (?:(report|records|file): )?({TEXTS})"), _refused),
     (
@@ -348,6 +365,9 @@ def parse_object(text: str) -> Line:
     Refused(path='2020', text='listing', of='records', reason=None, side='records')
     >>> parse_object('{"what":"done","path":"2020/XX/TEST/BHN.D/XX.TEST.00.BHN.D.2020.001","read":5,"written":3}').written
     3
+    >>> day = "2020/XX/TEST/BHN.D/XX.TEST.00.BHN.D.2020.001"
+    >>> parse_object(f'{{"what":"shrunk","path":"{day}","samples_was":500,"samples":400}}').was
+    500
     """
     members = json.loads(text)
     what = members.pop("what")
@@ -358,6 +378,8 @@ def parse_object(text: str) -> Line:
     path = re.sub("[\\x00-\\x1f\\x7f]", lambda found: f"%{ord(found[0]):02x}", members.pop("path"))
     if what == "skipped":
         return Skipped(path, members["text"])
+    if what == "shrunk":
+        return Shrunk(path, members["samples_was"], members["samples"])
     if what == "refused":
         return _refused_object(path, members["text"], members.get("side"), members.get("reason"))
     return COUNTED[what](path, **members) if what in COUNTED else NAMED[what](path)

@@ -28,6 +28,7 @@ def archive(
     resume: bool = False,
     check: bool = False,
     only_smaller: bool = False,
+    keep_old: bool = False,
     older_than: int = 0,
     bytes: bool = False,
     timeout: Optional[float] = None,
@@ -55,6 +56,7 @@ def archive(
         "--resume": resume,
         "--check": check,
         "--only-smaller": only_smaller,
+        "--keep-old": keep_old,
         "--bytes": bytes,
     }
     words = ["archive", "--json", f"--length={length}", f"--tolerance={tolerance}", *options(chosen)]

@@ -30,8 +30,8 @@ def echo(what, **members):
 DONE, NONE = echo("done", path=DAY.format(1), read=2, written=1), echo("files", files=0, skipped=0, refused=0)
 TYPES = {
     "done": lines.Done, "same": lines.Same, "larger": lines.Larger, "notshown": lines.NotShown, "differs": lines.Differs,
-    "changed": lines.Changed, "young": lines.Young, "skipped": lines.Skipped, "refused": lines.Refused, "channel": lines.Channel, "verified": lines.Verified,
-    "missing": lines.Missing, "orphan": lines.Orphan,
+    "changed": lines.Changed, "shrunk": lines.Shrunk, "young": lines.Young, "skipped": lines.Skipped, "refused": lines.Refused,
+    "channel": lines.Channel, "verified": lines.Verified, "missing": lines.Missing, "orphan": lines.Orphan,
 }
 
 
@@ -131,6 +131,24 @@ class Archive(Walks):
         self.assertEqual(left, [2, 3, 4])
         *_, totals = archive(self.root, *self.folders("found"), older_than=2**32 - 1)
         self.assertEqual(totals, lines.ArchiveTotals(0, 0, 0, young=4))
+
+    def test_keep_old(self):
+        """What was made of a day stays if it has fewer samples, or is refused now; without the option it goes."""
+        whole = read(example("two-segments.mseed"))
+        for number in range(1, 5):
+            self.path(os.path.join("root", DAY.format(number)), whole)
+        self.walk(["--no-int24", "--keep-old"], keep_old=True)
+        before = self.made("found")
+        for number, size in enumerate((2048, 0, 600), 1):
+            self.path(os.path.join("root", DAY.format(number)), whole[:size])
+        seen = self.walk(["--no-int24", "--keep-old"], keep_old=True)
+        self.assertEqual(seen, {lines.Shrunk, lines.Refused, lines.Done, lines.Channel, lines.ArchiveTotals})
+        self.assertEqual((self.made("found"), self.made("model")), (before, before))
+        cut, emptied, *_ = archive(self.root, *self.folders("found"), keep_old=True, only_smaller=True)
+        self.assertEqual([cut, emptied], [lines.Shrunk(DAY.format(1), 500, 400), lines.Shrunk(DAY.format(2), 500, 0)])
+        self.walk(["--no-int24"])
+        self.assertEqual(self.made("found"), self.made("model"))
+        self.assertFalse(os.path.exists(os.path.join(self.folders("found")[0], DAY.format(3))))
 
     def made(self, name):
         """The files of a walk's folders, but for the stamps, whose text is the program's own."""
