@@ -8,8 +8,8 @@ _msrepack() {
         check) words='--help' ;;
         compare) words='--tolerance --help' ;;
         archive)
-            words='--length --no-int24 --tolerance --strict --below --resume --check --only-smaller --older-than --bytes'
-            words="$words --quiet --json --help"
+            words='--length --no-int24 --tolerance --strict --below --resume --check --only-smaller --keep-old'
+            words="$words --older-than --bytes --quiet --json --help"
             ;;
         verify) words='--quiet --json --below --help' ;;
         replace) words='--undo --below --only-smaller --older-than --touch --int24 --help' ;;

@@ -34,6 +34,8 @@ complete -c msrepack -n '__fish_seen_subcommand_from archive verify replace' -x 
 complete -c msrepack -n '__fish_seen_subcommand_from archive' -l resume -d 'Leave files alone that an earlier walk did'
 complete -c msrepack -n '__fish_seen_subcommand_from archive' -l check -d 'Hold records against their report and their file'
 complete -c msrepack -n '__fish_seen_subcommand_from archive' -l only-smaller -d 'Keep only what gets smaller in bytes'
+complete -c msrepack -n '__fish_seen_subcommand_from archive' -l keep-old \
+    -d 'Keep what an earlier walk made of a file that is refused, or has fewer samples'
 complete -c msrepack -n '__fish_seen_subcommand_from replace' -l undo -d 'Put the originals back'
 complete -c msrepack -n '__fish_seen_subcommand_from replace' -l only-smaller -d 'Only days whose records are fewer bytes'
 complete -c msrepack -n '__fish_seen_subcommand_from archive replace' -x -l older-than \

@@ -104,7 +104,7 @@ days_by _ = codes "7"
 
 days_at : (verb : Verb) → list_any (λ rule. bytes_eq rule.id (codes "older-than")) (rules_of verb) ≡ true →
     Any (λ rule. rule ≡ days_rule (days_by verb)) (rules_of verb)
-days_at verb.Archive has = (8, days_rule (codes "0"), lit< tt, refl, refl)
+days_at verb.Archive has = (9, days_rule (codes "0"), lit< tt, refl, refl)
 days_at verb.Replace has = (3, days_rule (codes "7"), lit< tt, refl, refl)
 days_at _ has = cc
 
