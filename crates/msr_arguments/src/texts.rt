@@ -244,7 +244,10 @@ verified PATH                         its report shows that the records are the 
                                       as `check` says, and file and records have the same
                                       segments, as `compare` says, read with the tolerance
                                       that the report tells
-missing PATH                          no records, or no report, are there
+inplace PATH                          no records are there, and the report shows that the
+                                      file is records, and the fewest: it was replaced
+missing PATH                          no report is there, or no records, and that is not
+                                      shown
 notshown PATH                         the report does not show that
 differs PATH                          file and records have not the same segments
 refused PATH: file: TEXT              a fault of the file, as `offset 512: 1 Truncated`,
@@ -258,12 +261,12 @@ skipped PATH: TEXT                    no day of waveform data, as `archive` tell
 orphan PATH                           after all others: a day of OUT, where ROOT has
                                       nothing
 
-and last the counts, of days that are verified first:
+and last the counts, of days that are verified or in place first:
 
 files N skipped N refused N missing N notshown N differs N orphan N
 
-Status 0 if all is verified or skipped, else 1, also if all of ROOT is walked and has no
-day of waveform data; 2 if the command line is wrong.",
+Status 0 if all is verified, in place or skipped, else 1, also if all of ROOT is walked
+and has no day of waveform data; 2 if the command line is wrong.",
     after: "Examples:
   msrepack verify sds packed reports > log.txt
   msrepack verify --quiet --below 2020/XX sds packed reports",
@@ -478,8 +481,8 @@ name, how many microseconds after that one's next sample it begins",
 const QUIET: Argument = Argument::Flag(
     "quiet",
     "Print only what is to be looked at, and the counts",
-    "Print only what is to be looked at, and the counts: the lines `verified` and `skipped`
-are left out. Counts and status are as without it",
+    "Print only what is to be looked at, and the counts: the lines `verified`, `inplace`
+and `skipped` are left out. Counts and status are as without it",
 );
 
 const LINES_JSON: Argument = Argument::Flag(

@@ -19,7 +19,7 @@ use Rattle.msr_verify.specs.Exact.{VerifiedIsExact}
 use Rattle.msr_verify.specs.Files.{AnswerThere, DayPlaces}
 use Rattle.msr_verify.specs.declared.judging.Finding.TheVariants as finding
 use Rattle.msr_verify.specs.declared.judging.VerifyFault.TheVariants.{File, Records, ReportLine, ReportRead, ReportMemory}
-use Rattle.msr_verify.specs.declared.judgement.Judgement.TheVariants.{Verified, Missing, NotShown, Differs, Refused, Skipped, Orphan}
+use Rattle.msr_verify.specs.declared.judgement.Judgement.TheVariants.{Verified, InPlace, Missing, NotShown, Differs, Refused, Skipped, Orphan}
 use Rattle.msr_verify.specs.declared.judgement.Refusal.TheVariants.{FileUnopened, RecordsUnopened, ReportUnopened, SameFile, Listing, RecordsListing, Day}
 
 same_bytes : (one other : List ℕ) → Some one ≡ Some other → one ≡ other
@@ -96,20 +96,25 @@ module _ (places : DayPlaces) (old : List Step) (whole : AnswerThere places old 
 pub exactly : VerifiedIsExact
 exactly places Verified old new is whole = inl refl
 exactly places Missing old new is whole = ⊎_elim
-    (λ none. absurd (gone old places.records whole.records whole.has_records none))
     (λ none. absurd (gone old places.report whole.text whole.has_report none))
+    (λ other. absurd (gone old places.records whole.records whole.has_records other.no_records))
     is
+exactly places InPlace old new is whole = absurd (gone old places.records whole.records whole.has_records is.0)
 exactly places NotShown old new is whole =
     absurd (shown is.file is.records is.text (shows places old whole is.file is.records is.text is.has_file is.has_records is.has_report) is.answers)
 exactly places Differs old new is whole =
     absurd (no_difference is.file is.records is.text (shows places old whole is.file is.records is.text is.has_file is.has_records is.has_report) is.answers)
-exactly places (Refused (Day (File (stop.Input found)))) old new is whole =
-    absurd (file_has_none is.file is.records is.text (shows places old whole is.file is.records is.text is.has_file is.has_records is.has_report) found is.answers)
-exactly places (Refused (Day (Records (stop.Input found)))) old new is whole =
-    absurd (records_have_none is.file is.records is.text (shows places old whole is.file is.records is.text is.has_file is.has_records is.has_report) found is.answers)
-exactly places (Refused (Day (ReportLine line))) old new is whole =
-    let verified = shows places old whole is.file is.records is.text is.has_file is.has_records is.has_report in
-    absurd (reader.no_fault verified.shown.report is.text line verified.shown.read is.answers)
+exactly places (Refused (Day (File (stop.Input found)))) old new is whole = ⊎_elim
+    (λ has. absurd (file_has_none has.file has.records has.text (shows places old whole has.file has.records has.text has.has_file has.has_records has.has_report) found has.answers))
+    (λ cut. absurd (gone old places.records whole.records whole.has_records cut.no_records)) is
+exactly places (Refused (Day (Records (stop.Input found)))) old new is whole = ⊎_elim
+    (λ has. absurd (records_have_none has.file has.records has.text (shows places old whole has.file has.records has.text has.has_file has.has_records has.has_report) found has.answers))
+    (λ cut. absurd (gone old places.records whole.records whole.has_records cut.no_records)) is
+exactly places (Refused (Day (ReportLine line))) old new is whole = ⊎_elim
+    (λ has.
+    let verified = shows places old whole has.file has.records has.text has.has_file has.has_records has.has_report in
+    absurd (reader.no_fault verified.shown.report has.text line verified.shown.read has.answers))
+    (λ cut. absurd (gone old places.records whole.records whole.has_records cut.no_records)) is
 exactly places (Refused (Day (File stop.Read))) old new is whole = inr (inr tt)
 exactly places (Refused (Day (File stop.Memory))) old new is whole = inr (inr tt)
 exactly places (Refused (Day (Records stop.Read))) old new is whole = inr (inr tt)

@@ -1,5 +1,5 @@
 -- What the three files of a day show, put together from what was read of each.
-use Rattle.std.proofs.Common.{◌↔◌, ℕ, List, Option, None, Some, Result, Ok, Err, IsErrOf, ap, refl}
+use Rattle.std.proofs.Common.{◌↔◌, ℕ, Bool, false, List, Option, None, Some, Result, Ok, Err, IsErrOf, ap, refl}
 use Rattle.msr_devices.specs.Device.{Device, HasLeft}
 use Rattle.msr_devices.proofs.Chaining.{left_of}
 use Rattle.msr_compare.specs.declared.comparison.Comparison.{Comparison}
@@ -10,10 +10,18 @@ use Rattle.msr_report.specs.declared.report.Report.{Report}
 use Rattle.msr_report_reader.specs.Reading.{ReadsReport}
 use Rattle.msr_report_reader.specs.declared.fault.ReportFault.{ReportFault}
 use Rattle.msr_report_reader.specs.declared.fault.ReportFault.TheVariants as report_stop
+use Rattle.msr_input.specs.declared.fault.ReadFault.{ReadFault}
 use Rattle.msr_input.specs.declared.fault.ReadFault.TheVariants as stop
 use Rattle.msr_verdict.specs.Beside.{BesideAnswers}
-use Rattle.msr_verdict.specs.Packed.{ShowsLeast}
-use Rattle.msr_verify.specs.Day.{DayAnswers, IsShownLeast, VerifiesDay, finding_of, verify_fault_of_report}
+use Rattle.msr_verdict.specs.Packed.{ShowsLeast, VerifyAnswers, settings_by}
+use Rattle.msr_verdict.specs.declared.verdict.Verdict.{Verdict}
+use Rattle.msr_verdict.specs.declared.verdict.Verdict.TheVariants as verdict
+use Rattle.msr_verdict.proofs.StoppedReading.{shown_readable}
+use Rattle.msr_input.proofs.OneReading.{readable_has_no_fault}
+use Rattle.msr_report_reader.proofs.OneContent.{no_fault, one_report}
+use Rattle.msr_tool.proofs.RepackedLeast.{shows_same}
+use Rattle.msr_verify.specs.Day.{AloneAnswers, DayAnswers, IsCut, IsShownLeast, VerifiesAlone, VerifiesDay, alone_of, finding_of, verify_fault_of_report}
+use Rattle.msr_verify.specs.declared.judging.VerifyFault.{VerifyFault}
 use Rattle.msr_verify.specs.declared.judging.VerifyFault.TheVariants.{File, Records, ReportRead}
 
 fault_said : (first second text : List ℕ) (why : ReportFault) → ReadsReport text (Err why)
@@ -116,3 +124,33 @@ no_report (Err (Other why)) e = absurd cc
 pub report_read : {failed : Type 0} (answer : Result (Option Comparison) CompareFault) → (failed → ⊥)
     → IsErrOf (finding_of answer) ReportRead ↔ failed
 report_read answer none = (λ e. absurd (no_report answer e), λ f. absurd (none f))
+
+-- The day's own file, by the report.
+module _ (file text : List ℕ) (found : Report) (reads : ReadsReport text (Ok found)) where
+  unshown : (ShowsLeast found file → ⊥) → IsShownLeast file text → ⊥
+  unshown none shown = none (shows_same shown.report found file
+      (one_report shown.report found text shown.read.is_content reads.is_content shown.read.is_text reads.is_text) shown.least)
+
+  alone_so : (answer : Result Verdict ReadFault) → VerifyAnswers found file answer → AloneAnswers file text (alone_of answer)
+  alone_so (Ok verdict.Least) said = record { report = found; read = reads; least = said }
+  alone_so (Ok verdict.NotShown) said = unshown said.none
+  alone_so (Err (stop.Input fault)) said = unshown (λ least.
+      let readable = shown_readable found file least in
+      readable_has_no_fault (settings_by found) file readable.0 said.records readable.1 fault readable.2 said.first)
+  alone_so (Err stop.Read) said = tt
+  alone_so (Err stop.Memory) said = tt
+
+  pub alone_found : (file_at report_at : Device) (answer : Result Verdict ReadFault) → HasLeft file_at file → HasLeft report_at text
+      → VerifyAnswers found file answer → VerifiesAlone file_at report_at (alone_of answer)
+  alone_found file_at report_at answer left_file left_report said = record { own = file; text = text; left_file = left_file; left_report = left_report; answers = alone_so answer said }
+
+-- what is no report shows nothing
+pub alone_unread : (file_at report_at : Device) (text : List ℕ) (line : ℕ) → HasLeft report_at text → ReadsReport text (Err (report_stop.Line line)) → VerifiesAlone file_at report_at (Ok false)
+alone_unread file_at report_at text line left reads =
+    let f = left_of file_at in
+    record { own = f.0; text = text; left_file = f.1; left_report = left; answers = λ shown. no_fault shown.report text line shown.read reads }
+
+pub alone_cut : (file_at report_at : Device) (fault : VerifyFault) (text : List ℕ) → IsCut fault → HasLeft report_at text → VerifiesAlone file_at report_at (Err fault)
+alone_cut file_at report_at fault text cut left =
+    let f = left_of file_at in
+    record { own = f.0; text = text; left_file = f.1; left_report = left; answers = cut }

@@ -1,5 +1,5 @@
 -- The files of a day are opened, and judged.
-use Rattle.std.proofs.Common.{◌≡◌, ◌<◌, ◌∷◌, arith, inl, inr, ℕ, true, false, List, Some, refl, sym, ◌∙◌, ap, subst, Result, Ok, Err}
+use Rattle.std.proofs.Common.{◌≡◌, ◌<◌, ◌∷◌, arith, inl, inr, ℕ, Bool, true, false, List, Some, refl, sym, ◌∙◌, ap, subst, Result, Ok, Err}
 use Rattle.msr_devices.specs.Device.{Device, HasLeft}
 use Rattle.msr_devices.specs.declared.fault.DeviceFault.{DeviceFault}
 use Rattle.msr_folders.proofs.WalkedLemmas.{goes_so, goes_then}
@@ -10,10 +10,11 @@ use Rattle.msr_tree.specs.Reads.{OnlyLooks}
 use Rattle.msr_tree.specs.Steps.{Failed, Path, Step, failures, seen}
 use Rattle.msr_tree.specs.declared.tree.TreeFault.TheVariants as fault
 use Rattle.msr_verify.proofs.TellingThere.{judged_there}
-use Rattle.msr_verify.specs.Day.{VerifiesDay}
-use Rattle.msr_verify.specs.Entries.{judgement_of}
+use Rattle.msr_verify.specs.Day.{AloneAnswers, IsShownLeast, VerifiesAlone, VerifiesDay}
+use Rattle.msr_verify.specs.Entries.{judgement_alone, judgement_of}
 use Rattle.msr_verify.specs.Files.{AnswerThere, DayPlaces, IsJudgementThere, JudgesDay}
-use Rattle.msr_verify.specs.Opening.{AreTwoFiles, IsUnjudged, MayHave, OpensDay, OpensFile}
+use Rattle.msr_verify.specs.Opening.{AreTwoFiles, IsUnjudged, JudgesAlone, MayHave, OpensAlone, OpensDay, OpensFile}
+use Rattle.msr_verify.specs.declared.day.OpenAlone.{OpenAlone}
 use Rattle.msr_verify.specs.declared.day.OpenDay.{OpenDay}
 use Rattle.msr_verify.specs.declared.day.Unjudged.{Unjudged}
 use Rattle.msr_verify.specs.declared.day.Unjudged.TheVariants as unjudged
@@ -63,17 +64,11 @@ told_there : (places : DayPlaces) (answer : Result Finding VerifyFault) (old new
 told_there places (Ok finding.Verified) old new has = has
 told_there places (Ok finding.NotShown) old new has = has
 told_there places (Ok finding.Differs) old new has = has
-told_there places (Err fault) old new has = has
+told_there places (Err fault) old new has = inl has
 
--- records or report are missing
-pub missing_records : (places : DayPlaces) (old new : List Step) → MayHave places.records (Ok false) old new → JudgesDay places (Ok Missing) old new
-missing_records places old new has = record { looks = has.looks; says = inl (has.no refl) }
-
-pub missing_report : (places : DayPlaces) (old mid new : List Step) → MayHave places.records (Ok true) old mid → MayHave places.report (Ok false) mid new → JudgesDay places (Ok Missing) old new
-missing_report places old mid new records report = record {
-  looks = looks_then old mid new records.looks report.looks;
-  says = inr (sym (there_read old mid (look_reads old mid records.looks) places.report) ∙ report.no refl);
-}
+-- the report is missing
+pub missing_report : (places : DayPlaces) (old new : List Step) → MayHave places.report (Ok false) old new → JudgesDay places (Ok Missing) old new
+missing_report places old new has = record { looks = has.looks; says = inl (has.no refl) }
 
 -- nothing was answered
 pub no_answer : (places : DayPlaces) (fault : DeviceFault) (old new : List Step) → OnlyLooks old new → JudgesDay places (Err fault) old new
@@ -125,14 +120,9 @@ pub may_have_none : (places : DayPlaces) (path : Path) (fault : DeviceFault) (be
 may_have_none places path fault before after goes =
     goes_so _ _ before after (λ old new went is. no_answer places fault old new is.looks) goes
 
-pub records_missing : (places : DayPlaces) (before after : List Step → Type 0) → Goes before after (MayHave places.records (Ok false))
+pub report_missing : (places : DayPlaces) (before after : List Step → Type 0) → Goes before after (MayHave places.report (Ok false))
     → Goes before after (JudgesDay places (Ok Missing))
-records_missing places before after goes = goes_so _ _ before after (λ old new went is. missing_records places old new is) goes
-
-pub report_missing : (places : DayPlaces) (before mid after : List Step → Type 0) → Goes before mid (MayHave places.records (Ok true))
-    → Goes mid after (MayHave places.report (Ok false)) → Goes before after (JudgesDay places (Ok Missing))
-report_missing places before mid after one two =
-    goes_then _ _ _ before mid after (λ old middle new first second. missing_report places old middle new first second) one two
+report_missing places before after goes = goes_so _ _ before after (λ old new went is. missing_report places old new is) goes
 
 pub judged_later : (places : DayPlaces) (path : Path) (result : Result Judgement DeviceFault) (before mid after : List Step → Type 0)
     → Goes before mid (MayHave path (Ok true)) → Goes mid after (JudgesDay places result) → Goes before after (JudgesDay places result)
@@ -156,3 +146,52 @@ pub opened_judged : {R : Type 0} (places : DayPlaces) (device : R → Device) (d
     → Goes before after (JudgesDay places (Ok (judgement_of answer)))
 opened_judged places device day answer before after goes found =
     goes_so _ _ before after (λ old new went is. judged_open places device day answer old new is found) goes
+
+-- Of a day without records.
+pub alone_later : (places : DayPlaces) (result : Result Judgement DeviceFault) (before mid after : List Step → Type 0)
+    → Goes before mid (MayHave places.records (Ok false)) → Goes mid after (JudgesAlone places result) → Goes before after (JudgesDay places result)
+alone_later places result before mid after one two =
+    goes_then _ _ _ before mid after (λ old middle new first second.
+    judged_after places result old middle new first.looks (second (there_read old middle (look_reads old middle first.looks) places.records ∙ first.no refl))) one two
+
+one_bytes : (past : List Step) (path : Path) (one other : List ℕ) → seen past path ≡ Some one → seen past path ≡ Some other → one ≡ other
+one_bytes past path one other a b = let e : Some one ≡ Some other = sym a ∙ b in cc
+
+alone_there : (places : DayPlaces) (own text : List ℕ) (answer : Result Bool VerifyFault) (old new : List Step) → is_there old places.records ≡ false → seen old places.file ≡ Some own
+    → seen old places.report ≡ Some text → AloneAnswers own text answer → IsJudgementThere places (judgement_alone answer) old new
+alone_there places own text (Ok true) old new none file report is = (none, record { file = own; text = text; has_file = file; has_report = report; shown = is })
+alone_there places own text (Ok false) old new none file report is = inr (record {
+  no_records = none;
+  unshown = inl (λ place. is
+      (subst (λ (b : List ℕ). IsShownLeast b text) (one_bytes old places.file place.file own place.has_file file)
+      (subst (λ (b : List ℕ). IsShownLeast place.file b) (one_bytes old places.report place.text text place.has_report report) place.shown)));
+})
+alone_there places own text (Err fault) old new none file report is = inr (record { no_records = none; cut = is })
+
+pub opened_alone : {R : Type 0} (places : DayPlaces) (device : R → Device) (day : OpenAlone R) (answer : Result Bool VerifyFault) (before after : List Step → Type 0)
+    → Goes before after (OpensAlone places device (Ok day)) → VerifiesAlone (device day.file) (device day.report) answer
+    → Goes before after (JudgesAlone places (Ok (judgement_alone answer)))
+opened_alone places device day answer before after goes found = goes_so _ _ before after (λ old new went opens. λ none. record {
+  looks = subst (λ l. OnlyLooks old l) (sym opens.0) (looks_none old);
+  says = alone_there places found.own found.text answer old new none (left_is old places.file (device day.file) found.own opens.1 found.left_file)
+      (left_is old places.report (device day.report) found.text opens.2 found.left_report) found.answers;
+}) goes
+
+pub unopened_alone : {R : Type 0} (places : DayPlaces) (device : R → Device) (why : Refusal) (before after : List Step → Type 0)
+    → Goes before after (OpensAlone {R = R} places device (Err (unjudged.Refused why))) → Goes before after (JudgesAlone places (Ok Missing))
+unopened_alone places device why before after goes = goes_so _ _ before after (λ old new went opens. λ none. record {
+  looks = opens.0;
+  says = inr (record { no_records = none; unshown = inr opens.1 });
+}) goes
+
+pub stopped_alone : {R : Type 0} (places : DayPlaces) (device : R → Device) (fault : DeviceFault) (before after : List Step → Type 0)
+    → Goes before after (OpensAlone {R = R} places device (Err unjudged.Memory)) → Goes before after (JudgesAlone places (Err fault))
+stopped_alone places device fault before after goes = goes_so _ _ before after (λ old new went looks. λ none. record { looks = looks; says = tt }) goes
+
+pub not_opened_alone : {R : Type 0} (places : DayPlaces) (path : Path) (refusal : Refusal) (device : R → Device) (why : Unjudged) (before after : List Step → Type 0)
+    → Goes before after (OpensFile path refusal device (Err why)) → Goes before after (OpensAlone places device (Err why))
+not_opened_alone places path refusal device why before after goes = goes_so _ _ before after (λ old new went is. by why old new is) goes
+  where
+    by : (u : Unjudged) (old new : List Step) → OpensFile path refusal device (Err u) old new → OpensAlone places device (Err u) old new
+    by (unjudged.Refused found) old new is = (is.0, is.2)
+    by unjudged.Memory old new is = subst (λ l. OnlyLooks old l) (sym is) (looks_none old)

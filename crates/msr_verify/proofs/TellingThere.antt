@@ -1,5 +1,5 @@
 -- What is told of an archive that nobody changes.
-use Rattle.std.proofs.Common.{◌≡◌, ◌<◌, inl, inr, ⊎_elim, ℕ, List, ◌++◌, refl, sym, ◌∙◌, ap, subst, append_assoc, arith, option_map, Result}
+use Rattle.std.proofs.Common.{◌≡◌, ◌<◌, inl, inr, ⊎_elim, ℕ, false, List, ◌++◌, refl, sym, ◌∙◌, ap, subst, append_assoc, arith, option_map, Result}
 use Rattle.msr_devices.specs.Device.{Device, Takes}
 use Rattle.msr_devices.proofs.Chaining.{takes_append}
 use Rattle.msr_folders.proofs.EntryLemmas.{folders_same, for_each_as}
@@ -13,17 +13,17 @@ use Rattle.msr_folders.specs.Walks.{IsSaidBetween, IsWalked, TellsWalk}
 use Rattle.msr_folders.specs.declared.found.WalkFound.{WalkFound}
 use Rattle.msr_options.specs.declared.task.Verifying.{Verifying}
 use Rattle.msr_tree.proofs.Reading.{failures_read, now_read, reads_then, there_read}
-use Rattle.msr_tree.specs.Listing.{unlisted_after}
+use Rattle.msr_tree.specs.Listing.{is_there, unlisted_after}
 use Rattle.msr_tree.specs.Reads.{OnlyReads}
 use Rattle.msr_tree.specs.Steps.{Path, Step, failures, seen}
 use Rattle.msr_verify.specs.Entries.{IsJudgedEntry, IsVerifyTally, JudgedEntry}
-use Rattle.msr_verify.specs.Files.{AnswerThere, DayPlaces, IsArchiveVerified, IsJudgementThere, IsToldOfOut, IsToldOfRoot, day_places}
+use Rattle.msr_verify.specs.Files.{AnswerThere, DayPlaces, IsArchiveVerified, IsInPlace, IsJudgementThere, IsToldOfOut, IsToldOfRoot, day_places}
 use Rattle.msr_verify.specs.Lines.{IsToldLine}
 use Rattle.msr_verify.specs.Walk.{TellsArchive, TellsEntries, TellsVerified, VerifiesTree, judged_summary}
 use Rattle.msr_verify.specs.declared.judging.Finding.{Finding}
 use Rattle.msr_verify.specs.declared.judging.VerifyFault.{VerifyFault}
 use Rattle.msr_verify.specs.declared.judgement.Judgement.{Judgement}
-use Rattle.msr_verify.specs.declared.judgement.Judgement.TheVariants.{Verified, Missing, NotShown, Differs, Refused, Skipped, Orphan}
+use Rattle.msr_verify.specs.declared.judgement.Judgement.TheVariants.{Verified, InPlace, Missing, NotShown, Differs, Refused, Skipped, Orphan}
 use Rattle.msr_verify.specs.declared.judgement.Refusal.TheVariants.{FileUnopened, RecordsUnopened, ReportUnopened, SameFile, Listing, RecordsListing, Day}
 use Rattle.msr_verify.specs.declared.tally.VerifyTally.{VerifyTally}
 
@@ -44,6 +44,27 @@ module _ (old from to new : List Step) (before : OnlyReads old from) (after : On
     apart = λ one. there.apart (one.0, now_read old from before places.file ∙ one.1, now_read old from before places.records ∙ one.2);
   }
 
+  no_longer : (path : Path) → is_there from path ≡ false → is_there old path ≡ false
+  no_longer path none = sym (there_read old from before path) ∙ none
+
+  in_place_there : (places : DayPlaces) → IsInPlace places from → IsInPlace places old
+  in_place_there places is = record {
+    file = is.file;
+    text = is.text;
+    has_file = sym (seen_there places.file) ∙ is.has_file;
+    has_report = sym (seen_there places.report) ∙ is.has_report;
+    shown = is.shown;
+  }
+
+  in_place_later : (places : DayPlaces) → IsInPlace places old → IsInPlace places from
+  in_place_later places is = record {
+    file = is.file;
+    text = is.text;
+    has_file = seen_there places.file ∙ is.has_file;
+    has_report = seen_there places.report ∙ is.has_report;
+    shown = is.shown;
+  }
+
   failed_there : failures from < failures to → failures old < failures new
   failed_there more =
       let sooner = failures_read old from before in
@@ -54,10 +75,17 @@ module _ (old from to new : List Step) (before : OnlyReads old from) (after : On
   judged_there places Verified is = answer_there places _ is
   judged_there places NotShown is = answer_there places _ is
   judged_there places Differs is = answer_there places _ is
-  judged_there places (Refused (Day fault)) is = answer_there places _ is
+  judged_there places (Refused (Day fault)) is = ⊎_elim
+      (λ has. inl (answer_there places _ has))
+      (λ cut. inr (record { no_records = no_longer places.records cut.no_records; cut = cut.cut }))
+      is
+  judged_there places InPlace is = (no_longer places.records is.0, in_place_there places is.1)
   judged_there places Missing is = ⊎_elim
-      (λ none. inl (sym (there_read old from before places.records) ∙ none))
-      (λ none. inr (sym (there_read old from before places.report) ∙ none))
+      (λ none. inl (no_longer places.report none))
+      (λ other. inr (record {
+        no_records = no_longer places.records other.no_records;
+        unshown = ⊎_elim (λ not. inl (λ place. not (in_place_later places place))) (λ failed. inr (failed_there failed)) other.unshown;
+      }))
       is
   judged_there places (Refused SameFile) is = ⊎_elim
       (λ one. inl (one.0, sym (now_read old from before places.file) ∙ one.1, sym (now_read old from before places.records) ∙ one.2))

@@ -1,5 +1,5 @@
 -- What the three files of a day show.
-use Rattle.std.specs.Prelude.{ℕ, List, Option, None, Some, Result, Ok, Err}
+use Rattle.std.specs.Prelude.{ℕ, Bool, true, false, List, Option, None, Some, Result, Ok, Err}
 use Rattle.msr_devices.specs.Device.{Device, HasLeft}
 use Rattle.msr_report.specs.declared.report.Report.{Report}
 use Rattle.msr_report_reader.specs.Reading.{IsReadFrom, ReadsReport}
@@ -7,8 +7,11 @@ use Rattle.msr_report_reader.specs.declared.fault.ReportFault.{ReportFault}
 use Rattle.msr_report_reader.specs.declared.fault.ReportFault.TheVariants as report_stop
 use Rattle.msr_input.specs.Input.{HasFirstFault}
 use Rattle.msr_input.specs.declared.fault.Fault.{Fault}
+use Rattle.msr_input.specs.declared.fault.ReadFault.{ReadFault}
 use Rattle.msr_input.specs.declared.fault.ReadFault.TheVariants as stop
 use Rattle.msr_verdict.specs.Packed.{ShowsLeast, DoesNotShow, settings_by}
+use Rattle.msr_verdict.specs.declared.verdict.Verdict.{Verdict}
+use Rattle.msr_verdict.specs.declared.verdict.Verdict.TheVariants as verdict
 use Rattle.msr_compare.specs.Answers.{DifferFirst, HaveSameSegments}
 use Rattle.msr_compare.specs.declared.comparison.Comparison.{Comparison}
 use Rattle.msr_compare.specs.declared.comparison.Comparison.TheVariants as comparison
@@ -84,6 +87,36 @@ DayAnswers file records text (Err (Records stop.Memory)) = Unit {0}
 DayAnswers file records text (Err (ReportLine line)) = ReadsReport text (Err (report_stop.Line line))
 DayAnswers file records text (Err ReportRead) = Unit {0}
 DayAnswers file records text (Err ReportMemory) = Unit {0}
+
+-- what is found of the day's own file by the report
+abbrev pub alone_of : Result Verdict ReadFault → Result Bool VerifyFault
+alone_of (Ok verdict.Least) = Ok true
+alone_of (Ok verdict.NotShown) = Ok false
+alone_of (Err (stop.Input found)) = Ok false
+alone_of (Err stop.Read) = Err (File stop.Read)
+alone_of (Err stop.Memory) = Err (File stop.Memory)
+
+-- the day's own file, or its report, could not be read to its end, or memory was refused
+abbrev pub IsCut : VerifyFault → Type 0
+IsCut (File stop.Read) = Unit {0}
+IsCut (File stop.Memory) = Unit {0}
+IsCut ReportRead = Unit {0}
+IsCut ReportMemory = Unit {0}
+IsCut fault = ⊥
+
+-- whether the text is that of a report by which the day's own file is records, and the fewest
+abbrev pub AloneAnswers : (file text : List ℕ) → Result Bool VerifyFault → Type 0
+AloneAnswers file text (Ok true) = IsShownLeast file text
+AloneAnswers file text (Ok false) = ¬ (IsShownLeast file text)
+AloneAnswers file text (Err fault) = IsCut fault
+
+-- What that answers, for the bytes of its sources.
+pub record VerifiesAlone (file report : Device) (result : Result Bool VerifyFault) : Type 0 where
+  pub own : List ℕ
+  pub text : List ℕ
+  pub left_file : HasLeft file own
+  pub left_report : HasLeft report text
+  pub answers : AloneAnswers own text result
 
 -- What verifying a day answers, for the bytes of its sources.
 pub record VerifiesDay (file records report : Device) (result : Result Finding VerifyFault) : Type 0 where

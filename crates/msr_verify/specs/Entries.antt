@@ -3,12 +3,12 @@ use Rattle.std.specs.Prelude.{◌≡◌, ℕ, ⊤, Bool, true, false, List, Resu
 use Rattle.std.specs.List.{count_by}
 use Rattle.msr_folders.specs.Totals.{saturated}
 use Rattle.msr_folders.specs.Days.{IsDay, IsNoDay}
-use Rattle.msr_verify.specs.Day.{DayAnswers}
+use Rattle.msr_verify.specs.Day.{DayAnswers, IsShownLeast}
 use Rattle.msr_verify.specs.declared.judging.Finding.{Finding}
 use Rattle.msr_verify.specs.declared.judging.Finding.TheVariants as finding
 use Rattle.msr_verify.specs.declared.judging.VerifyFault.{VerifyFault}
 use Rattle.msr_verify.specs.declared.judgement.Judgement.{Judgement}
-use Rattle.msr_verify.specs.declared.judgement.Judgement.TheVariants.{Verified, Missing, NotShown, Differs, Refused, Skipped, Orphan}
+use Rattle.msr_verify.specs.declared.judgement.Judgement.TheVariants.{Verified, InPlace, Missing, NotShown, Differs, Refused, Skipped, Orphan}
 use Rattle.msr_verify.specs.declared.judgement.Refusal.TheVariants.{FileUnopened, Listing, RecordsListing, Day}
 use Rattle.msr_verify.specs.declared.tally.VerifyTally.{VerifyTally}
 
@@ -24,6 +24,18 @@ judgement_of (Ok finding.NotShown) = NotShown
 judgement_of (Ok finding.Differs) = Differs
 judgement_of (Err fault) = Refused (Day fault)
 
+-- what is told of a day without records with this answer
+abbrev pub judgement_alone : Result Bool VerifyFault → Judgement
+judgement_alone (Ok true) = InPlace
+judgement_alone (Ok false) = Missing
+judgement_alone (Err fault) = Refused (Day fault)
+
+-- Some file is shown by some report to be records, and the fewest.
+pub record IsShownAlone : Type 0 where
+  pub file : List ℕ
+  pub text : List ℕ
+  pub shown : IsShownLeast file text
+
 -- Some files, the day's own, its records and its report, have this answer. Nothing is known of the files of the
 -- system but that they have some bytes.
 pub record HasDayAnswer (answer : Result Finding VerifyFault) : Type 0 where
@@ -35,6 +47,7 @@ pub record HasDayAnswer (answer : Result Finding VerifyFault) : Type 0 where
 -- what a judgement says of a day
 abbrev pub IsJudgementOfDay : Judgement → Type 0
 IsJudgementOfDay Verified = HasDayAnswer (Ok finding.Verified)
+IsJudgementOfDay InPlace = IsShownAlone
 IsJudgementOfDay NotShown = HasDayAnswer (Ok finding.NotShown)
 IsJudgementOfDay Differs = HasDayAnswer (Ok finding.Differs)
 IsJudgementOfDay (Refused (Day fault)) = HasDayAnswer (Err fault)
@@ -59,8 +72,10 @@ IsJudgementOf path judgement = IsFoundOfDay path judgement
 abbrev pub IsJudgedEntry : JudgedEntry → Type 0
 IsJudgedEntry entry = IsJudgementOf entry.path entry.judgement
 
+-- verified, or in place
 abbrev pub is_verified : Judgement → Bool
 is_verified Verified = true
+is_verified InPlace = true
 is_verified _ = false
 
 abbrev pub is_missing : Judgement → Bool
@@ -87,9 +102,10 @@ abbrev pub is_orphan : Judgement → Bool
 is_orphan Orphan = true
 is_orphan _ = false
 
--- neither verified nor skipped
+-- neither that nor skipped
 abbrev pub is_unverified : Judgement → Bool
 is_unverified Verified = false
+is_unverified InPlace = false
 is_unverified (Skipped fault) = false
 is_unverified _ = true
 

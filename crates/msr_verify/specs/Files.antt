@@ -12,13 +12,13 @@ use Rattle.msr_sds.specs.declared.SdsFault.{SdsFault}
 use Rattle.msr_folders.specs.Days.{IsDay, IsNoDay}
 use Rattle.msr_folders.specs.Entries.{AreEntriesOf, Entry, ForEach, Visit, WithoutList, unlisted_in}
 use Rattle.msr_folders.specs.Paths.{ended, joined, told_folder}
-use Rattle.msr_verify.specs.Day.{DayAnswers}
+use Rattle.msr_verify.specs.Day.{DayAnswers, IsCut, IsShownLeast}
 use Rattle.msr_verify.specs.Entries.{JudgedEntry}
 use Rattle.msr_verify.specs.declared.judging.Finding.{Finding}
 use Rattle.msr_verify.specs.declared.judging.Finding.TheVariants as finding
 use Rattle.msr_verify.specs.declared.judging.VerifyFault.{VerifyFault}
 use Rattle.msr_verify.specs.declared.judgement.Judgement.{Judgement}
-use Rattle.msr_verify.specs.declared.judgement.Judgement.TheVariants.{Verified, Missing, NotShown, Differs, Refused, Skipped, Orphan}
+use Rattle.msr_verify.specs.declared.judgement.Judgement.TheVariants.{Verified, InPlace, Missing, NotShown, Differs, Refused, Skipped, Orphan}
 use Rattle.msr_verify.specs.declared.judgement.Refusal.TheVariants.{FileUnopened, RecordsUnopened, ReportUnopened, SameFile, Listing, RecordsListing, Day}
 
 -- Where the files of a day stand.
@@ -45,13 +45,32 @@ pub record AnswerThere (places : DayPlaces) (past : List Step) (answer : Result 
   pub answers : DayAnswers file records text answer
   pub apart : ¬ (AreOneFile places.file places.records past)
 
+-- The report shows that the day's own file is records, and the fewest.
+pub record IsInPlace (places : DayPlaces) (past : List Step) : Type 0 where
+  pub file : List ℕ
+  pub text : List ℕ
+  pub has_file : seen past places.file ≡ Some file
+  pub has_report : seen past places.report ≡ Some text
+  pub shown : IsShownLeast file text
+
+-- There are no records, and the day's own file or its report was not read to its end.
+pub record IsCutAlone (places : DayPlaces) (fault : VerifyFault) (past : List Step) : Type 0 where
+  pub no_records : is_there past places.records ≡ false
+  pub cut : IsCut fault
+
+-- There are no records, and what else is there does not show it, unless a call failed.
+pub record IsNotInPlace (places : DayPlaces) (old new : List Step) : Type 0 where
+  pub no_records : is_there old places.records ≡ false
+  pub unshown : (¬ (IsInPlace places old)) ⊎ (failures old < failures new)
+
 -- What a judgement says of the files of a day. A file that is told as not opened could not be opened: a call failed.
 abbrev pub IsJudgementThere : DayPlaces → Judgement → (old new : List Step) → Type 0
 IsJudgementThere places Verified old new = AnswerThere places old (Ok finding.Verified)
 IsJudgementThere places NotShown old new = AnswerThere places old (Ok finding.NotShown)
 IsJudgementThere places Differs old new = AnswerThere places old (Ok finding.Differs)
-IsJudgementThere places (Refused (Day fault)) old new = AnswerThere places old (Err fault)
-IsJudgementThere places Missing old new = (is_there old places.records ≡ false) ⊎ (is_there old places.report ≡ false)
+IsJudgementThere places (Refused (Day fault)) old new = AnswerThere places old (Err fault) ⊎ IsCutAlone places fault old
+IsJudgementThere places InPlace old new = (is_there old places.records ≡ false) × IsInPlace places old
+IsJudgementThere places Missing old new = (is_there old places.report ≡ false) ⊎ IsNotInPlace places old new
 IsJudgementThere places (Refused SameFile) old new = AreOneFile places.file places.records old ⊎ (failures old < failures new)
 IsJudgementThere places (Refused FileUnopened) old new = failures old < failures new
 IsJudgementThere places (Refused RecordsUnopened) old new = failures old < failures new

@@ -12,7 +12,7 @@ use Rattle.msr_verify.specs.Entries.{JudgedEntry, is_unverified}
 use Rattle.msr_verify.specs.declared.judging.VerifyFault.{VerifyFault}
 use Rattle.msr_verify.specs.declared.judging.VerifyFault.TheVariants as fault
 use Rattle.msr_verify.specs.declared.judgement.Judgement.{Judgement}
-use Rattle.msr_verify.specs.declared.judgement.Judgement.TheVariants.{Verified, Missing, NotShown, Differs, Refused, Skipped, Orphan}
+use Rattle.msr_verify.specs.declared.judgement.Judgement.TheVariants.{Verified, InPlace, Missing, NotShown, Differs, Refused, Skipped, Orphan}
 use Rattle.msr_verify.specs.declared.judgement.Refusal.{Refusal}
 use Rattle.msr_verify.specs.declared.judgement.Refusal.TheVariants.{FileUnopened, RecordsUnopened, ReportUnopened, SameFile, Listing, RecordsListing, Day}
 
@@ -36,6 +36,7 @@ refusal_text (Day why) = verify_fault_text why
 -- the first word of a line
 abbrev pub what_text : Judgement → List ℕ
 what_text Verified = codes "verified"
+what_text InPlace = codes "inplace"
 what_text Missing = codes "missing"
 what_text NotShown = codes "notshown"
 what_text Differs = codes "differs"
@@ -108,8 +109,8 @@ abbrev pub IsJudgementLine : ListForm → List ℕ → Judgement → List ℕ �
 IsJudgementLine Words path judgement line = line ≡ words_line path judgement
 IsJudgementLine Json path judgement line = IsJudgementJson path judgement line
 
--- whether the line is printed: if only what is to be looked at is asked for, that of a day that is verified, or of what is
--- skipped, is left out
+-- whether the line is printed: if only what is to be looked at is asked for, that of a day that is verified or in place, or
+-- of what is skipped, is left out
 abbrev pub is_told : Telling → Judgement → Bool
 is_told telling judgement = not telling.quiet || is_unverified judgement
 

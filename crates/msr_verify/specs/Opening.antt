@@ -7,11 +7,13 @@ use Rattle.msr_tree.specs.Listing.{is_there}
 use Rattle.msr_tree.specs.Reads.{OnlyLooks}
 use Rattle.msr_tree.specs.Steps.{Path, Step, failures}
 use Rattle.msr_verify.specs.Entries.{IsJudgementOfDay}
-use Rattle.msr_verify.specs.Files.{DayPlaces, IsJudgementThere}
+use Rattle.msr_verify.specs.Files.{DayPlaces, IsJudgementThere, JudgesDay}
+use Rattle.msr_verify.specs.declared.day.OpenAlone.{OpenAlone}
 use Rattle.msr_verify.specs.declared.day.OpenDay.{OpenDay}
 use Rattle.msr_verify.specs.declared.day.Places.{Places}
 use Rattle.msr_verify.specs.declared.day.Unjudged.{Unjudged}
 use Rattle.msr_verify.specs.declared.day.Unjudged.TheVariants as unjudged
+use Rattle.msr_verify.specs.declared.judgement.Judgement.{Judgement}
 use Rattle.msr_verify.specs.declared.judgement.Judgement.TheVariants.{Refused}
 use Rattle.msr_verify.specs.declared.judgement.Refusal.{Refusal}
 use Rattle.msr_verify.specs.declared.judgement.Refusal.TheVariants.{SameFile}
@@ -51,6 +53,16 @@ abbrev pub AreTwoFiles : (file records : Path) → Result (Unit {0}) Unjudged �
 AreTwoFiles file records (Ok x) old new = (new ≡ old) × (¬ (AreOneFile file records old))
 AreTwoFiles file records (Err (unjudged.Refused why)) old new = OnlyLooks old new × (why ≡ SameFile) × (AreOneFile file records old ⊎ (failures old < failures new))
 AreTwoFiles file records (Err unjudged.Memory) old new = new ≡ old
+
+-- what is answered of a day without records
+abbrev pub JudgesAlone : DayPlaces → Result Judgement DeviceFault → (old new : List Step) → Type 0
+JudgesAlone places result old new = is_there old places.records ≡ false → JudgesDay places result old new
+
+-- its own file and its report are opened, or a call failed
+abbrev pub OpensAlone : {R : Type 0} → DayPlaces → (R → Device) → Result (OpenAlone R) Unjudged → (old new : List Step) → Type 0
+OpensAlone places device (Ok day) old new = (new ≡ old) × Opens places.file old (device day.file) × Opens places.report old (device day.report)
+OpensAlone places device (Err (unjudged.Refused why)) old new = OnlyLooks old new × (failures old < failures new)
+OpensAlone places device (Err unjudged.Memory) old new = OnlyLooks old new
 
 -- all files of a day are opened
 abbrev pub OpensDay : {R : Type 0} → DayPlaces → (R → Device) → Result (OpenDay R) Unjudged → (old new : List Step) → Type 0

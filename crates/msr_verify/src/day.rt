@@ -5,11 +5,11 @@ ghost use Rattle.msr_devices.specs.declared.fault.DeviceFault.TheVariants.{Memor
 ghost use Rattle.msr_tree.specs.Calls.{Goes};
 ghost use Rattle.msr_verify.specs.Entries.{IsJudgementOfDay};
 ghost use Rattle.msr_verify.specs.Files.{JudgesDay, day_places};
-ghost use Rattle.msr_verify.specs.Opening.{AreTwoFiles, MayHave, OpensDay, OpensFile, RefusesAs, RefusesDay, places_at};
+ghost use Rattle.msr_verify.specs.Opening.{AreTwoFiles, JudgesAlone, MayHave, OpensAlone, OpensDay, OpensFile, RefusesAs, RefusesDay, places_at};
 ghost use Rattle.msr_verify.specs.declared.judgement.Refusal.TheVariants.{SameFile};
 
-use crate::judgement::{Judgement, Refusal, judgement_of};
-use crate::judging::verify_day;
+use crate::judgement::{Judgement, Refusal, judgement_alone, judgement_of};
+use crate::judging::{verify_alone, verify_day};
 use msr_devices::{DeviceFault, Source};
 use msr_folders::{ended, join};
 use msr_options::Folders;
@@ -29,6 +29,13 @@ pub(crate) struct Places<'a> {
     pub(crate) file: &'a str,
     pub(crate) records: &'a str,
     pub(crate) report: &'a str,
+}
+
+/// The files of a day without records.
+#[derive(Drop)]
+pub(crate) struct OpenAlone<R: Source> {
+    file: R,
+    report: R,
 }
 
 /// The files of a day.
@@ -73,13 +80,30 @@ fn judge_at<T: Tree>(
     ensures err { IfErr result (λ fault. fault ≡ Memory) }
     ensures goes { Goes (T.went tree.old) (T.went tree.new) (JudgesDay (places_at places.entry) result) }
 {
-    if !may_have(tree, places.records)? {
-        return Ok(Judgement::Missing);
-    }
     if !may_have(tree, places.report)? {
         return Ok(Judgement::Missing);
     }
+    if !may_have(tree, places.records)? {
+        return judge_alone(tree, alloc, places);
+    }
     judge_files(tree, alloc, places)
+}
+
+/// What the day's own file and the report show, if there are no records.
+fn judge_alone<T: Tree>(
+    tree: &mut T,
+    alloc: Global,
+    places: Places<'_>,
+) -> Result<Judgement, DeviceFault>
+    ensures told { IfOk result IsJudgementOfDay }
+    ensures err { IfErr result (λ fault. fault ≡ Memory) }
+    ensures goes { Goes (T.went tree.old) (T.went tree.new) (JudgesAlone (places_at places.entry) result) }
+{
+    match open_alone(tree, places) {
+        Ok(mut day) => Ok(judgement_alone(verify_alone(alloc, &mut day.file, &mut day.report))),
+        Err(Unjudged::Refused(_)) => Ok(Judgement::Missing),
+        Err(Unjudged::Memory) => Err(DeviceFault::Memory),
+    }
 }
 
 /// What they show, if there are records and a report.
@@ -141,6 +165,16 @@ fn require_apart<T: Tree>(tree: &mut T, file: &str, records: &str) -> Result<(),
         Err(TreeFault::Failed) => Err(Unjudged::Refused(Refusal::SameFile)),
         Err(TreeFault::Memory) => Err(Unjudged::Memory),
     }
+}
+
+/// Opens the files of a day without records, before one is read.
+fn open_alone<T: Tree>(tree: &mut T, places: Places<'_>) -> Result<OpenAlone<T::Reader>, Unjudged>
+    ensures count { IfOk result (λ day. CanCountCall (T.Reader.device day.file) × CanCountCall (T.Reader.device day.report)) }
+    ensures goes { Goes (T.went tree.old) (T.went tree.new) (OpensAlone (places_at places.entry) (λ reader. T.Reader.device reader) result) }
+{
+    let report = open(tree, places.report, Refusal::ReportUnopened)?;
+    let file = open(tree, places.file, Refusal::FileUnopened)?;
+    Ok(OpenAlone { file, report })
 }
 
 /// Opens the files of a day, before one is read.

@@ -1,7 +1,7 @@
 //! What is found of an entry of a folder, and its line.
 ghost use Rattle.std.specs.Prelude.{◌≡◌, ◌↔◌, IfOk, IsTrue};
 ghost use Rattle.std.specs.String.{string_bytes};
-ghost use Rattle.msr_verify.specs.Entries.{is_unverified, judgement_of};
+ghost use Rattle.msr_verify.specs.Entries.{is_unverified, judgement_alone, judgement_of};
 ghost use Rattle.msr_verify.specs.Lines.{IsJudgementJson, IsJudgementLine, IsOfSystem, IsReasonJson, IsToldLine, place_json, refusal_json, side_json, what_text, why_json, why_text, words_line};
 
 use crate::judging::{Finding, VerifyFault};
@@ -115,7 +115,9 @@ impl Refusal {
 pub(crate) enum Judgement {
     /// Records and report of the day are there, and show what they have to.
     Verified,
-    /// There are no records of the day, or no report.
+    /// There are no records of the day, and the report shows that its own file is records, and the fewest.
+    InPlace,
+    /// There is no report, or there are no records, and that is not shown.
     Missing,
     /// The report does not show that the records are the fewest.
     NotShown,
@@ -139,6 +141,17 @@ pub(crate) fn judgement_of(answer: Result<Finding, VerifyFault>) -> Judgement
     }
 }
 
+/// What is told of a day without records with this answer.
+pub(crate) fn judgement_alone(answer: Result<bool, VerifyFault>) -> Judgement
+    ensures { result ≡ judgement_alone answer }
+{
+    match answer {
+        Ok(true) => Judgement::InPlace,
+        Ok(false) => Judgement::Missing,
+        Err(fault) => Judgement::Refused(Refusal::Day(fault)),
+    }
+}
+
 impl Judgement {
     /// The first word of its line.
     fn what<'a>(self) -> &'a str
@@ -146,6 +159,7 @@ impl Judgement {
     {
         match self {
             Judgement::Verified => "verified",
+            Judgement::InPlace => "inplace",
             Judgement::Missing => "missing",
             Judgement::NotShown => "notshown",
             Judgement::Differs => "differs",
@@ -248,7 +262,10 @@ impl Judgement {
     fn is_unverified(self) -> bool
         ensures { result ≡ is_unverified self }
     {
-        !matches!(self, Judgement::Verified | Judgement::Skipped(_))
+        !matches!(
+            self,
+            Judgement::Verified | Judgement::InPlace | Judgement::Skipped(_)
+        )
     }
 
     /// What is printed of the entry with this path: its line, or nothing if it is left out.

@@ -1,14 +1,14 @@
 //! What the three files of a day show, which is under contract: from sources to an answer.
 ghost use Rattle.std.specs.Prelude.{◌≡◌, ◌↔◌, IsErrOf};
 ghost use Rattle.msr_devices.specs.Device.{CanCountCall, HasFailed};
-ghost use Rattle.msr_verify.specs.Day.{VerifiesDay, finding_of, verify_fault_of_report};
+ghost use Rattle.msr_verify.specs.Day.{VerifiesAlone, VerifiesDay, alone_of, finding_of, verify_fault_of_report};
 
 use msr_compare::{CompareFault, Comparison};
 use msr_devices::Source;
 use msr_folders::ToldFault;
 use msr_input::ReadFault;
 use msr_report_reader::{ReportFault, read_report};
-use msr_verdict::verify_beside;
+use msr_verdict::{Verdict, verify_beside, verify_packed};
 use std::alloc::Global;
 use std::error::Error;
 use std::fmt;
@@ -84,6 +84,37 @@ fn finding_of(answer: Result<Option<Comparison>, CompareFault>) -> Result<Findin
         Ok(None) => Ok(Finding::NotShown),
         Err(CompareFault::One(fault)) => Err(VerifyFault::Records(fault)),
         Err(CompareFault::Other(fault)) => Err(VerifyFault::File(fault)),
+    }
+}
+
+/// What is found of the day's own file by the report.
+fn alone_of(answer: Result<Verdict, ReadFault>) -> Result<bool, VerifyFault>
+    ensures { result ≡ alone_of answer }
+{
+    match answer {
+        Ok(Verdict::Least) => Ok(true),
+        Ok(Verdict::NotShown) => Ok(false),
+        Err(ReadFault::Input(_)) => Ok(false),
+        Err(ReadFault::Read) => Err(VerifyFault::File(ReadFault::Read)),
+        Err(ReadFault::Memory) => Err(VerifyFault::File(ReadFault::Memory)),
+    }
+}
+
+/// Whether the report shows that the day's own file is records, and the fewest.
+pub(crate) fn verify_alone<F: Source, Q: Source>(
+    alloc: Global,
+    file: &mut F,
+    report: &mut Q,
+) -> Result<bool, VerifyFault>
+    requires file { CanCountCall (F.device file.old) }
+    requires report { CanCountCall (Q.device report.old) }
+    ensures { VerifiesAlone (F.device file.old) (Q.device report.old) result }
+{
+    match read_report(alloc, report) {
+        Ok(report) => alone_of(verify_packed(alloc, file, &report)),
+        Err(ReportFault::Line(_)) => Ok(false),
+        Err(ReportFault::Read) => Err(VerifyFault::ReportRead),
+        Err(ReportFault::Memory) => Err(VerifyFault::ReportMemory),
     }
 }
 

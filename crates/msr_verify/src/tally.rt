@@ -11,7 +11,8 @@ use msr_devices::{DeviceFault, Sink, write_all};
 use msr_options::ListForm;
 use std::alloc::{AllocError, Global};
 
-/// How many entries had each judgement, and how many were neither verified nor skipped.
+/// How many entries had each judgement, days in place with those that are verified, and how many were neither these nor
+/// skipped.
 #[derive(Clone, Copy, Default)]
 pub(crate) struct VerifyTally {
     pub verified: u64,
@@ -38,7 +39,7 @@ impl VerifyTally {
             → entry.judgement ≡ judgement → IsVerifyTally (before ++ entry ∷ []) self.new }
     {
         match judgement {
-            Judgement::Verified => {
+            Judgement::Verified | Judgement::InPlace => {
                 self.verified = self.verified.saturating_add(1);
                 return;
             }
