@@ -245,7 +245,7 @@ verified PATH                         its report shows that the records are the 
                                       segments, as `compare` says, read with the tolerance
                                       that the report tells
 inplace PATH                          no records are there, and the report shows that the
-                                      file is records, and the fewest: it was replaced
+                                      file is records, and the fewest, as after `replace`
 missing PATH                          no report is there, or no records, and that is not
                                       shown
 notshown PATH                         the report does not show that
