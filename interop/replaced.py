@@ -4,8 +4,7 @@ be told of it, or none.
 import os
 import shutil
 
-import model
-from reports import NotAReport, parsed, verdict
+from reports import parsed
 from walks import NotDone, Verification, in_one_line, is_young, read_regular, skipped
 
 # Where the encoding of a written record stands, and the one of 24-bit integers.
@@ -57,8 +56,6 @@ class Replacement(Verification):
             return "young"
         self.look(path)
         word = super().found_of(file, records, report)
-        if word == "missing" and self.has_records(file, f"{report}.txt") and not os.path.lexists(records):
-            return "same"
         return self.replaced(path, file, records) if word == "verified" else word
 
     def told(self, word, path, why=None, reason=None):
@@ -79,12 +76,12 @@ class Replacement(Verification):
             if not lies_straight(top, path):
                 raise NotDone(f"{side}a link")
 
-    def has_records(self, file, report):
-        """Whether the report shows that what stands in the archive are the fewest records."""
+    def found_alone(self, file, report):
+        """A day that is in place is the same; one whose files cannot be read is missing."""
         try:
-            return verdict(read_regular(file), parsed(read_regular(report)))
-        except (OSError, NotAReport, model.Refused):
-            return False
+            return "same" if super().found_alone(file, report) == "inplace" else "missing"
+        except NotDone:
+            return "missing"
 
     def replaced(self, path, file, records):
         """Gives the records of a verified day the place of its file."""

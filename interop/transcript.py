@@ -437,9 +437,9 @@ HELP = {
     "archive": [*STATUSES, *LENGTH, *KINDS, *TOLERANCE, *REFUSES, *LINES, "--below", *commands.OF_DAYS, "same"],
 }
 HELP["archive"] += ["--older-than", "[default: 0]", "--quiet", "--json", "ROOT", "OUT", "REPORTS"]
-FOUND = ["verified PATH", "missing PATH", "notshown PATH", "differs PATH", "refused PATH: file: TEXT", "orphan PATH"]
-FOUND += ["refused PATH: records: TEXT", "refused PATH: report: TEXT", "refused PATH: listing", "skipped PATH: TEXT"]
-FOUND += ["cannot open", "the file itself", "files N skipped N refused N missing N notshown N differs N orphan N"]
+FOUND = ["verified PATH", "inplace PATH", "missing PATH", "notshown PATH", "differs PATH", "orphan PATH"]
+FOUND += ["refused PATH: file: TEXT", "refused PATH: records: TEXT", "refused PATH: report: TEXT", "refused PATH: listing"]
+FOUND += ["skipped PATH: TEXT", "cannot open", "the file itself", "files N skipped N refused N missing N notshown N differs N orphan N"]
 HELP["verify"] = [*STATUSES, *FOUND, "--quiet", "--json", "--below", "ROOT", "OUT", "REPORTS"]
 PLACED = ["replaced PATH bytes N M", "same PATH", "young PATH", "larger PATH bytes N M", "changed PATH", "refused PATH: TEXT"]
 PLACED += ["missing PATH", "notshown PATH", "differs PATH", "skipped PATH: TEXT", "orphan PATH", "restored PATH"]

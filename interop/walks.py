@@ -552,6 +552,8 @@ class Verification:
     """What is found of each day of an archive, and then of the days of its records."""
 
     SUMS = "files skipped refused missing notshown differs orphan".split()
+    # The words of the days that the first number counts.
+    GOOD = ("verified", "inplace")
 
     def __init__(self, task, odd):
         self.task, self.odd = task, odd
@@ -578,7 +580,7 @@ class Verification:
                     yield self.told("orphan", path)
 
     def is_to_be_looked_at(self):
-        """What is neither verified nor skipped; the whole archive has to have a day."""
+        """What is not verified, in place or skipped; the whole archive has to have a day."""
         return self.has_no_day() or any(count for word, count in self.sums.items() if word not in ("files", "skipped"))
 
     def has_no_day(self):
@@ -586,8 +588,8 @@ class Verification:
 
     def told(self, word, path, why=None, reason=None):
         """The line of an entry, or None if it is left out."""
-        self.sums["files" if word == "verified" else word] += 1
-        if self.task.quiet and word in ("verified", "skipped"):
+        self.sums["files" if word in self.GOOD else word] += 1
+        if self.task.quiet and word in (*self.GOOD, "skipped"):
             return None
         if self.task.json:
             return json_line(word, path, why, reason)
@@ -647,8 +649,10 @@ class Verification:
         """What is told of a day. All of its files are opened first; then the report is judged, and then the records, read
         side by side with its own file: what cannot be read to its end comes first."""
         report = f"{report}.txt"
-        if self.is_not_there(records) or self.is_not_there(report):
+        if self.is_not_there(report):
             return "missing"
+        if self.is_not_there(records):
+            return self.found_alone(file, report)
         text, packed = self.opened("report", report), self.opened("records", records)
         if os.path.exists(file) and os.path.samefile(file, records):
             raise NotDone("records: the file itself")
@@ -667,6 +671,18 @@ class Verification:
         if answer.fault:
             raise NotDone(f"file: {answer.fault}")
         return "differs" if answer.status else "verified"
+
+    def found_alone(self, file, report):
+        """What is told of a day without records: its own file may be the records, as the report shows then."""
+        try:
+            text, content = self.opened("report", report), self.opened("file", file)
+        except NotDone:
+            return "missing"
+        try:
+            read = parsed(self.whole("report", text))
+            return "inplace" if verdict(self.whole("file", content), read) else "missing"
+        except (NotAReport, model.Refused):
+            return "missing"
 
     def opened(self, which, path):
         """The bytes of a regular file; None if reading fails."""

@@ -134,8 +134,18 @@ class Verified(_Named):
     WORD = "verified"
 
 
+class InPlace(_Named):
+    """There are no records, and the report shows that the file is records, and the fewest: it was replaced.
+
+    >>> parse("inplace 2020/XX/TEST/BHN.D/XX.TEST.00.BHN.D.2020.001").path
+    '2020/XX/TEST/BHN.D/XX.TEST.00.BHN.D.2020.001'
+    """
+
+    WORD = "inplace"
+
+
 class Missing(_Named):
-    """There are no records, or no report.
+    """There is no report, or there are no records, and the file is not in place.
 
     >>> parse("missing 2020/XX/TEST/BHN.D/XX.TEST.00.BHN.D.2020.001").path
     '2020/XX/TEST/BHN.D/XX.TEST.00.BHN.D.2020.001'
@@ -261,7 +271,7 @@ class ArchiveTotals:
 
 @dataclass(frozen=True)
 class VerifyTotals:
-    """The last line of `verify`.
+    """The last line of `verify`; `files` are those that are verified or in place.
 
     >>> parse("files 4 skipped 1 refused 0 missing 0 notshown 0 differs 2 orphan 0").differs
     2
@@ -283,7 +293,7 @@ class VerifyTotals:
 
 
 ArchiveLine = Union[Done, Same, Larger, Young, NotShown, Differs, Changed, Shrunk, Skipped, Refused, Channel, ArchiveTotals]
-VerifyLine = Union[Verified, Missing, NotShown, Differs, Skipped, Refused, Orphan, VerifyTotals]
+VerifyLine = Union[Verified, InPlace, Missing, NotShown, Differs, Skipped, Refused, Orphan, VerifyTotals]
 Line = Union[ArchiveLine, VerifyLine]
 
 N = "([0-9]+)"
@@ -301,6 +311,7 @@ NAMED: Dict[str, Maker] = {
     "changed": Changed,
     "young": Young,
     "verified": Verified,
+    "inplace": InPlace,
     "missing": Missing,
     "orphan": Orphan,
 }
@@ -368,6 +379,8 @@ def parse_object(text: str) -> Line:
     >>> day = "2020/XX/TEST/BHN.D/XX.TEST.00.BHN.D.2020.001"
     >>> parse_object(f'{{"what":"shrunk","path":"{day}","samples_was":500,"samples":400}}').was
     500
+    >>> print(parse_object(f'{{"what":"inplace","path":"{day}"}}'))
+    inplace 2020/XX/TEST/BHN.D/XX.TEST.00.BHN.D.2020.001
     """
     members = json.loads(text)
     what = members.pop("what")

@@ -31,7 +31,8 @@ DONE, NONE = echo("done", path=DAY.format(1), read=2, written=1), echo("files", 
 TYPES = {
     "done": lines.Done, "same": lines.Same, "larger": lines.Larger, "notshown": lines.NotShown, "differs": lines.Differs,
     "changed": lines.Changed, "shrunk": lines.Shrunk, "young": lines.Young, "skipped": lines.Skipped, "refused": lines.Refused,
-    "channel": lines.Channel, "verified": lines.Verified, "missing": lines.Missing, "orphan": lines.Orphan,
+    "channel": lines.Channel, "verified": lines.Verified, "inplace": lines.InPlace, "missing": lines.Missing,
+    "orphan": lines.Orphan,
 }
 
 
@@ -213,13 +214,13 @@ class Archive(Walks):
 class Verify(Walks):
     def test_each_line(self):
         shutil.copytree(SDS, self.root)
-        for number in range(3, 12):
+        for number in range(3, 13):
             shutil.copy(example("two-segments.mseed"), os.path.join(self.root, DAY.format(number)))
         self.walk(["--no-int24"])
         self.assertEqual(self.verify(), {lines.Verified, lines.Skipped, lines.VerifyTotals})
         packed, reports = self.folders("found")
-        day = [os.path.join(packed, DAY.format(number)) for number in range(12)]
-        report = [os.path.join(reports, DAY.format(number) + ".txt") for number in range(12)]
+        day = [os.path.join(packed, DAY.format(number)) for number in range(13)]
+        report = [os.path.join(reports, DAY.format(number) + ".txt") for number in range(13)]
         os.remove(day[3])
         self.change(report[4], lambda text: text.replace(b"length 512", b"length 500"))
         self.change(day[5], lambda content: content[:600])
@@ -231,9 +232,10 @@ class Verify(Walks):
         os.mkdir(report[10])
         os.remove(day[11])
         os.symlink(os.path.join(self.root, DAY.format(11)), day[11])
+        os.replace(day[12], os.path.join(self.root, DAY.format(12)))
         os.makedirs(os.path.join(packed.encode(), b"2022", b"\xff"))
-        kinds = {lines.Verified, lines.Skipped, lines.Missing, lines.Refused, lines.NotShown, lines.Differs, lines.Orphan}
-        self.assertEqual(self.verify(), {*kinds, lines.VerifyTotals})
+        kinds = {lines.Verified, lines.InPlace, lines.Missing, lines.NotShown, lines.Differs, lines.Refused, lines.Orphan}
+        self.assertEqual(self.verify(), {*kinds, lines.Skipped, lines.VerifyTotals})
         self.verify(["--below", "2020/XX/TEST/BHN.D"], below=["2020/XX/TEST/BHN.D"])
         refused = [line for line in verify(self.root, packed, reports) if isinstance(line, lines.Refused)]
         told = [(line.of, line.text, line.number) for line in refused]
@@ -374,6 +376,7 @@ class Lines(unittest.TestCase):
                 lines.Skipped(path, "not an SDS path"),
                 lines.Done(path, 1, 2, 3, 4),
                 lines.NotShown(path),
+                lines.InPlace(path),
             ):
                 if (path, line) != ("a: records", lines.Refused(path, "listing")):
                     self.assertEqual(lines.parse(str(line)), line)
