@@ -135,7 +135,7 @@ class Verified(_Named):
 
 
 class InPlace(_Named):
-    """There are no records, and the report shows that the file is records, and the fewest: as after `replace`.
+    """There are no records, and the report shows that the file is records, and the fewest, as after `replace`.
 
     >>> parse("inplace 2020/XX/TEST/BHN.D/XX.TEST.00.BHN.D.2020.001").path
     '2020/XX/TEST/BHN.D/XX.TEST.00.BHN.D.2020.001'
