@@ -3,13 +3,15 @@ small archive.
 
 Each run has the folders anew. In those of the records and the reports stand what an earlier run left of one day, what a
 run that was killed left beside it (its claim, and what has the number of the claim), and a file of which the archive
-knows nothing; with --resume also what an earlier walk left whole of another day. Whatever fails, each line printed is
-that of the undisturbed run, or tells that this very entry is refused, by a text for such a fault; if a day is left
-alone it may be repacked, and if it is checked it may be told as not shown; the totals and the status are those of the
-lines; a day that is told as done or left alone has its records and its report whole, a refused one has neither, unless
-it could not be claimed: then nothing of it was touched; records that have their name have their report; the stamp of an
-input stands beside nothing that was not made from that input; what stands beside a day's files stands there with its
-claim; and no other file is touched. One more walk, undisturbed, then leaves what the undisturbed one does.
+knows nothing; with --resume or --keep-old also what an earlier walk left whole of another day. Whatever fails, each line
+printed is that of the undisturbed run, or tells that this very entry is refused, by a text for such a fault; if a day is
+left alone it may be repacked, and if it is checked it may be told as not shown; the totals and the status are those of
+the lines; a day that is told as done or left alone has its records and its report whole, a refused one has neither,
+unless it could not be claimed: then nothing of it was touched; with --keep-old a day that the undisturbed run refuses
+has what it had, and any refused one if no call failed that gives or takes a name; records that have their name have
+their report; the stamp of an input stands beside nothing that was not made from that input; what stands beside a day's
+files stands there with its claim; and no other file is touched. One more walk, undisturbed, then leaves what the
+undisturbed one does.
 """
 import collections
 import os
@@ -49,6 +51,9 @@ TEXTS = {
     "removing": {"cannot open"},
 }
 KILLED = -signal.SIGKILL
+# The first words of lines that are counted as refused, and the calls without which no name of a day changes.
+REFUSED = "refused", "notshown", "differs", "shrunk"
+NAMING = {"naming", "removing", "syncing", KILLED}
 
 Walked = collections.namedtuple("Walked", "status printed complained files")
 # What may have failed: kinds of calls, the texts that may tell it, whether standard error may have failed with it,
@@ -72,13 +77,14 @@ def beside(path, files):
 
 
 class Tree:
-    def __init__(self, bench, title, cut=False, pipes=False, options=()):
-        self.bench, self.title, self.cut, self.pipes, self.options = bench, title, cut, pipes, options
+    def __init__(self, bench, title, cut=None, pipes=False, options=()):
+        self.bench, self.title, self.cut, self.pipes, self.options = bench, title, None, pipes, options
         self.top = f"{bench.folder}/tree"
         self.earlier = {}
-        if "--resume" in options:
+        if {"--resume", "--keep-old"} & set(options):
             done = self.run(options=("--resume", "--below", os.path.dirname(FIRST))).files
             self.earlier = {name: done[name] for name in names_of(FIRST)}
+        self.cut = cut
         self.calm = self.run()
 
     def put(self, path, text):
@@ -95,8 +101,7 @@ class Tree:
         for path in (FIRST, SECOND, OTHER):
             with open(f"{day.ROOT}/examples/sds/{path}", "rb") as it:
                 files[f"sds/{path}"] = it.read()
-        if self.cut:
-            files[f"sds/{FIRST}"] = files[f"sds/{FIRST}"][:-1]
+        files[f"sds/{FIRST}"] = files[f"sds/{FIRST}"][: self.cut]
         for path, text in files.items():
             self.put(path, text)
         number = os.stat(f"{self.top}/{claim_of(left)}").st_ino
@@ -149,7 +154,7 @@ class Tree:
 
 def entries_of(printed):
     """The lines of entries of a whole walk."""
-    words = ("done", "same", "skipped", "refused", "notshown", "differs")
+    words = ("done", "same", "skipped", "refused", "notshown", "differs", "shrunk")
     return [line for line in printed.splitlines() if line.split(" ")[0] in words]
 
 
@@ -171,7 +176,7 @@ def last_lines(told):
             channels[found[1]] = files + 1, read + int(found[2]), written + int(found[3])
     for name, (files, read, written) in channels.items():
         yield f"channel {name} files {files} read {read} written {written}"
-    done, refused = count["done"] + count["same"], count["refused"] + count["notshown"] + count["differs"]
+    done, refused = count["done"] + count["same"], sum(count[word] for word in REFUSED)
     yield f"files {done} skipped {count['skipped']} refused {refused}"
 
 
@@ -217,7 +222,7 @@ def wrong_with(tree, walked, failed):
         return f"printed {rest[-120:]!r} after {told[-1:]}"
     whole = rest == following[0] and rest.startswith(("channel ", "files "))
     complaints = {f"msrepack: {text}\n" for text in failed.texts}
-    refused = any(line.startswith(("refused ", "notshown ", "differs ")) for line in told)
+    refused = any(line.split(" ")[0] in REFUSED for line in told)
     if walked.status == KILLED:
         right = KILLED in failed.kinds
     elif walked.complained:
@@ -255,6 +260,8 @@ def day_wrong_with(tree, path, line, files, failed):
     stays = KILLED in kinds or "removing" in kinds or not line or unclaimed
     if any(it not in (None, o, n) for it, o, n in zip(has, old, new)):
         return "neither whole nor as it was"
+    if "--keep-old" in tree.options and new == old and has != old:
+        return "not kept"
     if has[0] is not None and has[0] == new[0] and has[1] != new[1]:
         return "records without their report"
     if has[2] is not None and not any(has[2] == of[2] and all(map(same_or_none, has, of)) for of in (old, new)):
@@ -265,8 +272,11 @@ def day_wrong_with(tree, path, line, files, failed):
         return "left alone, and touched"
     if line.startswith("refused ") and path_of(line) != path and (has, left) != (old, killed):
         return "in a folder without a list, and touched"
-    if line.startswith(("refused ", "notshown ", "differs ")) and path_of(line) == path and any(has) and not stays:
-        return "refused, and not removed"
+    if line.split(" ")[0] in REFUSED and path_of(line) == path:
+        if "--keep-old" not in tree.options and any(has) and not stays:
+            return "refused, and not removed"
+        if "--keep-old" in tree.options and has != old and not kinds & NAMING:
+            return "refused, and not kept"
     return left_wrong_with(path, left, killed, stays or path_of(line) != path, kinds)
 
 
@@ -359,10 +369,12 @@ def limits(tree):
 def hold_trees(bench, only):
     kinds_of_tree = {
         "archive > FILE": {},
-        "archive with a day that is cut | ..": {"cut": True, "pipes": True},
+        "archive with a day that is cut | ..": {"cut": -1, "pipes": True},
         "archive --check > FILE": {"options": ("--check",)},
         "archive --resume, a day done before > FILE": {"options": ("--resume",)},
         "archive --resume --check, a day done before | ..": {"pipes": True, "options": ("--resume", "--check")},
+        "archive --keep-old, a day done before and cut > FILE": {"cut": -1, "options": ("--keep-old",)},
+        "archive --keep-old, a day done before with more records > FILE": {"cut": 512, "options": ("--keep-old",)},
     }
     for title, words in kinds_of_tree.items():
         if only in title:
