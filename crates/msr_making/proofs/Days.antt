@@ -112,9 +112,10 @@ unfit_held asked (Err stop) is = unfit_as asked stop is
 -- what could not be held against what an earlier walk left
 untold_as : (asked : DayOptions) (repacked : Repacked) (stop : Stop) → HasAnswer asked.options (Ok repacked) → IsStopOfReading stop → IsRepackedAs asked (Err stop)
 untold_as asked repacked (Refused (CannotOpen unopened)) does is = tt
-untold_as asked repacked (Refused why) does is =
-    let rest = unread_of asked.options does.input does.written does.told repacked fault.Read does.answers (inl refl) in
-    subst (λ (w : DayFault). IsRepackedDay asked (Err w)) (sym is) (record { input = does.input; written = does.written; told = rest.0; answers = rest.1 })
+untold_as asked repacked (Refused (Tool why)) does is =
+    let rest = unread_of asked.options does.input does.written does.told repacked why does.answers is in
+    record { input = does.input; written = does.written; told = rest.0; answers = rest.1 }
+untold_as asked repacked (Refused other) does is = absurd is
 untold_as asked repacked Memory does is = tt
 
 pub has_answer : (asked : DayOptions) (repacked : Repacked) (written : Result Repacked Stop) → counts_of written ≡ Some repacked → WasRepacked asked written → HasAnswer asked.options (Ok repacked)

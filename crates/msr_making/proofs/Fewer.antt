@@ -26,7 +26,7 @@ use Rattle.msr_making.specs.Places.{DayPaths, paths_of}
 use Rattle.msr_making.specs.Shrinking.{AsksForLeft, HeldAgainst, HeldFor, HoldsAgainst, IsNoFewer, IsStopOfReading, IsToldLeft, IsUntold, ReadsSamples, TellsSamples, counts_of}
 use Rattle.msr_making.specs.Told.{LeavesSamples}
 use Rattle.msr_making.specs.Verifying.{OpensAt}
-use Rattle.msr_making.specs.declared.answer.DayFault.TheVariants.{CannotOpen, Shrunk}
+use Rattle.msr_making.specs.declared.answer.DayFault.TheVariants.{CannotOpen, Shrunk, Tool}
 use Rattle.msr_making.specs.declared.answer.Repacked.{Repacked}
 use Rattle.msr_making.specs.declared.answer.Stop.{Stop}
 use Rattle.msr_making.specs.declared.answer.Stop.TheVariants.{Memory, Refused}
@@ -161,7 +161,7 @@ module _ (files : DayFiles) (look : DayLook) (asked : DayOptions) where
   told_left input facts text past new (Ok None) regular looked has tells = λ keep known_records known_report was left.
       let same : left.text ≡ text = let here = left.has_report in cc in
       tells left.report (subst (λ (t : List ℕ). IsReadFrom left.report t) same left.reads)
-  told_left input facts text past new (Err (Refused (CannotOpen u))) regular looked has tells = absurd cc
+  told_left input facts text past new (Err (Refused (CannotOpen u))) regular looked has tells = absurd tells
   told_left input facts text past new (Err (Refused why)) regular looked has tells = tt
   told_left input facts text past new (Err Memory) regular looked has tells = tt
 
@@ -201,7 +201,8 @@ module _ (files : DayFiles) (look : DayLook) (asked : DayOptions) where
     where
       why : (s : Stop) → IsStopOfReading s → (paths : DayPaths) (p q : List Step) → IsToldLeft paths look asked (Err s) p q → IsUntold (Err s) p q
       why (Refused (CannotOpen u)) ok paths p q failed = record { stop = Refused (CannotOpen u); told = refl; why = inr (inr (u, refl, failed)) }
-      why (Refused fault) ok paths p q failed = record { stop = Refused fault; told = refl; why = inr (inl (ap (λ f. Refused f) ok)) }
+      why (Refused (Tool fault)) ok paths p q failed = record { stop = Refused (Tool fault); told = refl; why = inr (inl (fault, refl, ok)) }
+      why (Refused other) ok paths p q failed = absurd ok
       why Memory ok paths p q failed = record { stop = Memory; told = refl; why = inl refl }
 
   -- it has fewer samples

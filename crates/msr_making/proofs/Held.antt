@@ -1,14 +1,15 @@
 -- What was written of a day is held against what an earlier walk left of it.
-use Rattle.std.proofs.Common.{◌≡◌, ◌⊎◌, ◌<◌, inl, inr, ⊎_elim, ℕ, List, [], refl, sym, ◌∙◌, ap, subst, Result, Ok, Err, Option, None, Some, IsSome, IsSomeAnd, length, option_map, arith}
+use Rattle.std.proofs.Common.{◌≡◌, ◌⊎◌, ◌<◌, inr, ⊎_elim, ℕ, List, [], refl, sym, ◌∙◌, ap, subst, Result, Ok, Err, Option, None, Some, IsSome, IsSomeAnd, length, option_map, arith}
 use Rattle.msr_naming.specs.declared.files.DayFiles.{DayFiles}
 use Rattle.msr_naming.proofs.FallingBack.{goes_both}
 use Rattle.msr_options.specs.declared.days.DayOptions.{DayOptions}
-use Rattle.msr_tool.specs.declared.fault.ToolFault.TheVariants.{Read}
+use Rattle.msr_tool.specs.declared.fault.ToolFault.{ToolFault}
 use Rattle.msr_tree.specs.Calls.{Goes}
 use Rattle.msr_tree.specs.Folders.{ChangesFiles}
 use Rattle.msr_tree.specs.Steps.{File, Path, Step, failures, now, seen}
 use Rattle.msr_tree.specs.declared.facts.Facts.{Facts}
 use Rattle.msr_tree.proofs.Filing.{changes_more, changes_then, no_fewer, now_kept, ready_kept, seen_kept}
+use Rattle.msr_making.specs.Day.{IsReadOrMemory}
 use Rattle.msr_making.specs.Ending.{HeldAs, PreparedAs, WritesHeld}
 use Rattle.msr_making.specs.Looking.{IsDayLook, IsLookedAt, IsSightAt}
 use Rattle.msr_making.specs.Parts.{part_paths}
@@ -105,14 +106,14 @@ module _ (input : Path) (look : DayLook) (files : DayFiles) (asked : DayOptions)
           (⊎_elim
           (λ e. subst (λ (s : Stop). PreparedAs input files asked (Err s) old new) (sym e) tt)
           (λ rest. ⊎_elim
-          (λ e. subst (λ (s : Stop). PreparedAs input files asked (Err s) old new) (sym e) unread)
+          (λ is. subst (λ (s : Stop). PreparedAs input files asked (Err s) old new) (sym is.1) (unread is.0 is.2))
           (λ failed. subst (λ (s : Stop). PreparedAs input files asked (Err s) old new) (sym failed.1)
           (let few = no_fewer l old mid changes in let more = failed.2 in inr (omega arith)))
           rest)
           untold.why)
         where
-          unread : PreparedAs input files asked (Err (Refused (Tool Read))) old new
-          unread = let rest = unread_of asked.options repack.input records text repacked Read repack.answers (inl refl) in
+          unread : (fault : ToolFault) → IsReadOrMemory fault → PreparedAs input files asked (Err (Refused (Tool fault))) old new
+          unread fault is = let rest = unread_of asked.options repack.input records text repacked fault repack.answers is in
               record { input = repack.input; written = records; told = rest.0; has_input = repack.has_input; answers = rest.1 }
 
       -- what was held against that

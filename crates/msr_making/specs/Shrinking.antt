@@ -7,13 +7,14 @@ use Rattle.msr_options.specs.declared.days.DayOptions.{DayOptions}
 use Rattle.msr_options.specs.declared.hint.Unopened.{Unopened}
 use Rattle.msr_report.specs.declared.report.Report.{Report}
 use Rattle.msr_report_reader.specs.Reading.{IsReadFrom}
-use Rattle.msr_tool.specs.declared.fault.ToolFault.TheVariants.{Read}
+use Rattle.msr_tool.specs.declared.fault.ToolFault.{ToolFault}
 use Rattle.msr_tree.specs.Folders.{ChangesFiles}
 use Rattle.msr_tree.specs.Steps.{Path, Step, failures}
-use Rattle.msr_making.specs.Day.{samples_in}
+use Rattle.msr_making.specs.Day.{IsReadOrMemory, samples_in}
 use Rattle.msr_making.specs.Looking.{IsDayLook}
 use Rattle.msr_making.specs.Places.{DayPaths, paths_of}
 use Rattle.msr_making.specs.Told.{LeavesSamples}
+use Rattle.msr_making.specs.declared.answer.DayFault.{DayFault}
 use Rattle.msr_making.specs.declared.answer.DayFault.TheVariants.{CannotOpen, Larger, Shrunk, Tool}
 use Rattle.msr_making.specs.declared.answer.Repacked.{Repacked}
 use Rattle.msr_making.specs.declared.answer.Stop.{Stop}
@@ -21,12 +22,17 @@ use Rattle.msr_making.specs.declared.answer.Stop.TheVariants.{Memory, Refused}
 use Rattle.msr_making.specs.declared.looks.DayLook.{DayLook}
 use Rattle.msr_making.specs.declared.looks.Sight.TheVariants.{Unknown}
 
+-- reading the report failed, or memory was refused for it
+abbrev pub IsUnread : DayFault → Type 0
+IsUnread (Tool fault) = IsReadOrMemory fault
+IsUnread why = ⊥
+
 -- what is told of the report whose text this is, if it is that of one
 abbrev pub TellsSamples : List ℕ → Result (Option ℕ) Stop → Type 0
 TellsSamples text (Ok (Some samples)) = (report : Report) × IsReadFrom report text × (samples ≡ saturated (samples_in report.segments.items))
 TellsSamples text (Ok None) = (report : Report) → ¬ (IsReadFrom report text)
-TellsSamples text (Err (Refused why)) = why ≡ Tool Read
-TellsSamples text (Err Memory) = Unit {0}
+TellsSamples text (Err (Refused why)) = IsUnread why
+TellsSamples text (Err Memory) = ⊥
 
 -- the same of the text that a source has
 pub record ReadsSamples (source : Device) (result : Result (Option ℕ) Stop) : Type 0 where
@@ -37,7 +43,7 @@ pub record ReadsSamples (source : Device) (result : Result (Option ℕ) Stop) : 
 -- a call failed, or memory was refused
 abbrev pub IsStopOfReading : Stop → Type 0
 IsStopOfReading (Refused (CannotOpen unopened)) = ⊤
-IsStopOfReading (Refused why) = why ≡ Tool Read
+IsStopOfReading (Refused why) = IsUnread why
 IsStopOfReading Memory = ⊤
 
 -- what is told of the samples that an earlier walk left, if they are asked for
@@ -71,7 +77,7 @@ pub record IsFewer (paths : DayPaths) (asked : DayOptions) (repacked : Repacked)
 pub record IsUntold (result : Result Repacked Stop) (old new : List Step) : Type 0 where
   pub stop : Stop
   pub told : result ≡ Err stop
-  pub why : (stop ≡ Memory) ⊎ ((stop ≡ Refused (Tool Read)) ⊎ ((unopened : Unopened) × (stop ≡ Refused (CannotOpen unopened)) × (failures old < failures new)))
+  pub why : (stop ≡ Memory) ⊎ (((fault : ToolFault) × (stop ≡ Refused (Tool fault)) × IsReadOrMemory fault) ⊎ ((unopened : Unopened) × (stop ≡ Refused (CannotOpen unopened)) × (failures old < failures new)))
 
 -- what a day with these counts is held against
 abbrev pub HeldFor : DayPaths → DayLook → DayOptions → Repacked → (written result : Result Repacked Stop) → (old new : List Step) → Type 0

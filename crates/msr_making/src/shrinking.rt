@@ -30,7 +30,7 @@ fn samples_told<S: Source>(alloc: Global, source: &mut S) -> Result<Option<u64>,
         Ok(report) => Ok(Some(samples_reported(&report))),
         Err(ReportFault::Line(_)) => Ok(None),
         Err(ReportFault::Read) => Err(Stop::Refused(DayFault::Tool(ToolFault::Read))),
-        Err(ReportFault::Memory) => Err(Stop::Memory),
+        Err(ReportFault::Memory) => Err(Stop::Refused(DayFault::Tool(ToolFault::Memory))),
     }
 }
 
