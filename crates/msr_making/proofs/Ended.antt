@@ -37,7 +37,7 @@ use Rattle.msr_making.specs.declared.making.Making.{Making}
 use Rattle.msr_making.proofs.Cleared.{unseen_by}
 use Rattle.msr_making.proofs.Owns.{free_kept, more_stamp, none_empty, none_stamp, own_each, own_kept, report_each, report_kept}
 use Rattle.msr_making.proofs.Sights.{day_look_later, looks_kept}
-use Rattle.msr_making.proofs.Untouched.{kept_for, left_claimed, left_then}
+use Rattle.msr_making.proofs.Untouched.{kept_for, left_claimed, left_then, still_there, untouched_then}
 
 -- a refusal said of a day is so later
 refused_later : (asked : DayOptions) (paths : DayPaths) (why : DayFault) (old mid new : List Step) → failures mid ≤ failures new → IsRefusedThere asked paths why old mid → IsRefusedThere asked paths why old new
@@ -181,11 +181,7 @@ module _ (paths : DayPaths) (asked : DayOptions) (old mid new : List Step) (chan
   few = no_fewer [] old mid changes
 
   left_so : (stays : Bool) (why : DayFault) → IsLeftFor stays why paths mid new → IsLeftFor stays why paths old new
-  left_so stays why is = left_then paths old mid new stays why few (kept_for paths old mid why (
-    now_kept [] paths.records old mid tt changes,
-    now_kept [] paths.report old mid tt changes,
-    now_kept [] paths.stamp old mid tt changes,
-  )) is
+  left_so stays why is = left_then paths old mid new stays why few (kept_for paths old mid why (still_there paths old mid changes)) is
 
   samples_so : (was : ℕ) → LeavesSamples paths was mid → LeavesSamples paths was old
   samples_so was is = record {
@@ -272,19 +268,22 @@ module _ (paths : DayPaths) (asked : DayOptions) (old mid new : List Step) (chan
     smaller = is.smaller;
     unshrunk = unshrunk_so repacked is.unshrunk;
   }
-  outcome_before Young is = is
-  outcome_before (Same repacked) is = record {
-    resume = is.resume;
-    left = record {
-      stamp = is.left.stamp;
-      has_stamp = seen_so paths.stamp _ is.left.has_stamp;
-      has_input = some_so paths.input _ is.left.has_input;
-      read = is.left.read;
-      kept = is.left.kept;
-      has_report = seen_so paths.report _ is.left.has_report;
-      has_records = some_so paths.records _ is.left.has_records;
-    };
-  }
+  outcome_before Young is = (is.0, untouched_then paths old mid new (still_there paths old mid changes) is.1)
+  outcome_before (Same repacked) is = (
+    record {
+      resume = is.0.resume;
+      left = record {
+        stamp = is.0.left.stamp;
+        has_stamp = seen_so paths.stamp _ is.0.left.has_stamp;
+        has_input = some_so paths.input _ is.0.left.has_input;
+        read = is.0.left.read;
+        kept = is.0.left.kept;
+        has_report = seen_so paths.report _ is.0.left.has_report;
+        has_records = some_so paths.records _ is.0.left.has_records;
+      };
+    },
+    untouched_then paths old mid new (still_there paths old mid changes) is.1,
+  )
   outcome_before (Refused why) is = (refused_before why is.0, left_so (stays_for asked why) why is.1)
 
 -- of the same names

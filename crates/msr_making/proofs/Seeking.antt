@@ -22,7 +22,7 @@ use Rattle.msr_making.specs.declared.making.Found.TheVariants.{Ended, Open}
 use Rattle.msr_naming.proofs.FallingBack.{goes_both}
 use Rattle.msr_tree.specs.Calls.{AreOneFile}
 use Rattle.msr_tree.proofs.Filing.{changes_none, changes_then, no_fewer, now_kept, seen_kept}
-use Rattle.msr_making.proofs.Untouched.{left_untouched}
+use Rattle.msr_making.proofs.Untouched.{left_untouched, still_there}
 use Rattle.msr_making.proofs.Sights.{asks_as, asks_then, day_look_later, found_day, said_nothing}
 
 abbrev given : {A : Type 0} → A → Result A AllocError
@@ -35,11 +35,7 @@ said_then paths look old mid new changes said = record { are = said.are; failed 
 module _ (paths : DayPaths) (asked : DayOptions) (look : DayLook) where
   -- nothing was made
   untouched : (u : Unopened) (p q : List Step) → ChangesFiles [] p q → IsLeftFor asked.keep_old (CannotOpen u) paths p q
-  untouched u p q changes = left_untouched paths p q asked.keep_old (CannotOpen u) (
-    now_kept [] paths.records p q tt changes,
-    now_kept [] paths.report p q tt changes,
-    now_kept [] paths.stamp p q tt changes,
-  ) tt
+  untouched u p q changes = left_untouched paths p q asked.keep_old (CannotOpen u) (still_there paths p q changes) tt
 
   pub found_unknown : (u : Unopened) (one two : List Step → Type 0) → HasUnknown look → Goes one two (FindsDay paths (Ok look)) → Goes one two (SeeksDay paths asked (Ok (Ended (Refused (CannotOpen u)))))
   found_unknown u one two unknown goes = asks_as _ (SaysFound paths asked) (given look) (given (Ended (Refused (CannotOpen u)))) one two (λ p q x said. (inr (said.failed unknown), untouched u p q x)) goes
@@ -93,10 +89,13 @@ module _ (paths : DayPaths) (asked : DayOptions) (look : DayLook) where
   pub found_same : (repacked : Repacked) (answer : Bool) (one two three four : List Step → Type 0) → IsTrue asked.resume → Goes one two (FindsDay paths (Ok look)) → Goes two three (AsksForShared paths (Ok answer))
       → Goes three four (AsksForKept paths look asked (Ok (Some repacked))) → Goes one four (SeeksDay paths asked (Ok (Ended (Same repacked))))
   found_same repacked answer one two three four resume first second third = asks_then _ _ (SaysFound paths asked) (given look) (given (Some repacked)) (given (Ended (Same repacked))) one two four
-      (λ p q r x y said kept. record {
-        resume = resume;
-        left = left_earlier repacked p kept.0 (changes_then [] p q kept.0 x kept.1) (kept.2 (day_look_later paths look p kept.0 (changes_then [] p q kept.0 x kept.1) said.are));
-      }) first (asked_both _ answer (given (Some repacked)) two three four second third)
+      (λ p q r x y said kept. (
+        record {
+          resume = resume;
+          left = left_earlier repacked p kept.0 (changes_then [] p q kept.0 x kept.1) (kept.2 (day_look_later paths look p kept.0 (changes_then [] p q kept.0 x kept.1) said.are));
+        },
+        still_there paths p r (changes_then [] p q r x y),
+      )) first (asked_both _ answer (given (Some repacked)) two three four second third)
 
   same_of : (found : Result (Option Repacked) AllocError) (old mid new : List Step) → IsTrue asked.resume → ChangesFiles [] old mid → IsDayLook paths look mid
       → IfOk found (λ f. IsDayLook paths look mid → IfSome f (λ repacked. IsLeftThere asked paths repacked mid)) → IfOk found (λ f. IfSome f (λ repacked. IsSameThere asked paths repacked old))

@@ -1,5 +1,5 @@
 -- What is made of a day stays what it is.
-use Rattle.std.proofs.Common.{◌≤◌, inl, inr, ⊎_elim, Bool, true, false, List, sym, ◌∙◌, subst, arith}
+use Rattle.std.proofs.Common.{◌≤◌, inl, inr, ⊎_elim, Bool, true, false, List, [], sym, ◌∙◌, subst, arith}
 use Rattle.msr_naming.specs.declared.files.DayFiles.{DayFiles}
 use Rattle.msr_options.specs.declared.hint.Side.{Side}
 use Rattle.msr_options.specs.declared.hint.Side.TheVariants.{File, Outputs, Records, Report}
@@ -18,6 +18,14 @@ untouched_by input files names none old new changes = (
   now_kept names files.records.path old new none.records changes,
   now_kept names files.report.path old new none.report changes,
   now_kept names files.stamp.path old new none.stamp changes,
+)
+
+-- where no name changes
+pub still_there : (paths : DayPaths) (old new : List Step) → ChangesFiles [] old new → AreUntouched paths old new
+still_there paths old new changes = (
+  now_kept [] paths.records old new tt changes,
+  now_kept [] paths.report old new tt changes,
+  now_kept [] paths.stamp old new tt changes,
 )
 
 module _ (paths : DayPaths) (old mid new : List Step) where

@@ -162,6 +162,6 @@ IsLeftFor false why paths old new = IsClearedFor why paths old new
 -- what an outcome says of a day, by what its names lead to before it is done and after
 abbrev pub IsOutcomeThere : DayOptions → DayPaths → DayOutcome → (old new : List Step) → Type 0
 IsOutcomeThere asked paths (Done repacked) old new = IsDoneThere asked paths repacked old new
-IsOutcomeThere asked paths (Same repacked) old new = IsSameThere asked paths repacked old
-IsOutcomeThere asked paths Young old new = AsksForAge asked
+IsOutcomeThere asked paths (Same repacked) old new = IsSameThere asked paths repacked old × AreUntouched paths old new
+IsOutcomeThere asked paths Young old new = AsksForAge asked × AreUntouched paths old new
 IsOutcomeThere asked paths (Refused why) old new = IsRefusedThere asked paths why old new × IsLeftFor (stays_for asked why) why paths old new

@@ -5,7 +5,7 @@ use Rattle.msr_kinds.specs.declared.lengths.Length.{Length}
 use Rattle.msr_making.specs.Day.{AsksForAge, IsDayOutcome}
 use Rattle.msr_making.specs.Making.{DoesDay, LooksForSame}
 use Rattle.msr_tree.specs.Folders.{ChangesFiles}
-use Rattle.msr_making.proofs.Untouched.{left_claimed, left_untouched}
+use Rattle.msr_making.proofs.Untouched.{left_claimed, left_untouched, still_there}
 use Rattle.msr_making.specs.Told.{AreUntouched, IsLeftFor, IsOutcomeThere, UnlessMade}
 use Rattle.msr_making.specs.declared.answer.DayEnd.{DayEnd}
 use Rattle.msr_making.specs.declared.answer.DayFault.{DayFault}
@@ -140,7 +140,7 @@ module _ {H E : Type 0} (outcome : H → DayOutcome) (names : DayNames) (out rep
   handles_same repacked result before after is goes = goes_so _ _ before after (λ old new went looks. record {
     works = looks_work out reports names asked (Ok (Some repacked)) old new looks;
     says = λ are. if_ok_as result (λ handled same. told_now asked names out reports (outcome handled) old new
-        (subst (λ o. IsToldThere asked (paths_of_names names) o old new) (sym same) looks.same)) is;
+        (subst (λ o. IsToldThere asked (paths_of_names names) o old new) (sym same) (looks.same, still_there (paths_of_names names) old new looks.changes))) is;
   }) goes
 
   pub handles_found : (repacked : Repacked) (given : Result (Option Repacked) AllocError) (result : Result H E) (before after : List Step → Type 0)
@@ -187,13 +187,13 @@ young_outcome days asks = record {
   is = asks;
 }
 
-young_there : (days : DayOptions) (names : DayNames) (out reports : Path) (old new : List Step) → AsksForAge days → IsDayTold days names out reports Young old new
-young_there days names out reports old new asks = record {
+young_there : (days : DayOptions) (names : DayNames) (out reports : Path) (old new : List Step) → AsksForAge days → ChangesFiles [] old new → IsDayTold days names out reports Young old new
+young_there days names out reports old new asks leaves = record {
   asked = in_length days.options.record_length days;
   for_day = record { record_length = days.options.record_length; is = refl; own = λ same. refl };
   of = outcomes.Young;
   same = refl;
-  there = λ are. told_now (in_length days.options.record_length days) names out reports outcomes.Young old new asks;
+  there = λ are. told_now (in_length days.options.record_length days) names out reports outcomes.Young old new (asks, still_there (paths_of_names names) old new leaves);
 }
 
 -- what becomes of a day, told of an entry with its path
@@ -283,7 +283,7 @@ pub tells_young : {H E : Type 0} (outcome : H → Outcome) (handled : H) (days :
     → AsksForAge days → outcome handled ≡ Young → Goes before after (ChangesFiles []) → Goes before after (TellsDay {E = E} outcome days names out reports (Ok handled))
 tells_young outcome handled days names out reports before after asks is goes = goes_so _ _ before after (λ old new went leaves. record {
   works = length_works out reports old new leaves;
-  says = subst (λ o. IsDayTold days names out reports o old new) (sym is) (young_there days names out reports old new asks);
+  says = subst (λ o. IsDayTold days names out reports o old new) (sym is) (young_there days names out reports old new asks leaves);
 }) goes
 
 -- once somebody has looked
