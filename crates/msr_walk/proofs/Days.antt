@@ -5,7 +5,9 @@ use Rattle.msr_kinds.specs.declared.lengths.Length.{Length}
 use Rattle.msr_making.specs.Day.{AsksForAge, IsDayOutcome}
 use Rattle.msr_making.specs.Making.{DoesDay, LooksForSame}
 use Rattle.msr_tree.specs.Folders.{ChangesFiles}
-use Rattle.msr_making.proofs.Untouched.{left_claimed, left_untouched, still_there}
+use Rattle.msr_making.proofs.Untouched.{left_claimed, left_untouched, still_there, untouched_by, untouched_then}
+use Rattle.msr_making.proofs.Owns.{more_beside, none_beside}
+use Rattle.msr_making.specs.Clearing.{beside_paths}
 use Rattle.msr_making.specs.Told.{AreUntouched, IsLeftFor, IsOutcomeThere, UnlessMade}
 use Rattle.msr_making.specs.declared.answer.DayEnd.{DayEnd}
 use Rattle.msr_making.specs.declared.answer.DayFault.{DayFault}
@@ -29,9 +31,9 @@ use Rattle.msr_tree.specs.Steps.{Path, Step}
 use Rattle.msr_walk.proofs.Working.{none_of_day, works_none, works_only, works_then}
 use Rattle.msr_outcomes.specs.Entries.{IsDayOf, IsOutcomeOf}
 use Rattle.msr_walk.specs.Files.{AreNamesOfDay, DayNames, files_of, paths_of_names}
-use Rattle.msr_walk.specs.Handling.{AreNamesWithin, IsSameBut, IsUnclaimed}
+use Rattle.msr_walk.specs.Handling.{AreNamesWithin, AreWithin, IsSameBut, IsUnclaimed}
 use Rattle.msr_outcomes.specs.Outcomes.{IsOutcomeOfDay, of_day}
-use Rattle.msr_walk.specs.Told.{HandlesDay, HaveNames, IsDayTold, IsToldThere, TellsDay, ToldBetween, WorksWithin}
+use Rattle.msr_walk.specs.Told.{ClaimsWithin, HandlesDay, HaveNames, IsDayTold, IsToldThere, SweepsWithin, TellsDay, ToldBetween, WorksWithin}
 use Rattle.msr_outcomes.specs.declared.outcome.Outcome.{Outcome}
 use Rattle.msr_outcomes.specs.declared.outcome.Outcome.TheVariants.{Done, Refused, Same, Young}
 
@@ -84,11 +86,12 @@ unclaimed_told asked paths Listing old new is = absurd is
 
 -- what was so between two moments was so between earlier and later ones
 module _ (asked : DayOptions) (names : DayNames) (out reports : Path) (outcome : DayOutcome) where
-  pub told_from : (old mid new : List Step) → ChangesWithin out reports old mid → ToldBetween asked names out reports outcome mid new → ToldBetween asked names out reports outcome old new
-  told_from old mid new first told = record {
+  pub told_from : (old mid new : List Step) → ChangesWithin out reports old mid → AreUntouched (paths_of_names names) old mid → ToldBetween asked names out reports outcome mid new → ToldBetween asked names out reports outcome old new
+  told_from old mid new first still told = record {
     from = told.from;
     to = told.to;
     before = within_then out reports old mid told.from first told.before;
+    still = untouched_then (paths_of_names names) old mid told.from still told.still;
     there = told.there;
     after = told.after;
   }
@@ -98,12 +101,13 @@ module _ (asked : DayOptions) (names : DayNames) (out reports : Path) (outcome :
     from = told.from;
     to = told.to;
     before = told.before;
+    still = told.still;
     there = told.there;
     after = within_then out reports told.to mid new told.after last;
   }
 
   pub told_now : (old new : List Step) → IsToldThere asked (paths_of_names names) outcome old new → ToldBetween asked names out reports outcome old new
-  told_now old new there = record { from = old; to = new; before = within_none out reports old; there = there; after = within_none out reports new }
+  told_now old new there = record { from = old; to = new; before = within_none out reports old; still = (refl, refl, refl); there = there; after = within_none out reports new }
 
 pub if_ok_as : {A E : Type 0} {P Q : A → Type 0} (result : Result A E) → ((x : A) → P x → Q x) → IfOk result P → IfOk result Q
 if_ok_as (Ok x) so p = so x p
@@ -150,11 +154,11 @@ module _ {H E : Type 0} (outcome : H → DayOutcome) (names : DayNames) (out rep
       handles_same repacked result before after is (subst (λ r. Goes before after (LooksForSame (paths_of_names names) asked r)) found goes)
 
   -- after something else was done
-  pub handles_after : (result : Result H E) (before mid after : List Step → Type 0) → Goes before mid (WorksWithin out reports)
+  pub handles_after : (result : Result H E) (before mid after : List Step → Type 0) → Goes before mid (ClaimsWithin out reports names)
       → Goes mid after (HandlesDay outcome names out reports asked result) → Goes before after (HandlesDay outcome names out reports asked result)
   handles_after result before mid after one two = goes_then _ _ _ before mid after (λ old middle new first second. record {
-    works = works_then out reports old middle new first second.works;
-    says = λ are. if_ok_as result (λ handled told. told_from asked names out reports (outcome handled) old middle new first.does told) (second.says are);
+    works = works_then out reports old middle new first.works second.works;
+    says = λ are. if_ok_as result (λ handled told. told_from asked names out reports (outcome handled) old middle new first.works.does (first.still are) told) (second.says are);
   }) one two
 
 -- of a day of which nothing is touched
@@ -231,7 +235,7 @@ day_told outcome told days names out reports record_length result answer before 
         for_day = record { record_length = record_length; is = refl; own = own };
         of = outcome have.0;
         same = have.2;
-        there = λ have-names. told_from (in_length record_length days) names out reports (outcome have.0) old middle new works.does
+        there = λ have-names. told_from (in_length record_length days) names out reports (outcome have.0) old middle new works.does (still_there (paths_of_names names) old middle first)
             (subst (λ r. IfOk r (λ handled. ToldBetween (in_length record_length days) names out reports (outcome handled) middle new)) have.1 (second.says (named have-names)));
       }) is;
     }) one two
@@ -298,7 +302,7 @@ tells_after outcome days names out reports result before mid after one two = goe
         for_day = is.for_day;
         of = is.of;
         same = is.same;
-        there = λ are. told_from is.asked names out reports is.of old middle new works.does (is.there are);
+        there = λ are. told_from is.asked names out reports is.of old middle new works.does (still_there (paths_of_names names) old middle first) (is.there are);
       }) second.says;
     }) one two
 
@@ -307,3 +311,38 @@ pub handles_named : {H E : Type 0} (outcome : H → DayOutcome) (names others : 
     → others ≡ names → given ≡ asked → Goes before after (HandlesDay outcome others out reports given result) → Goes before after (HandlesDay outcome names out reports asked result)
 handles_named outcome names others out reports asked given result before after is same goes =
     subst (λ n. Goes before after (HandlesDay outcome n out reports asked result)) is (subst (λ a. Goes before after (HandlesDay outcome others out reports a result)) same goes)
+
+-- Of a day that is asked for.
+module _ (out reports : Path) (names : DayNames) where
+  pub claims_none : (before : List Step → Type 0) → Goes before before (ClaimsWithin out reports names)
+  claims_none before = goes_none _ before (λ past. record { works = works_none out reports past; still = λ are. (refl, refl, refl) })
+
+  pub claims_then : (before mid after : List Step → Type 0) → Goes before mid (ClaimsWithin out reports names) → Goes mid after (ClaimsWithin out reports names) → Goes before after (ClaimsWithin out reports names)
+  claims_then before mid after one two = goes_then _ _ _ before mid after (λ old middle new first second. record {
+    works = works_then out reports old middle new first.works second.works;
+    still = λ are. untouched_then (paths_of_names names) old middle new (first.still are) (second.still are);
+  }) one two
+
+  pub claims_swept : (number : ℕ) (files : DayFiles) (before after : List Step → Type 0) → files ≡ files_of names number → Goes before after (SweepsWithin out reports files) → Goes before after (ClaimsWithin out reports names)
+  claims_swept number files before after is goes = goes_so _ _ before after (λ old new went swept. record {
+    works = swept.works;
+    still = λ are. swept.still names.input (are.are number).names;
+  }) (subst (λ f. Goes before after (SweepsWithin out reports f)) is goes)
+
+  -- or looked at
+  pub claims_looked : (asked : DayOptions) (result : Result (Option Repacked) AllocError) (before after : List Step → Type 0)
+      → Goes before after (LooksForSame (paths_of_names names) asked result) → Goes before after (ClaimsWithin out reports names)
+  claims_looked asked result before after goes = goes_so _ _ before after (λ old new went looks. record {
+    works = looks_work out reports names asked result old new looks;
+    still = λ are. still_there (paths_of_names names) old new looks.changes;
+  }) goes
+
+  pub claims_work : (before after : List Step → Type 0) → Goes before after (ClaimsWithin out reports names) → Goes before after (WorksWithin out reports)
+  claims_work before after goes = goes_so _ _ before after (λ old new went claims. claims.works) goes
+
+-- What stands beside the names of a day goes.
+pub sweeps_within : (out reports : Path) (files : DayFiles) (before after : List Step → Type 0) → AreWithin out reports files → Goes before after (ChangesFiles (beside_paths files)) → Goes before after (SweepsWithin out reports files)
+sweeps_within out reports files before after within goes = goes_so _ _ before after (λ old new went changes. record {
+  works = works_only out reports (beside_paths files) old new (λ name lacks none. more_beside files name (none_of_day out reports files name within lacks none)) changes.changes changes.folders;
+  still = λ input are. untouched_by input files (beside_paths files) (none_beside files are) old new changes;
+}) goes

@@ -7,8 +7,10 @@ use Rattle.msr_folders.specs.Paths.{told_folder}
 use Rattle.msr_folders.specs.Visits.{IsWalk, TellsThese}
 use Rattle.msr_folders.specs.Walks.{IsWalked, VisitDoes}
 use Rattle.msr_folders.specs.Within.{ChangesWithin}
-use Rattle.msr_making.specs.Places.{DayPaths}
-use Rattle.msr_making.specs.Told.{IsLeftFor, IsOutcomeThere, stays_for}
+use Rattle.msr_making.specs.Places.{DayPaths, paths_of}
+use Rattle.msr_naming.specs.Naming.{AreDayNames}
+use Rattle.msr_naming.specs.declared.files.DayFiles.{DayFiles}
+use Rattle.msr_making.specs.Told.{AreUntouched, IsLeftFor, IsOutcomeThere, stays_for}
 use Rattle.msr_making.specs.declared.answer.DayFault.TheVariants.{CannotOpen, Gone as WasGone, Listing}
 use Rattle.msr_making.specs.declared.answer.DayOutcome.{DayOutcome}
 use Rattle.msr_making.specs.declared.answer.DayOutcome.TheVariants as outcomes
@@ -44,11 +46,22 @@ WorksWithin out reports = VisitDoes (ChangesWithin out reports)
 abbrev pub WorksFor : Folders → (old new : List Step) → Type 0
 WorksFor folders = WorksWithin folders.out.now folders.reports.now
 
--- An outcome was so of a day between two moments.
+-- What a killed walk left of a day is cleared, and nothing of what has the day's names.
+pub record SweepsWithin (out reports : Path) (files : DayFiles) (old new : List Step) : Type 0 where
+  pub works : WorksWithin out reports old new
+  pub still : (input : Path) → AreDayNames files → AreUntouched (paths_of input files) old new
+
+-- The same of a day that is asked for.
+pub record ClaimsWithin (out reports : Path) (names : DayNames) (old new : List Step) : Type 0 where
+  pub works : WorksWithin out reports old new
+  pub still : AreNamesOfDay names → AreUntouched (paths_of_names names) old new
+
+-- An outcome was so of a day between two moments. Before, nothing was touched of what is made of it.
 pub record ToldBetween (asked : DayOptions) (names : DayNames) (out reports : Path) (outcome : DayOutcome) (old new : List Step) : Type 0 where
   pub from : List Step
   pub to : List Step
   pub before : ChangesWithin out reports old from
+  pub still : AreUntouched (paths_of_names names) old from
   pub there : IsToldThere asked (paths_of_names names) outcome from to
   pub after : ChangesWithin out reports to new
 

@@ -7,7 +7,7 @@ ghost use Rattle.msr_tree.specs.Calls.{Goes};
 ghost use Rattle.msr_tree.specs.Steps.{Path};
 ghost use Rattle.msr_walk.specs.Files.{day_names, file_beside, files_of, paths_of_names};
 ghost use Rattle.msr_walk.specs.Handling.{AreNamesWithin, AreWithin, IsSameBut, IsUnclaimed, WaitsWithin};
-ghost use Rattle.msr_walk.specs.Told.{HandlesDay, WorksWithin};
+ghost use Rattle.msr_walk.specs.Told.{ClaimsWithin, HandlesDay, SweepsWithin};
 
 use crate::claims::{Asked, ClaimFault, Claims};
 use msr_folders::{ended, folder_of, join};
@@ -157,7 +157,7 @@ fn new_name(alloc: Global, path: &str, ending: &str) -> Result<NewName, AllocErr
 
 /// Removes what stands beside the names of a day, and tells whether nothing is there any more.
 fn sweep<T: Tree>(tree: &mut T, files: &DayFiles) -> bool
-    ensures { (out reports : Path) → AreWithin out reports files.now → Goes (T.went tree.old) (T.went tree.new) (WorksWithin out reports) }
+    ensures { (out reports : Path) → AreWithin out reports files.now → Goes (T.went tree.old) (T.went tree.new) (SweepsWithin out reports files.now) }
 {
     let records = tree.remove(files.records.part.as_str()).is_ok();
     let report = tree.remove(files.report.part.as_str()).is_ok();
@@ -254,7 +254,7 @@ impl Day {
         work: &Work<'_, C>,
         left: C::Left,
     ) -> Result<(), ClaimFault>
-        ensures { (out reports : Path) → AreNamesWithin out reports self.now → Goes (T.went tree.old) (T.went tree.new) (WorksWithin out reports) }
+        ensures { (out reports : Path) → AreNamesWithin out reports self.now → Goes (T.went tree.old) (T.went tree.new) (ClaimsWithin out reports self.now) }
     {
         let Some(number) = work.claims.left_number(&left) else {
             return Ok(());
@@ -275,7 +275,7 @@ impl Day {
         tree: &mut T,
         work: &Work<'_, C>,
     ) -> Result<Tried<C::Claim>, ClaimFault>
-        ensures { (out reports : Path) → AreNamesWithin out reports self.now → Goes (T.went tree.old) (T.went tree.new) (WorksWithin out reports) }
+        ensures { (out reports : Path) → AreNamesWithin out reports self.now → Goes (T.went tree.old) (T.went tree.new) (ClaimsWithin out reports self.now) }
     {
         match work.claims.ask(work.alloc, self.claim.as_str())? {
             Asked::Ours(claim) => Ok(Tried::Ours(claim)),
@@ -293,7 +293,7 @@ impl Day {
         tree: &mut T,
         work: &Work<'_, C>,
     ) -> Result<Claimed<C::Claim>, ClaimFault>
-        ensures { (out reports : Path) → AreNamesWithin out reports self.now → Goes (T.went tree.old) (T.went tree.new) (WorksWithin out reports) }
+        ensures { (out reports : Path) → AreNamesWithin out reports self.now → Goes (T.went tree.old) (T.went tree.new) (ClaimsWithin out reports self.now) }
     {
         let mut was_left = false;
         for _ in 0..TRIES {
