@@ -20,7 +20,8 @@ use Rattle.msr_options.specs.declared.task.NoTask.{NoTask}
 use Rattle.msr_options.specs.declared.task.NoTask.TheVariants.{Ending, NotALength, Memory}
 use Rattle.msr_options.specs.declared.task.Replacing.{Replacing}
 use Rattle.msr_options.specs.declared.task.Task.{Task}
-use Rattle.msr_options.specs.declared.task.Task.TheVariants.{Repack, List as Listing, Check, Compare, Archive, Verify, Replace, Feed}
+use Rattle.msr_options.specs.declared.task.Task.TheVariants.{Repack, List as Listing, Check, Compare, Archive, Trial, Verify, Replace, Feed}
+use Rattle.msr_options.specs.declared.task.Trying.{Trying}
 use Rattle.msr_options.specs.declared.task.Verifying.{Verifying}
 use Rattle.msr_options.specs.declared.telling.Telling.{Telling}
 
@@ -114,6 +115,12 @@ pub record AsksArchive (found : Found) (asked : Archiving) : Type 0 where
   pub below : AsksBelow found (map (λ folder. folder.now) asked.below.items)
   pub days : AsksDays found asked.days
 
+-- the days of an archive are to be tried as was found
+pub record AsksTrial (found : Found) (asked : Trying) : Type 0 where
+  pub root : first_value found (codes "ROOT") ≡ Some asked.root.now
+  pub below : AsksBelow found (map (λ folder. folder.now) asked.below.items)
+  pub days : AsksDays found asked.days
+
 -- the repack of an archive is to be verified as was found
 pub record AsksVerify (found : Found) (asked : Verifying) : Type 0 where
   pub folders : AsksFolders found asked.folders
@@ -151,6 +158,7 @@ AsksTask found (Check asked) = AsksCheck found asked
 AsksTask found (Compare asked) = AsksOptions found (length_in found) asked.options
     × (first_value found (codes "ONE") ≡ Some asked.one.now) × (first_value found (codes "OTHER") ≡ Some asked.other.now)
 AsksTask found (Archive asked) = AsksArchive found asked
+AsksTask found (Trial asked) = AsksTrial found asked
 AsksTask found (Verify asked) = AsksVerify found asked
 AsksTask found (Replace asked) = AsksReplace found asked
 AsksTask found (Feed asked) =
@@ -190,6 +198,12 @@ abbrev pub IsToldByClap : (asked : Type 0) → NoTask → Type 0
 IsToldByClap asked (Ending ending) = ((ending.status ≡ 0) × asked) ⊎ (ending.status ≡ 2)
 IsToldByClap asked NotALength = ⊥
 IsToldByClap asked Memory = ⊤
+
+-- in place of a task there is a text with status 0 only if the words ask for that, and else with 2; or there is none
+abbrev pub IsToldIf : (asked : Type 0) → NoTask → Type 0
+IsToldIf asked (Ending ending) = ((ending.status ≡ 0) × asked) ⊎ (ending.status ≡ 2)
+IsToldIf asked NotALength = ⊤
+IsToldIf asked Memory = ⊤
 
 -- what is said of a line that asks for what is not done
 abbrev pub line_fault_text : LineFault → Option (List ℕ)

@@ -72,13 +72,19 @@ rules_of verb.Check = file_rule (codes "PACKED") ∷ file_rule (codes "REPORT") 
 rules_of verb.Compare = tolerance_rule ∷ file_rule (codes "ONE") ∷ file_rule (codes "OTHER") ∷ []
 rules_of verb.Archive = day_length_rule ∷ flag_rule (codes "no-int24") ∷ tolerance_rule ∷ flag_rule (codes "strict")
     ∷ below_rule ∷ flag_rule (codes "resume") ∷ flag_rule (codes "check") ∷ flag_rule (codes "only-smaller")
-    ∷ flag_rule (codes "keep-old") ∷ days_rule (codes "0") ∷ flag_rule (codes "bytes") ∷ flag_rule (codes "quiet") ∷ flag_rule (codes "json") ∷ folder_rules
+    ∷ flag_rule (codes "keep-old") ∷ days_rule (codes "0") ∷ flag_rule (codes "bytes") ∷ flag_rule (codes "quiet") ∷ flag_rule (codes "json") ∷ flag_rule (codes "dry-run") ∷ folder_rules
 rules_of verb.Verify = flag_rule (codes "quiet") ∷ flag_rule (codes "json") ∷ below_rule ∷ folder_rules
 rules_of verb.Replace = flag_rule (codes "undo") ∷ below_rule ∷ flag_rule (codes "only-smaller") ∷ days_rule (codes "7")
     ∷ flag_rule (codes "touch") ∷ flag_rule (codes "int24") ∷ file_rule (codes "ROOT") ∷ file_rule (codes "OUT")
     ∷ file_rule (codes "REPORTS") ∷ file_rule (codes "ASIDE") ∷ []
 rules_of verb.Feed = length_rule ∷ flag_rule (codes "no-int24") ∷ tolerance_rule ∷ flag_rule (codes "strict")
     ∷ file_rule (codes "REPORT") ∷ []
+
+-- what `archive` takes as a dry run: nothing that speaks of what is kept
+abbrev pub dry_run_rules : List Rule
+dry_run_rules = day_length_rule ∷ flag_rule (codes "no-int24") ∷ tolerance_rule ∷ flag_rule (codes "strict")
+    ∷ below_rule ∷ days_rule (codes "0") ∷ flag_rule (codes "bytes") ∷ flag_rule (codes "quiet") ∷ flag_rule (codes "json")
+    ∷ flag_rule (codes "dry-run") ∷ file_rule (codes "ROOT") ∷ []
 
 -- a command of that name with these arguments, and no other
 abbrev pub app_with : (name : List ℕ) → List Rule → App
@@ -109,8 +115,12 @@ HoldsTolerance found =
 abbrev pub HoldsDays : Found → Type 0
 HoldsDays found = (number : Option ℕ) → IsNumberOf (one_text found (codes "older-than")) number → IsSome number
 
--- what clap has found in a line of the command that it lets through
-pub record IsFoundFor (verb : Verb) (found : Found) : Type 0 where
-  pub files : HasNeeded (rules_of verb) found
-  pub tolerance : list_any (λ rule. bytes_eq rule.id (codes "tolerance")) (rules_of verb) ≡ true → HoldsTolerance found
-  pub days : list_any (λ rule. bytes_eq rule.id (codes "older-than")) (rules_of verb) ≡ true → HoldsDays found
+-- what clap has found in a line of these arguments that it lets through
+pub record IsFoundBy (rules : List Rule) (found : Found) : Type 0 where
+  pub files : HasNeeded rules found
+  pub tolerance : list_any (λ rule. bytes_eq rule.id (codes "tolerance")) rules ≡ true → HoldsTolerance found
+  pub days : list_any (λ rule. bytes_eq rule.id (codes "older-than")) rules ≡ true → HoldsDays found
+
+-- the same in a line of the command
+abbrev pub IsFoundFor : Verb → Found → Type 0
+IsFoundFor verb found = IsFoundBy (rules_of verb) found

@@ -221,6 +221,7 @@ Status 0 if all was walked and nothing refused, else 1; 2 if the command line is
         BYTES,
         DAYS_QUIET,
         DAYS_JSON,
+        DRY_RUN_ASKED,
         ROOT,
         Argument::File(
             "OUT",
@@ -230,6 +231,40 @@ Status 0 if all was walked and nothing refused, else 1; 2 if the command line is
             "REPORTS",
             "The folder of the reports. It is made if it is missing",
         ),
+    ],
+};
+
+pub(crate) const DRY_RUN: About = About {
+    about: "Tells what repacking every day file of an SDS archive would give",
+    long_about: "Tells what repacking every day file of an archive would give. Nothing is opened for writing,
+made, changed or locked.
+
+Walks the folders below ROOT, packs each day as `msrepack archive` does with these options,
+and counts what that gives. Prints one line for each entry:
+
+would PATH read N written M           N records would become M
+
+and of what is skipped, refused or young the lines that `msrepack archive` prints; at the
+end the sums over what would be repacked, as there:
+
+channel NET.STA.LOC.CHAN files N read N written N
+files N skipped N refused N [young N]
+
+Status 0 if all was walked and nothing refused, else 1; 2 if the command line is wrong.",
+    after: "Example:
+  msrepack archive --dry-run --bytes --quiet --length 4096 sds",
+    arguments: &[
+        DAY_LENGTH,
+        NO_INT24,
+        TOLERANCE,
+        STRICT,
+        BELOW,
+        DAYS_OLDER_THAN,
+        BYTES,
+        DAYS_QUIET,
+        DAYS_JSON,
+        DRY_RUN_ASKED,
+        ROOT,
     ],
 };
 
@@ -419,6 +454,14 @@ it stays. With more than 0 days the last line counts them: `files N skipped N re
 young N`",
 );
 
+const DRY_RUN_ASKED: Argument = Argument::Flag(
+    "dry-run",
+    "Tell what repacking would give, and write nothing; without OUT and REPORTS",
+    "Tell what repacking would give, and write nothing: each file is packed, and
+`would PATH read N written M` printed in place of `done`. OUT and REPORTS are not given,
+nor --resume, --check, --only-smaller or --keep-old",
+);
+
 const UNDO: Argument = Argument::Flag(
     "undo",
     "Put the originals back",
@@ -458,8 +501,8 @@ built on it cannot read. Without it they are refused",
 const BYTES: Argument = Argument::Flag(
     "bytes",
     "Tell bytes read and written too",
-    "Tell bytes too: the lines `done`, `same`, `larger`, `channel` and `files` go on with
-` bytes N M`, those read and those written; the last line sums up what is done or same",
+    "Tell bytes too: the lines `done`, `would`, `same`, `larger`, `channel` and `files` go on
+with ` bytes N M`, those read and those written; the last line sums up what is done or same",
 );
 
 const NO_INT24: Argument = Argument::Flag(
@@ -499,8 +542,8 @@ object has the counts",
 const DAYS_QUIET: Argument = Argument::Flag(
     "quiet",
     "Print only what is to be looked at, the channels and the counts",
-    "Print only what is to be looked at, the channels and the counts: the lines `done`, `same`,
-`young` and `skipped` are left out. Counts and status are as without it",
+    "Print only what is to be looked at, the channels and the counts: the lines `done`, `would`,
+`same`, `young` and `skipped` are left out. Counts and status are as without it",
 );
 
 const DAYS_JSON: Argument = Argument::Flag(

@@ -12,6 +12,7 @@ use Rattle.msr_tool.specs.declared.fault.ToolFault.{ToolFault}
 use Rattle.msr_tool.specs.declared.fault.ToolFault.TheVariants as fault
 use Rattle.msr_options.specs.declared.task.Archiving.{Archiving}
 use Rattle.msr_options.specs.declared.task.Replacing.{Replacing}
+use Rattle.msr_options.specs.declared.task.Trying.{Trying}
 use Rattle.msr_options.specs.declared.task.Verifying.{Verifying}
 use Rattle.msr_folders.specs.declared.found.WalkFound.{WalkFound}
 use Rattle.msr_folders.specs.Visits.{IsWalk}
@@ -21,6 +22,10 @@ use Rattle.msr_outcomes.specs.Summary.{summary}
 use Rattle.msr_walk.specs.Walk.{Walks}
 use Rattle.msr_walk.specs.declared.folders.Walked.{Walked}
 use Rattle.msr_walk.proofs.EntriesTold.{none_told, stops_entries, walk_stops}
+use Rattle.msr_trial.specs.Entries.{IsTrialEntry}
+use Rattle.msr_trial.specs.Lines.{IsTrialLine}
+use Rattle.msr_trial.specs.Walk.{Tries}
+use Rattle.msr_trial.specs.declared.walk.Tried.{Tried}
 use Rattle.msr_verify.specs.Entries.{IsJudgedEntry}
 use Rattle.msr_verify.specs.Lines.{IsToldLine}
 use Rattle.msr_verify.specs.Walk.{Verifies, judged_summary}
@@ -34,10 +39,10 @@ use Rattle.msr_command.specs.declared.task_fault.TaskFault.{TaskFault}
 use Rattle.msr_command.specs.declared.task_fault.TaskFault.TheVariants.{Failed, Tool}
 use Rattle.msr_options.specs.declared.task.ListForm.{ListForm}
 use Rattle.msr_options.specs.declared.task.Task.{Task}
-use Rattle.msr_options.specs.declared.task.Task.TheVariants.{Repack, List as Listing, Check, Compare, Archive, Verify, Replace, Feed}
+use Rattle.msr_options.specs.declared.task.Task.TheVariants.{Repack, List as Listing, Check, Compare, Archive, Trial, Verify, Replace, Feed}
 use Rattle.msr_command.specs.Turns.{AreTurns}
 use Rattle.msr_command.proofs.Comparisons.{compare_unsettled, two_after, two_none}
-use Rattle.msr_command.specs.Ends.{Checks, Does, EndsClosed, EndsReplacing, Feeds, FeedAnswers, FeedEnds, FeedsTo, IsUncreated, IsUnbegun, IsUnread, ListEnds, ListsNamed, IsOverlapOrMemory, Over, RepackEnds, Repacks, RepacksNamed, ReplaceEnds, ReplacesArchive, VerifiesArchive, WalksArchive, done_of_archive, done_of_verifying, is_whole}
+use Rattle.msr_command.specs.Ends.{Checks, Does, EndsClosed, EndsReplacing, Feeds, FeedAnswers, FeedEnds, FeedsTo, IsUncreated, IsUnbegun, IsUnread, ListEnds, ListsNamed, IsOverlapOrMemory, Over, RepackEnds, Repacks, RepacksNamed, ReplaceEnds, ReplacesArchive, TriesArchive, VerifiesArchive, WalksArchive, done_of_archive, done_of_trial, done_of_verifying, is_whole}
 
 -- nothing was read or printed
 over_none : (known : Type 0) (says : (input printed : List ℕ) → Type 0) (source out0 out : Device) → Takes out0 out [] →
@@ -118,6 +123,8 @@ task_closed (Compare asked) standard out0 out stop none ends =
     rw ends (two_none _ _ _ standard standard out0 out none (λ first second. inr (inr refl, refl)))
 task_closed (Archive asked) standard out0 out stop none ends =
     rw ends (record { printed = []; prints = none; ends = inr (inr refl, refl) })
+task_closed (Trial asked) standard out0 out stop none ends =
+    rw ends (record { printed = []; prints = none; ends = inr (inr refl, refl) })
 task_closed (Verify asked) standard out0 out stop none ends =
     rw ends (record { printed = []; prints = none; ends = inr (inr refl, refl) })
 task_closed (Replace asked) standard out0 out stop none ends =
@@ -139,6 +146,11 @@ then_does (Check asked) standard out0 out1 out result none does = record {
 then_does (Compare asked) standard out0 out1 out result none does =
     two_after _ _ _ standard standard out0 out1 out none does
 then_does (Archive asked) standard out0 out1 out result none does = record {
+  printed = does.printed;
+  ends = does.ends;
+  prints = takes_append out0 out1 out [] does.printed none does.prints;
+}
+then_does (Trial asked) standard out0 out1 out result none does = record {
   printed = does.printed;
   ends = does.ends;
   prints = takes_append out0 out1 out [] does.printed none does.prints;
@@ -237,6 +249,18 @@ archive_unbegun asked out stop (inl overlap) = rw overlap
 archive_unbegun asked out stop (inr refused) = rw refused (archive_stops asked out out fault.Memory
     (walk_stops asked.days out out device_fault.Memory
     (stops_entries asked.days out out device_fault.Memory (none_told asked.days out))))
+
+pub trial_done : (asked : Trying) (out0 out : Device) (tried : Tried) → Tries asked.days out0 out (Ok tried) →
+    TriesArchive asked out0 out (Ok (done_of_trial (is_whole (vec_len asked.below)) tried))
+trial_done asked out0 out tried does = record {
+  printed = does.printed;
+  prints = does.prints;
+  ends = record { found = tried; walk = does.ends; is = refl };
+}
+
+pub trial_stops : (asked : Trying) (out0 out : Device) (why : ToolFault) → Tries asked.days out0 out (Err why) →
+    TriesArchive asked out0 out (Err (Tool why))
+trial_stops asked out0 out why does = record { printed = does.printed; prints = does.prints; ends = inl does.ends }
 
 pub verify_done : (asked : Verifying) (out0 out : Device) (found : WalkFound) → Verifies asked.telling out0 out (Ok found) →
     VerifiesArchive asked out0 out (Ok (done_of_verifying (is_whole (vec_len asked.below)) found))
@@ -360,6 +384,18 @@ task_unsettled (Compare asked) standard out0 out done does =
 task_unsettled (Archive asked) standard out0 out done does =
     let P : List ℕ → Type 0 = λ text.
     IsWalk (IsEntry asked.days) (IsEntryLine asked.days) (summary asked.days) text does.ends.walk.0 in
+    record {
+      printed = does.printed;
+      prints = does.prints;
+      ends = inl (record {
+        entries = does.ends.walk.0;
+        rest = [];
+        walk = subst P (sym (append-nil does.printed)) does.ends.walk.1;
+      });
+    }
+task_unsettled (Trial asked) standard out0 out done does =
+    let P : List ℕ → Type 0 = λ text.
+    IsWalk (IsTrialEntry asked.days) (IsTrialLine asked.days) (summary asked.days) text does.ends.walk.0 in
     record {
       printed = does.printed;
       prints = does.prints;

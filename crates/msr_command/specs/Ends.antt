@@ -8,6 +8,7 @@ use Rattle.msr_report.specs.declared.report.Report.{Report}
 use Rattle.msr_options.specs.Choice.{Choice}
 use Rattle.msr_options.specs.declared.task.Archiving.{Archiving}
 use Rattle.msr_options.specs.declared.task.Replacing.{Replacing}
+use Rattle.msr_options.specs.declared.task.Trying.{Trying}
 use Rattle.msr_options.specs.declared.task.Verifying.{Verifying}
 use Rattle.msr_tool.specs.Settings.{settings_of}
 use Rattle.msr_tool.specs.Fault.{fault_of_writing}
@@ -19,6 +20,8 @@ use Rattle.msr_folders.specs.declared.found.WalkFound.{WalkFound}
 use Rattle.msr_folders.specs.declared.found.WalkFound.TheVariants.{Well, Unwell, NoDay}
 use Rattle.msr_walk.specs.Walk.{WalkEnds}
 use Rattle.msr_walk.specs.declared.folders.Walked.{Walked as ArchiveWalked}
+use Rattle.msr_trial.specs.Walk.{TrialEnds}
+use Rattle.msr_trial.specs.declared.walk.Tried.{Tried}
 use Rattle.msr_verify.specs.Walk.{VerifyingEnds}
 use Rattle.msr_replace.specs.Walk.{ReplacingEnds, TellsFailed}
 use Rattle.msr_devices.specs.declared.fault.DeviceFault.{DeviceFault}
@@ -36,7 +39,7 @@ use Rattle.msr_options.specs.declared.task.ListForm.{ListForm}
 use Rattle.msr_options.specs.declared.task.NoTask.{NoTask}
 use Rattle.msr_options.specs.declared.task.NoTask.TheVariants.{Ending, NotALength, Memory}
 use Rattle.msr_options.specs.declared.task.Task.{Task}
-use Rattle.msr_options.specs.declared.task.Task.TheVariants.{Repack, List as Listing, Check, Compare, Archive, Verify, Replace, Feed}
+use Rattle.msr_options.specs.declared.task.Task.TheVariants.{Repack, List as Listing, Check, Compare, Archive, Trial, Verify, Replace, Feed}
 use Rattle.msr_options.specs.Asked.{HasStatus}
 use Rattle.msr_options.specs.Tasks.{IsDefault, verb_of, word_of}
 
@@ -231,9 +234,12 @@ done_of_walk unopened is_whole wants_day Well = Walked false false unopened
 done_of_walk unopened is_whole wants_day Unwell = Walked true false unopened
 done_of_walk unopened is_whole wants_day NoDay = Walked (wants_day && is_whole) is_whole unopened
 
--- what repacking an archive ends with, and verifying it
+-- what repacking an archive ends with, a dry run of that, and verifying it
 abbrev pub done_of_archive : (is_whole : Bool) → ArchiveWalked → Done
 done_of_archive is_whole walked = done_of_walk walked.unopened is_whole false walked.found
+
+abbrev pub done_of_trial : (is_whole : Bool) → Tried → Done
+done_of_trial is_whole tried = done_of_walk tried.unopened is_whole false tried.found
 
 abbrev pub done_of_verifying : (is_whole : Bool) → WalkFound → Done
 done_of_verifying is_whole found = done_of_walk None is_whole true found
@@ -258,6 +264,17 @@ pub record WalksArchive (asked : Archiving) (out0 out : Device) (result : Result
   pub printed : List ℕ
   pub prints : Takes out0 out printed
   pub ends : ArchiveEnds asked printed result
+
+abbrev pub TryingEnds : Trying → (printed : List ℕ) → Result Done TaskFault → Type 0
+TryingEnds asked printed result =
+    Ends (IsEndOf (done_of_trial (is_whole (vec_len asked.below))) (λ tried. TrialEnds asked.days printed (Ok tried)))
+    (λ stop. ⊥) (λ fault. TrialEnds asked.days printed (Err fault)) printed result
+
+-- A dry run of walking an archive, and what was printed.
+pub record TriesArchive (asked : Trying) (out0 out : Device) (result : Result Done TaskFault) : Type 0 where
+  pub printed : List ℕ
+  pub prints : Takes out0 out printed
+  pub ends : TryingEnds asked printed result
 
 abbrev pub VerifyEnds : Verifying → (printed : List ℕ) → Result Done TaskFault → Type 0
 VerifyEnds asked printed result =
@@ -339,6 +356,7 @@ Does (Check asked) standard out0 out result = Checks out0 out result
 Does (Compare asked) standard out0 out result =
     ComparesNamed asked.options asked standard out0 out result
 Does (Archive asked) standard out0 out result = WalksArchive asked out0 out result
+Does (Trial asked) standard out0 out result = TriesArchive asked out0 out result
 Does (Verify asked) standard out0 out result = VerifiesArchive asked out0 out result
 Does (Replace asked) standard out0 out result = ReplacesArchive asked out0 out result
 Does (Feed asked) standard out0 out result = Feeds asked.options standard out0 out result

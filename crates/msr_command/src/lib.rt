@@ -10,6 +10,7 @@ mod program;
 mod replacing;
 mod task_fault;
 mod tasks;
+mod trying;
 mod turns;
 
 pub use program::run;

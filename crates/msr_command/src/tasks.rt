@@ -9,6 +9,7 @@ use crate::done::Done;
 use crate::files::{create_output, create_report, open_file, open_input, settle_standard_output};
 use crate::replacing::replace_archive;
 use crate::task_fault::TaskFault;
+use crate::trying::try_archive;
 use crate::turns::is_in_turns;
 use msr_devices::{FromRead, FromWrite, Sink, Source};
 use msr_folders::{FileId, LockFile, folders_overlap, settle};
@@ -69,6 +70,7 @@ where
         Task::Check(asked) => check_files(rt, alloc, asked, output),
         Task::Compare(asked) => compare_files(rt, alloc, asked, input, output),
         Task::Archive(asked) => repack_archive(rt, alloc, asked, output),
+        Task::Trial(asked) => try_archive(rt, alloc, asked, output),
         Task::Verify(asked) => verify_archive(rt, alloc, asked, output),
         Task::Replace(asked) => replace_archive(rt, alloc, asked, output),
         Task::Feed(asked) => feed_input(rt, alloc, asked, input, output),

@@ -16,6 +16,6 @@ pub use hint::{Hint, Side, Unopened, write_hint};
 pub use options::Options;
 pub use task::{
     Archiving, Checking, Comparing, Ending, Feeding, Folders, ListForm, Listing, NoTask, Repacking,
-    Replacing, Task, Verb, Verifying, overlap,
+    Replacing, Task, Trying, Verb, Verifying, overlap,
 };
 pub use telling::Telling;

@@ -133,6 +133,16 @@ pub struct Archiving<'a> {
     pub days: DayOptions,
 }
 
+/// An archive of whose day files it is to be told what repacking them would give.
+#[derive(Debug, Drop)]
+pub struct Trying<'a> {
+    pub root: &'a str,
+    /// The paths, from the archive's folder, of the folders that are walked; none for the whole archive.
+    pub below: Vec<&'a str>,
+    /// What is asked of days that are kept says nothing here.
+    pub days: DayOptions,
+}
+
 /// An archive whose repack is to be verified.
 #[derive(Debug, Drop)]
 pub struct Verifying<'a> {
@@ -170,6 +180,7 @@ pub enum Task<'a> {
     Check(Checking<'a>),
     Compare(Comparing<'a>),
     Archive(Archiving<'a>),
+    Trial(Trying<'a>),
     Verify(Verifying<'a>),
     Replace(Replacing<'a>),
     Feed(Feeding<'a>),

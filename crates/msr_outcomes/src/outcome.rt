@@ -44,7 +44,7 @@ pub(crate) fn bytes_json(
 }
 
 /// The counts of a day, with bytes or without.
-fn counts_told(alloc: Global, repacked: Repacked, bytes: bool) -> Result<String, AllocError>
+pub fn counts_told(alloc: Global, repacked: Repacked, bytes: bool) -> Result<String, AllocError>
     ensures { IfOk result (λ text. string_bytes text ≡ counts_told bytes repacked) }
 {
     let Repacked { read, written, .. } = repacked;
@@ -53,7 +53,7 @@ fn counts_told(alloc: Global, repacked: Repacked, bytes: bool) -> Result<String,
 }
 
 /// The members of JSON that tell the counts of a day, with bytes or without.
-fn repacked_json(alloc: Global, repacked: Repacked, bytes: bool) -> Result<String, AllocError>
+pub fn repacked_json(alloc: Global, repacked: Repacked, bytes: bool) -> Result<String, AllocError>
     ensures { IfOk result (λ text. string_bytes text ≡ repacked_json bytes repacked) }
 {
     let Repacked { read, written, .. } = repacked;

@@ -1,6 +1,5 @@
 //! The walk through the folders of an archive.
 ghost use Rattle.std.specs.Prelude.{◌≡◌, ◌≢◌, ◌↔◌, ◌∷◌, [], List, IfErr, IfOk, IsErrOf, OnOk, true};
-ghost use Rattle.std.specs.String.{string_bytes};
 ghost use Rattle.msr_devices.specs.Device.{CanCountCall, Device, HasFailed};
 ghost use Rattle.msr_sds.specs.SdsPath.{ReadsAsDay};
 ghost use Rattle.msr_folders.specs.Entries.{AreEntriesOf, Entry as Found};
@@ -14,7 +13,7 @@ ghost use Rattle.msr_tree.specs.Folders.{ChangesFiles};
 ghost use Rattle.msr_tree.specs.Steps.{Path};
 ghost use Rattle.msr_tree.specs.declared.kind.FileKind.{FileKind};
 ghost use Rattle.msr_tree.specs.declared.kind.FileKind.TheVariants.{Gone};
-ghost use Rattle.msr_outcomes.specs.Entries.{Entry, IsEntry, IsOutcomeOf, IsTally, channel_of};
+ghost use Rattle.msr_outcomes.specs.Entries.{Entry, IsEntry, IsOutcomeOf, IsTally};
 ghost use Rattle.msr_walk.specs.Files.{day_names};
 ghost use Rattle.msr_walk.specs.Handling.{AllWaitWithin, AreWaitingAt, WaitsWithin};
 ghost use Rattle.msr_outcomes.specs.Lines.{IsEntryLine};
@@ -32,7 +31,7 @@ use msr_folders::{EntryVisitor, EntryWalk, WalkFound, join, told_folder, visit_e
 use msr_making::{DayFault, DayOutcome, day_length, is_young};
 use msr_naming::Waiting;
 use msr_options::{Archiving, Unopened};
-use msr_outcomes::{Outcome, Tally, write_summary};
+use msr_outcomes::{Outcome, Tally, channel_text, write_summary};
 use msr_sds::SdsName;
 use msr_tool::ToolFault;
 use msr_tree::{FileKind, Time, Tree};
@@ -119,17 +118,6 @@ fn tell<K, C, O: Sink>(
     write_all(out, line.as_bytes())?;
     progress.tally.add(channel, outcome)?;
     Ok(())
-}
-
-/// NET.STA.LOC.CHAN
-fn channel_text(alloc: Global, name: &SdsName<'_>) -> Result<String, AllocError>
-    ensures { IfOk result (λ text. string_bytes text ≡ channel_of name.now) }
-{
-    let network = name.network();
-    let station = name.station();
-    let location = name.location();
-    let channel = name.channel();
-    format!(in alloc; "{network}.{station}.{location}.{channel}")
 }
 
 impl<'a, C: Claims> Walker<'a, C> {
