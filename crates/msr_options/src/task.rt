@@ -3,6 +3,7 @@ ghost use Rattle.std.specs.Prelude.{◌↔◌, IsTrue};
 ghost use Rattle.msr_options.specs.Tasks.{IsBelow, Overlap};
 
 use crate::days::DayOptions;
+use crate::known::Known;
 use crate::options::Options;
 use crate::telling::Telling;
 use std::alloc::AllocError;
@@ -131,6 +132,7 @@ pub struct Archiving<'a> {
     /// The paths, from the archive's folder, of the folders that are walked; none for the whole archive.
     pub below: Vec<&'a str>,
     pub days: DayOptions,
+    pub known: Known<'a>,
 }
 
 /// An archive whose repack is to be verified.
@@ -140,6 +142,7 @@ pub struct Verifying<'a> {
     /// The paths, from the archive's folder, of the folders that are walked; none for the whole archive.
     pub below: Vec<&'a str>,
     pub telling: Telling,
+    pub known: Known<'a>,
 }
 
 /// An archive whose originals are to change places with their records.
