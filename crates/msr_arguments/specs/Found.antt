@@ -11,6 +11,8 @@ use Rattle.msr_arguments.specs.declared.words.LineFault.TheVariants.{SameFile, O
 use Rattle.msr_options.specs.declared.days.DayOptions.{DayOptions}
 use Rattle.msr_kinds.specs.declared.kinds.Kinds.{Kinds}
 use Rattle.msr_kinds.specs.declared.kinds.Kinds.TheVariants.{All, WithoutInt24}
+use Rattle.msr_options.specs.declared.known.Known.{Known}
+use Rattle.msr_options.specs.declared.known.Known.TheVariants.{Nothing, File}
 use Rattle.msr_options.specs.declared.task.Archiving.{Archiving}
 use Rattle.msr_options.specs.declared.task.Checking.{Checking}
 use Rattle.msr_options.specs.declared.task.Folders.{Folders}
@@ -109,11 +111,25 @@ pub record AsksDays (found : Found) (days : DayOptions) : Type 0 where
   pub own : IsTrue days.same_length → AsksOptions found None days.options
   pub one : ¬ (IsTrue days.same_length) → AsksOptions found (length_in found) days.options
 
+-- the file of that name is to be read
+abbrev pub IsFileOf : (name : List ℕ) → Known → Type 0
+IsFileOf name (File file) = file.now ≡ name
+IsFileOf name _ = ⊥
+
+-- what is known is what a file tells, if one was found
+abbrev pub IsKnownOf : (name : Option (List ℕ)) → Known → Type 0
+IsKnownOf None known = known ≡ Nothing
+IsKnownOf (Some name) known = IsFileOf name known
+
+abbrev pub AsksKnown : Found → Known → Type 0
+AsksKnown found known = IsKnownOf (first_value found (codes "known")) known
+
 -- an archive is to be repacked as was found
 pub record AsksArchive (found : Found) (asked : Archiving) : Type 0 where
   pub folders : AsksFolders found asked.folders
   pub below : AsksBelow found (map (λ folder. folder.now) asked.below.items)
   pub days : AsksDays found asked.days
+  pub known : AsksKnown found asked.known
 
 -- the days of an archive are to be tried as was found
 pub record AsksTrial (found : Found) (asked : Trying) : Type 0 where
@@ -126,6 +142,7 @@ pub record AsksVerify (found : Found) (asked : Verifying) : Type 0 where
   pub folders : AsksFolders found asked.folders
   pub below : AsksBelow found (map (λ folder. folder.now) asked.below.items)
   pub telling : AsksTelling found asked.telling
+  pub known : AsksKnown found asked.known
 
 -- the flags for originals are those that were found
 pub record AsksPlaces (found : Found) (asked : Replacing) : Type 0 where

@@ -22,6 +22,8 @@ pub(crate) enum Argument<'a> {
     /// An option without a value, by its name, its help and its long help.
     Flag(&'a str, &'a str, &'a str),
     Below(&'a str, &'a str),
+    /// The file with lines of earlier runs, by its help and its long help.
+    Known(&'a str, &'a str),
     Tolerance(&'a str, &'a str),
     Length(&'a str),
     /// A number of days, by what it is without a value, its help and its long help.
@@ -105,6 +107,9 @@ fn arg_of<'a>(alloc: Global, argument: Argument<'a>) -> Arg<'a>
         Argument::Below(help, long_help) => option(alloc, "below", help, long_help)
             .value_name("FOLDER")
             .action(ArgAction::Append),
+        Argument::Known(help, long_help) => option(alloc, "known", help, long_help)
+            .value_name("FILE")
+            .action(ArgAction::Set),
         Argument::Tolerance(help, long_help) => {
             let parser = value_parser!(u32).range(1..=1_000_000);
             valued(alloc, "tolerance", "T", parser, "1000", help).long_help(long_help)

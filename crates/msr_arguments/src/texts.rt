@@ -181,6 +181,7 @@ refused PATH: TEXT                    a fault, as repack tells it, or `cannot op
                                       `another walk is at work`: then it is left alone
 refused PATH: listing                 a folder that cannot be listed, or has a name that
                                       is not UTF-8: nothing in it is handled
+known PATH: TEXT                      the same as refused, by a line of FILE, with --known
 notshown PATH                         its report did not show it, with --check: not kept
 differs PATH                          not the data of the file, with --check: not kept
 changed PATH                          the same, and the file was changed meanwhile
@@ -193,7 +194,7 @@ young PATH                            the file was changed in the last DAYS days
 and at the end, of the files that are done, one line for each channel, and the counts:
 
 channel NET.STA.LOC.CHAN files N read N written N
-files N skipped N refused N [larger N] [young N]
+files N skipped N refused N [known N] [larger N] [young N]
 
 Records and report appear under their names whole or not at all: they are written beside
 them, as PATH.N.part, and then renamed, the report first. Those of a refused file are
@@ -218,6 +219,7 @@ Status 0 if all was walked and nothing refused, else 1; 2 if the command line is
         ONLY_SMALLER,
         KEEP_OLD,
         DAYS_OLDER_THAN,
+        DAYS_KNOWN,
         BYTES,
         DAYS_QUIET,
         DAYS_JSON,
@@ -292,20 +294,23 @@ refused PATH: records: TEXT           one of the records, also `the file itself`
 refused PATH: report: TEXT            one of the report, as `line 7`
 refused PATH: listing                 a folder that cannot be listed; of OUT `records:
                                       listing`
+known PATH: TEXT                      the same as refused, or missing and refused before, by
+                                      a line of FILE, with --known
 skipped PATH: TEXT                    no day of waveform data, as `archive` tells it
 orphan PATH                           after all others: a day of OUT, where ROOT has
                                       nothing
 
 and last the counts, of days that are verified or in place first:
 
-files N skipped N refused N missing N notshown N differs N orphan N
+files N skipped N refused N [known N] missing N notshown N differs N orphan N
 
-Status 0 if all is verified, in place or skipped, else 1, also if all of ROOT is walked
+Status 0 if all is verified, in place, skipped or known, else 1, also if all of ROOT is walked
 and has no day of waveform data; 2 if the command line is wrong.",
     after: "Examples:
   msrepack verify sds packed reports > log.txt
   msrepack verify --quiet --below 2020/XX sds packed reports",
     arguments: &[
+        KNOWN,
         QUIET,
         LINES_JSON,
         BELOW,
@@ -498,6 +503,23 @@ const INT24: Argument = Argument::Flag(
 built on it cannot read. Without it they are refused",
 );
 
+const DAYS_KNOWN: Argument = Argument::Known(
+    "Tell as known what FILE, lines of earlier runs, tells as refused",
+    "Tell as known what FILE, lines of earlier runs, tells as refused: of what is refused by
+a line `refused PATH: TEXT` that FILE has, as it was printed, the line is `known PATH:
+TEXT`. It does not count as refused, nor for the status. FILE may be a whole log: its
+other lines are passed over. It is no fault if something in FILE is not refused any more",
+);
+
+const KNOWN: Argument = Argument::Known(
+    "Tell as known what FILE, lines of earlier runs, tells as refused",
+    "Tell as known what FILE, lines of earlier runs, tells as refused: of what is refused by
+a line `refused PATH: TEXT` that FILE has, as it was printed, the line is `known PATH:
+TEXT`, and so it is of a day that is missing, if FILE has such a line of it. It does not
+count as refused or missing, nor for the status. FILE may be a whole log: its other lines
+are passed over. It is no fault if something in FILE is not refused any more",
+);
+
 const BYTES: Argument = Argument::Flag(
     "bytes",
     "Tell bytes read and written too",
@@ -524,15 +546,15 @@ name, how many microseconds after that one's next sample it begins",
 const QUIET: Argument = Argument::Flag(
     "quiet",
     "Print only what is to be looked at, and the counts",
-    "Print only what is to be looked at, and the counts: the lines `verified`, `inplace`
-and `skipped` are left out. Counts and status are as without it",
+    "Print only what is to be looked at, and the counts: the lines `verified`, `inplace`,
+`skipped` and `known` are left out. Counts and status are as without it",
 );
 
 const LINES_JSON: Argument = Argument::Flag(
     "json",
     "Print each line as an object of JSON",
     "Print each line as an object of JSON (JSON Lines): `what`, its first word, and `path`,
-which is the name itself. A refusal and what is skipped have `text` too, what stands
+which is the name itself. What is refused, known or skipped has `text` too, what stands
 after the path in words, and before it `side`, that is file, records or report, with
 `offset`, `number`, `name` and `value` of a fault of a record, or `line` of one of the
 report, as far as there are these; last `reason`, if one is known. The last
@@ -543,7 +565,7 @@ const DAYS_QUIET: Argument = Argument::Flag(
     "quiet",
     "Print only what is to be looked at, the channels and the counts",
     "Print only what is to be looked at, the channels and the counts: the lines `done`, `would`,
-`same`, `young` and `skipped` are left out. Counts and status are as without it",
+`same`, `young`, `skipped` and `known` are left out. Counts and status are as without it",
 );
 
 const DAYS_JSON: Argument = Argument::Flag(
@@ -551,11 +573,11 @@ const DAYS_JSON: Argument = Argument::Flag(
     "Print each line as an object of JSON",
     "Print each line as an object of JSON (JSON Lines): `what`, its first word, and `path`,
 which is the name itself; then its numbers by their names, `read` and `written`, with
---bytes `bytes_read` and `bytes_written`, of `shrunk` `samples_was` and `samples`. A
-refusal and what is skipped have `text`, what stands after the path in words, and a
-refusal before it `side`, that is file, records or report, and `offset`, `number`, `name`
-and `value` of a fault of a record, as far as there are these; last `reason`, if one is
-known. A channel has `id`, and no `path`; the last object has the counts",
+--bytes `bytes_read` and `bytes_written`, of `shrunk` `samples_was` and `samples`. What
+is refused, known or skipped has `text`, what stands after the path in words, and the
+first two before it `side`, that is file, records or report, and `offset`, `number`,
+`name` and `value` of a fault of a record, as far as there are these; last `reason`, if
+the system gave one. A channel has `id`, and no `path`; the last object has the counts",
 );
 
 const STRICT: Argument = Argument::Flag(

@@ -2,7 +2,7 @@
 ghost use Rattle.std.specs.Prelude.{◌≡◌, ◌≢◌, ◌<◌, ◌≤◌, ◌↔◌, ℕ, length, codes, false, slice_get, Some, IfOk, IfErr, IfSome, IsSome, IsSomeAnd, IsOk, IsOkAnd, IsErrAnd, IsTrue, Ok, Err, Any, drop, map, option_map, true};
 ghost use Rattle.msr_kinds.specs.RecordLength.{IsRecordLength};
 ghost use Rattle.clap.specs.Words.{first_value, found_of, kind_of, one_text};
-ghost use Rattle.msr_arguments.specs.Found.{AsksArchive, AsksBelow, AsksCheck, AsksDays, AsksFolders, AsksOptions, AsksPlaces, AsksReplace, AsksTask, AsksTelling, AsksVerify, EndsFor, EndsWith, IsBadLine, IsFlagOf, IsFormOf, IsKindsOf, IsLengthOf, IsNumberOf, IsToldByClap, IsWrong, length_in, line_fault_text, without_slash};
+ghost use Rattle.msr_arguments.specs.Found.{AsksArchive, AsksBelow, AsksCheck, AsksDays, AsksFolders, AsksKnown, AsksOptions, AsksPlaces, AsksReplace, AsksTask, AsksTelling, AsksVerify, EndsFor, EndsWith, IsBadLine, IsFlagOf, IsFormOf, IsKindsOf, IsLengthOf, IsNumberOf, IsToldByClap, IsWrong, length_in, line_fault_text, without_slash};
 ghost use Rattle.msr_arguments.specs.Rules.{IsFoundFor, HasNeeded, HoldsDays, HoldsTolerance, folder_rules};
 ghost use Rattle.msr_options.specs.Asked.{AsksAlone, AsksDryRun, HasStatus, ask_help};
 ghost use Rattle.msr_options.specs.Tasks.{AreApart, AreBothStandard, HasTolerance, IsDefault, IsTolerance, IsTrial, KeepsInput, KeepsOriginals, Overlap, StandApart, verb_of, word_of};
@@ -13,7 +13,7 @@ use clap::ArgMatches;
 use clap::error::ErrorKind;
 use msr_kinds::{Kinds, Length};
 use msr_options::{
-    Archiving, Checking, Comparing, DayOptions, Ending, Feeding, Folders, ListForm, Listing,
+    Archiving, Checking, Comparing, DayOptions, Ending, Feeding, Folders, Known, ListForm, Listing,
     NoTask, Options, Repacking, Replacing, Task, Telling, Verb, Verifying, overlap,
 };
 use msr_sds::levels_below;
@@ -223,6 +223,16 @@ fn telling_in(found: &ArgMatches<'_>) -> Telling
     }
 }
 
+/// The file with lines of earlier runs that clap found, if there is one.
+fn known_in<'a>(found: &ArgMatches<'a>) -> Known<'a>
+    ensures { AsksKnown (found_of found.now) result }
+{
+    match found.get_str("known") {
+        Some(name) => Known::File(name),
+        None => Known::Nothing,
+    }
+}
+
 /// What is asked of the days of an archive. If each is to have the length of its first record, that of the options is
 /// the one without a text.
 pub(crate) fn days_in<'a>(found: &ArgMatches<'a>) -> Result<DayOptions, LineFault<'a>>
@@ -255,11 +265,17 @@ fn archiving_in<'a>(alloc: Global, found: &ArgMatches<'a>) -> Result<Task<'a>, L
     ensures kept { IfOk result (λ task. HasTolerance task × KeepsInput task) }
 {
     let days = days_in(found)?;
-    let Verifying { folders, below, .. } = verifying_in(alloc, found)?;
+    let Verifying {
+        folders,
+        below,
+        known,
+        ..
+    } = verifying_in(alloc, found)?;
     Ok(Task::Archive(Archiving {
         folders,
         below,
         days,
+        known,
     }))
 }
 
@@ -281,6 +297,7 @@ fn verifying_in<'a>(alloc: Global, found: &ArgMatches<'a>) -> Result<Verifying<'
         folders,
         below,
         telling: telling_in(found),
+        known: known_in(found),
     })
 }
 

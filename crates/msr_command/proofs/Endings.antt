@@ -26,7 +26,7 @@ use Rattle.msr_trial.specs.Entries.{IsTrialEntry}
 use Rattle.msr_trial.specs.Lines.{IsTrialLine}
 use Rattle.msr_trial.specs.Walk.{Tries}
 use Rattle.msr_trial.specs.declared.walk.Tried.{Tried}
-use Rattle.msr_verify.specs.Entries.{IsJudgedEntry}
+use Rattle.msr_verify.specs.Known.{IsJudgedEntry}
 use Rattle.msr_verify.specs.Lines.{IsToldLine}
 use Rattle.msr_verify.specs.Walk.{Verifies, judged_summary}
 use Rattle.msr_verify.proofs.EntriesFound.{none_told as none_found, stops_entries as stops_found, walk_stops as verifying_stops}
@@ -42,7 +42,7 @@ use Rattle.msr_options.specs.declared.task.Task.{Task}
 use Rattle.msr_options.specs.declared.task.Task.TheVariants.{Repack, List as Listing, Check, Compare, Archive, Trial, Verify, Replace, Feed}
 use Rattle.msr_command.specs.Turns.{AreTurns}
 use Rattle.msr_command.proofs.Comparisons.{compare_unsettled, two_after, two_none}
-use Rattle.msr_command.specs.Ends.{Checks, Does, EndsClosed, EndsReplacing, Feeds, FeedAnswers, FeedEnds, FeedsTo, IsUncreated, IsUnbegun, IsUnread, ListEnds, ListsNamed, IsOverlapOrMemory, Over, RepackEnds, Repacks, RepacksNamed, ReplaceEnds, ReplacesArchive, TriesArchive, VerifiesArchive, WalksArchive, done_of_archive, done_of_trial, done_of_verifying, is_whole}
+use Rattle.msr_command.specs.Ends.{Checks, Does, EndsClosed, EndsReplacing, Feeds, FeedAnswers, FeedEnds, FeedsTo, IsUncreated, IsUnbegun, IsUnread, ListEnds, ListsNamed, IsOverlapOrMemory, Over, RepackEnds, Repacks, RepacksNamed, ReplaceEnds, ReplacesArchive, TriesArchive, VerifiesArchive, VerifiesKnown, WalksArchive, WalksKnown, IsArchivingRead, IsUnwalked, IsVerifyingRead, done_of_archive, done_of_trial, done_of_verifying, is_whole}
 
 -- nothing was read or printed
 over_none : (known : Type 0) (says : (input printed : List ℕ) → Type 0) (source out0 out : Device) → Takes out0 out [] →
@@ -229,26 +229,27 @@ check_unread out stop is = record {
   ends = inr (inl is, refl);
 }
 
-pub archive_done : (asked : Archiving) (out0 out : Device) (walked : Walked) → Walks asked.days out0 out (Ok walked) →
+pub archive_done : (asked read : Archiving) (out0 out : Device) (walked : Walked) → IsArchivingRead asked read → Walks read out0 out (Ok walked) →
     WalksArchive asked out0 out (Ok (done_of_archive (is_whole (vec_len asked.below)) walked))
-archive_done asked out0 out walked does = record {
+archive_done asked read out0 out walked is does = record {
   printed = does.printed;
   prints = does.prints;
-  ends = record { found = walked; walk = does.ends; is = refl };
+  ends = record { found = walked; walk = record { read = read; is = is; walk = does.ends }; is = refl };
 }
 
-pub archive_stops : (asked : Archiving) (out0 out : Device) (why : ToolFault) → Walks asked.days out0 out (Err why) →
+pub archive_stops : (asked read : Archiving) (out0 out : Device) (why : ToolFault) → IsArchivingRead asked read → Walks read out0 out (Err why) →
     WalksArchive asked out0 out (Err (Tool why))
-archive_stops asked out0 out why does = record { printed = does.printed; prints = does.prints; ends = inl does.ends }
+archive_stops asked read out0 out why is does =
+    record { printed = does.printed; prints = does.prints; ends = inl (record { read = read; is = is; walk = does.ends }) }
 
--- folders overlap, or memory was refused before the walk began
-pub archive_unbegun : (asked : Archiving) (out : Device) (stop : TaskFault) → IsOverlapOrMemory stop
+pub archive_known : (asked read : Archiving) (out0 out : Device) (walked : Result Walked ToolFault) (result : Result Walked TaskFault)
+    → IsArchivingRead asked read → Walks read out0 out walked → result ≡ map_err Tool walked → WalksKnown asked out0 out result
+archive_known asked read out0 out (Ok walked) result is does same = rw same (archive_done asked read out0 out walked is does)
+archive_known asked read out0 out (Err why) result is does same = rw same (archive_stops asked read out0 out why is does)
+
+pub archive_unbegun : (asked : Archiving) (out : Device) (stop : TaskFault) → IsUnwalked asked.known stop
     → WalksArchive asked out out (Err stop)
-archive_unbegun asked out stop (inl overlap) = rw overlap
-    (record { printed = []; prints = takes_none out; ends = inr (inl refl, refl) })
-archive_unbegun asked out stop (inr refused) = rw refused (archive_stops asked out out fault.Memory
-    (walk_stops asked.days out out device_fault.Memory
-    (stops_entries asked.days out out device_fault.Memory (none_told asked.days out))))
+archive_unbegun asked out stop is = record { printed = []; prints = takes_none out; ends = inr (inl is, refl) }
 
 pub trial_done : (asked : Trying) (out0 out : Device) (tried : Tried) → Tries asked.days out0 out (Ok tried) →
     TriesArchive asked out0 out (Ok (done_of_trial (is_whole (vec_len asked.below)) tried))
@@ -262,25 +263,28 @@ pub trial_stops : (asked : Trying) (out0 out : Device) (why : ToolFault) → Tri
     TriesArchive asked out0 out (Err (Tool why))
 trial_stops asked out0 out why does = record { printed = does.printed; prints = does.prints; ends = inl does.ends }
 
-pub verify_done : (asked : Verifying) (out0 out : Device) (found : WalkFound) → Verifies asked.telling out0 out (Ok found) →
+-- before any file is read
+pub unwalked : (known : Known) (stop : TaskFault) → IsOverlapOrMemory stop → IsUnwalked known stop
+unwalked (File name) stop is = inl is
+unwalked Nothing stop is = is
+unwalked (Lines lines) stop is = is
+
+pub verify_done : (asked read : Verifying) (out0 out : Device) (found : WalkFound) → IsVerifyingRead asked read → Verifies read out0 out (Ok found) →
     VerifiesArchive asked out0 out (Ok (done_of_verifying (is_whole (vec_len asked.below)) found))
-verify_done asked out0 out found does = record {
+verify_done asked read out0 out found is does = record {
   printed = does.printed;
   prints = does.prints;
-  ends = record { found = found; walk = does.ends; is = refl };
+  ends = record { found = found; walk = record { read = read; is = is; walk = does.ends }; is = refl };
 }
 
-pub verify_stops : (asked : Verifying) (out0 out : Device) (why : ToolFault) → Verifies asked.telling out0 out (Err why) →
+pub verify_stops : (asked read : Verifying) (out0 out : Device) (why : ToolFault) → IsVerifyingRead asked read → Verifies read out0 out (Err why) →
     VerifiesArchive asked out0 out (Err (Tool why))
-verify_stops asked out0 out why does = record { printed = does.printed; prints = does.prints; ends = inl does.ends }
+verify_stops asked read out0 out why is does =
+    record { printed = does.printed; prints = does.prints; ends = inl (record { read = read; is = is; walk = does.ends }) }
 
-pub verify_unbegun : (asked : Verifying) (out : Device) (stop : TaskFault) → IsOverlapOrMemory stop →
+pub verify_unbegun : (asked : Verifying) (out : Device) (stop : TaskFault) → IsUnwalked asked.known stop →
     VerifiesArchive asked out out (Err stop)
-verify_unbegun asked out stop (inl overlap) = rw overlap
-    (record { printed = []; prints = takes_none out; ends = inr (inl refl, refl) })
-verify_unbegun asked out stop (inr refused) = rw refused (verify_stops asked out out fault.Memory
-    (verifying_stops asked.telling out out device_fault.Memory
-    (stops_found asked.telling out out device_fault.Memory (none_found asked.telling out))))
+verify_unbegun asked out stop is = record { printed = []; prints = takes_none out; ends = inr (inl is, refl) }
 
 -- the days of an archive were not replaced, nor was anything printed
 
@@ -382,15 +386,16 @@ task_unsettled (Check asked) standard out0 out done does = check_unsettled out0 
 task_unsettled (Compare asked) standard out0 out done does =
     compare_unsettled asked.options asked standard out0 out done does
 task_unsettled (Archive asked) standard out0 out done does =
-    let P : List ℕ → Type 0 = λ text.
-    IsWalk (IsEntry asked.days) (IsEntryLine asked.days) (summary asked.days) text does.ends.walk.0 in
+    let read = does.ends.walk.read in
+    let ended = does.ends.walk.walk in
+    let P : List ℕ → Type 0 = λ text. IsWalk (IsEntry read) (IsEntryLine read) (summary read) text ended.0 in
     record {
       printed = does.printed;
       prints = does.prints;
       ends = inl (record {
-        entries = does.ends.walk.0;
-        rest = [];
-        walk = subst P (sym (append-nil does.printed)) does.ends.walk.1;
+        read = read;
+        is = does.ends.walk.is;
+        walk = record { entries = ended.0; rest = []; walk = subst P (sym (append-nil does.printed)) ended.1 };
       });
     }
 task_unsettled (Trial asked) standard out0 out done does =
@@ -406,15 +411,16 @@ task_unsettled (Trial asked) standard out0 out done does =
       });
     }
 task_unsettled (Verify asked) standard out0 out done does =
-    let P : List ℕ → Type 0 = λ text.
-    IsWalk IsJudgedEntry (IsToldLine asked.telling) (judged_summary asked.telling.form) text does.ends.walk.0 in
+    let read = does.ends.walk.read in
+    let ended = does.ends.walk.walk in
+    let P : List ℕ → Type 0 = λ text. IsWalk (IsJudgedEntry read) (IsToldLine read) (judged_summary read) text ended.0 in
     record {
       printed = does.printed;
       prints = does.prints;
       ends = inl (record {
-        entries = does.ends.walk.0;
-        rest = [];
-        walk = subst P (sym (append-nil does.printed)) does.ends.walk.1;
+        read = read;
+        is = does.ends.walk.is;
+        walk = record { entries = ended.0; rest = []; walk = subst P (sym (append-nil does.printed)) ended.1 };
       });
     }
 task_unsettled (Replace asked) standard out0 out done does = record {

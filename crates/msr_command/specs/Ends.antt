@@ -6,6 +6,9 @@ use Rattle.msr_devices.specs.Device.{Device, CountsError, HasFailed, HasLeft, Ta
 use Rattle.msr_base.specs.declared.counts.Counts.{Counts}
 use Rattle.msr_report.specs.declared.report.Report.{Report}
 use Rattle.msr_options.specs.Choice.{Choice}
+use Rattle.msr_options.specs.Known.{knows_any}
+use Rattle.msr_options.specs.declared.known.Known.{Known}
+use Rattle.msr_options.specs.declared.known.Known.TheVariants.{File}
 use Rattle.msr_options.specs.declared.task.Archiving.{Archiving}
 use Rattle.msr_options.specs.declared.task.Replacing.{Replacing}
 use Rattle.msr_options.specs.declared.task.Trying.{Trying}
@@ -30,7 +33,7 @@ use Rattle.msr_compare.specs.declared.comparison.Comparison.TheVariants.{Differ}
 use Rattle.msr_command.specs.declared.done.Done.{Done}
 use Rattle.msr_command.specs.declared.done.Done.TheVariants.{Written, Repacked, Checked, Compared, Walked}
 use Rattle.msr_command.specs.declared.task_fault.TaskFault.{TaskFault}
-use Rattle.msr_command.specs.declared.task_fault.TaskFault.TheVariants.{CannotOpen, Failed, SameFile, SameOutput, Overlap, Closed, Tool}
+use Rattle.msr_command.specs.declared.task_fault.TaskFault.TheVariants.{CannotOpen, Failed, Input, SameFile, SameOutput, Overlap, Closed, Tool}
 use Rattle.msr_options.specs.declared.task.Comparing.{Comparing}
 use Rattle.msr_command.specs.Comparing.{IsAnswered, IsAtFault, StopsComparison}
 use Rattle.msr_command.specs.Turns.{AreTurns}
@@ -75,6 +78,21 @@ IsUncreated stop = IsUnread stop ⊎ (stop ≡ SameOutput)
 -- folders overlap, or memory was refused
 abbrev pub IsOverlapOrMemory : TaskFault → Type 0
 IsOverlapOrMemory stop = (stop ≡ Overlap) ⊎ (stop ≡ Tool engine.Memory)
+
+-- the file with the lines that are known was not read: it could not be opened, or standard output goes to it, or a read failed
+abbrev pub IsUnknown : TaskFault → Type 0
+IsUnknown (Input name engine.Read) = ⊤
+IsUnknown stop = IsUnread stop
+
+-- folders overlap, memory was refused before the walk began, or lines that are to be known were not read
+abbrev pub IsUnwalked : Known → TaskFault → Type 0
+IsUnwalked (File name) stop = IsOverlapOrMemory stop ⊎ IsUnknown stop
+IsUnwalked known stop = IsOverlapOrMemory stop
+
+-- what a walk knows of what is asked for: of a file the lines that were read
+abbrev pub IsKnownRead : (asked read : Known) → Type 0
+IsKnownRead (File name) read = knows_any read ≡ true
+IsKnownRead asked read = read ≡ asked
 
 -- a task was done with something of which this is said: a repack, a verdict or an answer
 abbrev pub IsDoneBy : {A : Type 0} → (A → Done) → (A → Type 0) → Done → Type 0
@@ -254,10 +272,21 @@ pub record IsEndOf {W : Type 0} (done_of : W → Done) (ends : W → Type 0) (do
 abbrev pub is_whole : (folders : ℕ) → Bool
 is_whole folders = folders == 0
 
+-- A walk with what is known: what is asked for, or the lines of the file that was read.
+pub record IsArchivingRead (asked read : Archiving) : Type 0 where
+  pub days : read.days ≡ asked.days
+  pub known : IsKnownRead asked.known read.known
+
+-- What is said of that walk.
+pub record OfArchiving (asked : Archiving) (says : Archiving → Type 0) : Type 0 where
+  pub read : Archiving
+  pub is : IsArchivingRead asked read
+  pub walk : says read
+
 abbrev pub ArchiveEnds : Archiving → (printed : List ℕ) → Result Done TaskFault → Type 0
 ArchiveEnds asked printed result =
-    Ends (IsEndOf (done_of_archive (is_whole (vec_len asked.below))) (λ found. WalkEnds asked.days printed (Ok found)))
-    (λ stop. stop ≡ Overlap) (λ fault. WalkEnds asked.days printed (Err fault)) printed result
+    Ends (IsEndOf (done_of_archive (is_whole (vec_len asked.below))) (λ found. OfArchiving asked (λ read. WalkEnds read printed (Ok found))))
+    (IsUnwalked asked.known) (λ fault. OfArchiving asked (λ read. WalkEnds read printed (Err fault))) printed result
 
 -- Walking an archive, and what was printed.
 pub record WalksArchive (asked : Archiving) (out0 out : Device) (result : Result Done TaskFault) : Type 0 where
@@ -276,16 +305,34 @@ pub record TriesArchive (asked : Trying) (out0 out : Device) (result : Result Do
   pub prints : Takes out0 out printed
   pub ends : TryingEnds asked printed result
 
+-- the same with the answer of the walk
+abbrev pub WalksKnown : Archiving → (out0 out : Device) → Result ArchiveWalked TaskFault → Type 0
+WalksKnown asked out0 out (Ok walked) = WalksArchive asked out0 out (Ok (done_of_archive (is_whole (vec_len asked.below)) walked))
+WalksKnown asked out0 out (Err stop) = WalksArchive asked out0 out (Err stop)
+
+pub record IsVerifyingRead (asked read : Verifying) : Type 0 where
+  pub telling : read.telling ≡ asked.telling
+  pub known : IsKnownRead asked.known read.known
+
+pub record OfVerifying (asked : Verifying) (says : Verifying → Type 0) : Type 0 where
+  pub read : Verifying
+  pub is : IsVerifyingRead asked read
+  pub walk : says read
+
 abbrev pub VerifyEnds : Verifying → (printed : List ℕ) → Result Done TaskFault → Type 0
 VerifyEnds asked printed result =
-    Ends (IsEndOf (done_of_verifying (is_whole (vec_len asked.below))) (λ found. VerifyingEnds asked.telling printed (Ok found)))
-    (λ stop. stop ≡ Overlap) (λ fault. VerifyingEnds asked.telling printed (Err fault)) printed result
+    Ends (IsEndOf (done_of_verifying (is_whole (vec_len asked.below))) (λ found. OfVerifying asked (λ read. VerifyingEnds read printed (Ok found))))
+    (IsUnwalked asked.known) (λ fault. OfVerifying asked (λ read. VerifyingEnds read printed (Err fault))) printed result
 
 -- Verifying the repack of an archive, and what was printed.
 pub record VerifiesArchive (asked : Verifying) (out0 out : Device) (result : Result Done TaskFault) : Type 0 where
   pub printed : List ℕ
   pub prints : Takes out0 out printed
   pub ends : VerifyEnds asked printed result
+
+abbrev pub VerifiesKnown : Verifying → (out0 out : Device) → Result WalkFound TaskFault → Type 0
+VerifiesKnown asked out0 out (Ok found) = VerifiesArchive asked out0 out (Ok (done_of_verifying (is_whole (vec_len asked.below)) found))
+VerifiesKnown asked out0 out (Err stop) = VerifiesArchive asked out0 out (Err stop)
 
 -- the whole archive has to have a day, unless its originals are put back
 abbrev pub wants_replaced : Replacing → Bool

@@ -6,6 +6,7 @@ mod comparing;
 mod done;
 mod files;
 mod hints;
+mod known;
 mod program;
 mod replacing;
 mod task_fault;

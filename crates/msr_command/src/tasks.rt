@@ -1,25 +1,29 @@
 //! The tasks of the program, over the system's files, and any source and sink in place of standard input and output.
 ghost use Rattle.std.specs.Prelude.{IfErr};
 ghost use Rattle.msr_devices.specs.Device.{CanCountCall};
-ghost use Rattle.msr_command.specs.Ends.{Checks, Does, EndsClosed, Feeds, FeedsTo, IsOverlapOrMemory, Lists, ListsNamed, OpensOutput, Repacks, RepacksNamed, VerifiesArchive, WalksArchive};
+ghost use Rattle.msr_command.specs.Ends.{Checks, Does, EndsClosed, Feeds, FeedsTo, IsOverlapOrMemory, Lists, ListsNamed, OpensOutput, Repacks, RepacksNamed, VerifiesArchive, VerifiesKnown, WalksArchive, WalksKnown};
+ghost use Rattle.msr_options.specs.Tasks.{StandApart};
+ghost use Rattle.msr_walk.specs.Walk.{Walks};
 
 use crate::clock::time_of_now;
 use crate::comparing::compare_files;
 use crate::done::Done;
 use crate::files::{create_output, create_report, open_file, open_input, settle_standard_output};
+use crate::known::{archiving_with, read_known, verifying_with};
 use crate::replacing::replace_archive;
 use crate::task_fault::TaskFault;
 use crate::trying::try_archive;
 use crate::turns::is_in_turns;
 use msr_devices::{FromRead, FromWrite, Sink, Source};
-use msr_folders::{FileId, LockFile, folders_overlap, settle};
+use msr_folders::{FileId, LockFile, WalkFound, folders_overlap, settle};
 use msr_options::{
-    Archiving, Checking, Feeding, Folders, ListForm, Listing, Options, Repacking, Task, Verifying,
+    Archiving, Checking, Feeding, Folders, Known, ListForm, Listing, Options, Repacking, Task,
+    Verifying,
 };
 use msr_system::SystemTree;
 use msr_tool::{ToolFault, check_and_tell, feed_and_report, list_segments, repack_and_report};
 use msr_verify::verify;
-use msr_walk::{SystemClaims, walk};
+use msr_walk::{SystemClaims, Walked, walk};
 use std::alloc::Global;
 use std::fs::OpenFile;
 use std::io::{self, Write};
@@ -288,6 +292,47 @@ pub(crate) fn require_apart<'a, R: Files>(
     }
 }
 
+/// Walks the archive, of which the lines that are known were read.
+fn walk_archive<R: Files + Clock, O: Sink>(
+    rt: &R,
+    alloc: Global,
+    archive: &Archiving<'_>,
+    output: &mut O,
+) -> Result<Walked, ToolFault>
+where
+    R::File: LockFile,
+    requires apart { StandApart archive.now.folders }
+    requires output { CanCountCall (O.device output.old) }
+    ensures { Walks archive.now (O.device output.old) (O.device output.new) result }
+{
+    let claims = SystemClaims::new(rt);
+    let mut tree = SystemTree::unlinked(rt, alloc);
+    walk(&mut tree, &claims, alloc, &*archive, time_of_now(rt), output)
+}
+
+/// Walks it with the lines that are known, which are read first if a file has them.
+fn walk_known<'a, R: Files + Clock, O: Sink>(
+    rt: &R,
+    alloc: Global,
+    asked: &Archiving<'a>,
+    output: &mut O,
+) -> Result<Walked, TaskFault<'a>>
+where
+    R::File: LockFile,
+    requires apart { StandApart asked.now.folders }
+    requires output { CanCountCall (O.device output.old) }
+    ensures { WalksKnown asked.now (O.device output.old) (O.device output.new) result }
+{
+    let Known::File(name) = asked.known else {
+        return Ok(walk_archive(rt, alloc, asked, output)?);
+    };
+    let lines = read_known(rt, alloc, name)?;
+    let Ok(read) = archiving_with(asked, &lines) else {
+        return Err(TaskFault::Tool(ToolFault::Memory));
+    };
+    Ok(walk_archive(rt, alloc, &read, output)?)
+}
+
 fn repack_archive<'a, R: Files + Clock, O: Sink>(
     rt: &R,
     alloc: Global,
@@ -304,10 +349,29 @@ where
     }
     let Folders { root, out, reports } = asked.folders;
     require_apart(rt, alloc, root, out, reports)?;
-    let claims = SystemClaims::new(rt);
-    let mut tree = SystemTree::unlinked(rt, alloc);
-    let walked = walk(&mut tree, &claims, alloc, &*asked, time_of_now(rt), output)?;
+    let walked = walk_known(rt, alloc, asked, output)?;
     Ok(Done::of_walk(walked.found, walked.unopened, asked.below.is_empty(), false))
+}
+
+/// Verifies the archive with the lines that are known, which are read first if a file has them.
+fn verify_known<'a, R: Files, O: Sink>(
+    rt: &R,
+    alloc: Global,
+    asked: &Verifying<'a>,
+    output: &mut O,
+) -> Result<WalkFound, TaskFault<'a>>
+    requires { CanCountCall (O.device output.old) }
+    ensures { VerifiesKnown asked.now (O.device output.old) (O.device output.new) result }
+{
+    let mut tree = SystemTree::new(rt, alloc);
+    let Known::File(name) = asked.known else {
+        return Ok(verify(&mut tree, alloc, &*asked, output)?);
+    };
+    let lines = read_known(rt, alloc, name)?;
+    let Ok(read) = verifying_with(asked, &lines) else {
+        return Err(TaskFault::Tool(ToolFault::Memory));
+    };
+    Ok(verify(&mut tree, alloc, &read, output)?)
 }
 
 fn verify_archive<'a, R: Files, O: Sink>(
@@ -321,6 +385,6 @@ fn verify_archive<'a, R: Files, O: Sink>(
 {
     let Folders { root, out, reports } = asked.folders;
     require_apart(rt, alloc, root, out, reports)?;
-    let found = verify(&mut SystemTree::new(rt, alloc), alloc, asked, output)?;
+    let found = verify_known(rt, alloc, asked, output)?;
     Ok(Done::of_walk(found, None, asked.below.is_empty(), true))
 }

@@ -8,7 +8,7 @@ use Rattle.std.specs.List.{flat_map, slice_get}
 use Rattle.std.specs.Option.{option_map}
 use Rattle.msr_devices.specs.Device.{Device, Takes}
 use Rattle.msr_devices.proofs.Chaining.{takes_append}
-use Rattle.msr_options.specs.declared.days.DayOptions.{DayOptions}
+use Rattle.msr_options.specs.declared.task.Archiving.{Archiving}
 use Rattle.msr_report.specs.Writing.{TakesPrefix}
 use Rattle.msr_outcomes.specs.Entries.{Entry, IsTally}
 use Rattle.msr_folders.specs.declared.totals.Total.{Total}
@@ -78,10 +78,10 @@ pub front_all : (old new : Device) (first second : List ℕ) → Takes old new f
 front_all old new first second before = record { taken = first; rest = second; takes = before; whole = refl }
 
 -- the last lines, from the counts and totals of the entries
-pub summary_is : (asked : DayOptions) (entries : List Entry) (tally : Tally) → IsTally entries tally →
+pub summary_is : (asked : Archiving) (entries : List Entry) (tally : Tally) → IsTally entries tally →
     tally_lines asked tally ≡ summary asked entries
 summary_is asked entries tally h =
-    rw (h.channels, h.bytes, h.done, h.skipped, h.refused, h.larger, h.young, h.bytes_read, h.bytes_written, h.unopened) refl
+    rw (h.channels, h.bytes, h.done, h.skipped, h.refused, h.known, h.larger, h.young, h.bytes_read, h.bytes_written, h.unopened) refl
 
 -- a channel's totals with those of its bytes, which stand at the same place
 pub channel_at : (totals bytes : List (List ℕ × Total)) (place : ℕ) (one : List ℕ × Total) (size : Total) →

@@ -11,7 +11,7 @@ use crate::outcome::{bytes_json, bytes_told};
 use crate::tally::Tally;
 use msr_devices::{DeviceFault, Sink, write_all};
 use msr_folders::{JsonText, Total, Totals};
-use msr_options::{DayOptions, ListForm};
+use msr_options::{Archiving, DayOptions, ListForm};
 use std::alloc::{AllocError, Global};
 
 /// The line of a channel in words, with the totals of its records and of its bytes.
@@ -112,34 +112,36 @@ fn count_json(alloc: Global, told: bool, word: &str, days: u64) -> Result<String
 }
 
 /// The last line in words.
-fn files_words(alloc: Global, asked: &DayOptions, tally: &Tally) -> Result<String, AllocError>
+fn files_words(alloc: Global, asked: &Archiving<'_>, tally: &Tally) -> Result<String, AllocError>
     ensures { IfOk result (λ line. string_bytes line ≡ files_words asked.now tally.now) }
 {
     let (files, skipped, refused) = (tally.done, tally.skipped, tally.refused);
-    let larger = count_told(alloc, asked.only_smaller, "larger", tally.larger)?;
-    let young = count_told(alloc, 0 < asked.older_than, "young", tally.young)?;
-    let size = bytes_told(alloc, asked.bytes, tally.bytes_read, tally.bytes_written)?;
-    format!(in alloc; "files {files} skipped {skipped} refused {refused}{larger}{young}{size}\n")
+    let known = count_told(alloc, asked.known.is_asked(), "known", tally.known)?;
+    let larger = count_told(alloc, asked.days.only_smaller, "larger", tally.larger)?;
+    let young = count_told(alloc, 0 < asked.days.older_than, "young", tally.young)?;
+    let size = bytes_told(alloc, asked.days.bytes, tally.bytes_read, tally.bytes_written)?;
+    format!(in alloc; "files {files} skipped {skipped} refused {refused}{known}{larger}{young}{size}\n")
 }
 
 /// The last line in JSON.
-fn files_json(alloc: Global, asked: &DayOptions, tally: &Tally) -> Result<String, AllocError>
+fn files_json(alloc: Global, asked: &Archiving<'_>, tally: &Tally) -> Result<String, AllocError>
     ensures { IfOk result (λ line. string_bytes line ≡ files_json asked.now tally.now) }
 {
     let (files, skipped, refused) = (tally.done, tally.skipped, tally.refused);
-    let larger = count_json(alloc, asked.only_smaller, "larger", tally.larger)?;
-    let young = count_json(alloc, 0 < asked.older_than, "young", tally.young)?;
-    let size = bytes_json(alloc, asked.bytes, tally.bytes_read, tally.bytes_written)?;
+    let known = count_json(alloc, asked.known.is_asked(), "known", tally.known)?;
+    let larger = count_json(alloc, asked.days.only_smaller, "larger", tally.larger)?;
+    let young = count_json(alloc, 0 < asked.days.older_than, "young", tally.young)?;
+    let size = bytes_json(alloc, asked.days.bytes, tally.bytes_read, tally.bytes_written)?;
     format!(in alloc;
-        "{{\"what\":\"files\",\"files\":{files},\"skipped\":{skipped},\"refused\":{refused}{larger}{young}{size}}}\n"
+        "{{\"what\":\"files\",\"files\":{files},\"skipped\":{skipped},\"refused\":{refused}{known}{larger}{young}{size}}}\n"
     )
 }
 
 /// The last line.
-fn files_line(alloc: Global, asked: &DayOptions, tally: &Tally) -> Result<String, AllocError>
+fn files_line(alloc: Global, asked: &Archiving<'_>, tally: &Tally) -> Result<String, AllocError>
     ensures { IfOk result (λ line. string_bytes line ≡ files_line asked.now tally.now) }
 {
-    match asked.telling.form {
+    match asked.days.telling.form {
         ListForm::Words => files_words(alloc, asked, tally),
         ListForm::Json => files_json(alloc, asked, tally),
     }
@@ -149,7 +151,7 @@ fn files_line(alloc: Global, asked: &DayOptions, tally: &Tally) -> Result<String
 pub fn write_summary<O: Sink>(
     alloc: Global,
     out: &mut O,
-    asked: &DayOptions,
+    asked: &Archiving<'_>,
     tally: &Tally,
 ) -> Result<(), DeviceFault>
     requires { CanCountCall (O.device out.old) }
@@ -159,7 +161,7 @@ pub fn write_summary<O: Sink>(
     ensures stops { (entries : List Entry) → IsTally entries tally.now →
         IfErr result (StopsPrefix (O.device out.old) (O.device out.new) (summary asked.now entries)) }
 {
-    write_channels(alloc, out, asked, &tally.channels, &tally.bytes)?;
+    write_channels(alloc, out, &asked.days, &tally.channels, &tally.bytes)?;
     let line = files_line(alloc, asked, tally)?;
     write_all(out, line.as_bytes())?;
     Ok(())

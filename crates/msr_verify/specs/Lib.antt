@@ -2,6 +2,7 @@ pub mod Day
 pub mod Entries
 pub mod Exact
 pub mod Files
+pub mod Known
 pub mod Laws
 pub mod Lines
 pub mod Opening

@@ -1,0 +1,73 @@
+//! The lines of earlier runs that a walk is asked to know.
+ghost use Rattle.std.specs.Prelude.{◌≡◌, IfErr, IfOk};
+ghost use Rattle.msr_command.specs.Ends.{IsUnknown};
+ghost use Rattle.msr_options.specs.declared.known.Known.TheVariants.{Lines};
+
+use crate::files::open_file;
+use crate::task_fault::TaskFault;
+use msr_options::{Archiving, Known, KnownLines, Verifying};
+use msr_tool::ToolFault;
+use std::alloc::{AllocError, Global};
+use std::io::{BufRead, BufReader, Read};
+use std::rt::Files;
+use std::{io, str};
+
+/// Adds the lines of a text that are UTF-8, as each is that was printed.
+fn add_lines<F: Read + Drop>(
+    alloc: Global,
+    file: F,
+    known: &mut KnownLines,
+) -> Result<(), io::Error> {
+    for line in BufReader::new(alloc, file)?.split(alloc, b'\n') {
+        let line = line?;
+        if let Ok(line) = str::from_utf8(line.as_slice()) {
+            known.add(line)?;
+        }
+    }
+    Ok(())
+}
+
+/// Reads the lines of the file with this name.
+pub(crate) fn read_known<'a, R: Files>(
+    rt: &R,
+    alloc: Global,
+    name: &'a str,
+) -> Result<KnownLines, TaskFault<'a>>
+    ensures { IfErr result IsUnknown }
+{
+    let (file, _) = open_file(rt, name)?;
+    let mut known = KnownLines::new(alloc);
+    match add_lines(alloc, file, &mut known) {
+        Ok(()) => Ok(known),
+        Err(_) => Err(TaskFault::Input(name, ToolFault::Read)),
+    }
+}
+
+/// The same walk, with these lines known.
+pub(crate) fn archiving_with<'a>(
+    asked: &Archiving<'a>,
+    lines: &'a KnownLines,
+) -> Result<Archiving<'a>, AllocError>
+    ensures { IfOk result (λ read. (read.days ≡ asked.now.days) × (read.known ≡ Lines lines)) }
+{
+    Ok(Archiving {
+        folders: asked.folders,
+        below: asked.below.clone()?,
+        days: asked.days,
+        known: Known::Lines(lines),
+    })
+}
+
+pub(crate) fn verifying_with<'a>(
+    asked: &Verifying<'a>,
+    lines: &'a KnownLines,
+) -> Result<Verifying<'a>, AllocError>
+    ensures { IfOk result (λ read. (read.telling ≡ asked.now.telling) × (read.known ≡ Lines lines)) }
+{
+    Ok(Verifying {
+        folders: asked.folders,
+        below: asked.below.clone()?,
+        telling: asked.telling,
+        known: Known::Lines(lines),
+    })
+}
