@@ -146,7 +146,7 @@ def reason_of(why):
 def json_line(word, path, why, reason, side=None):
     """The object of an entry. A refusal tells whose fault it is, and where it is, as far as its text says so."""
     members = [f'"what":"{word}"', f'"path":"{json_text(path)}"']
-    if word == "refused":
+    if word in ("refused", "known"):
         told = re.match(r"(file|records|report): ", why)
         side = side or (told and told[1])
         members += [f'"side":"{side}"'] if side else []
@@ -176,10 +176,10 @@ def channel_of(path):
 class Walk:
     """One walk: its lines come one by one, each when its file is done."""
 
-    def __init__(self, task, odd):
-        self.task, self.odd = task, odd
+    def __init__(self, task, odd, known=None):
+        self.task, self.odd, self.lines_known = task, odd, known
         self.root, self.out, self.reports = task.names
-        self.done, self.skips, self.refused, self.larger, self.young, self.channels = 0, 0, 0, 0, 0, {}
+        self.done, self.skips, self.refused, self.known, self.larger, self.young, self.channels = 0, 0, 0, 0, 0, 0, {}
 
     def lines(self):
         for top in self.task.below or [""]:
@@ -191,6 +191,7 @@ class Walk:
                 yield f"channel {name} files {files}{self.told(*sums)}"
         sizes = [sum(sums[place] for sums in self.channels.values()) for place in (3, 4)]
         counts = [("files", self.done), ("skipped", self.skips), ("refused", self.refused)]
+        counts += [] if self.lines_known is None else [("known", self.known)]
         counts += [("larger", self.larger)] if self.task.only_smaller else []
         counts += [("young", self.young)] if self.task.older_than else []
         if self.task.json:
@@ -209,7 +210,7 @@ class Walk:
 
     def line(self, word, path, why=None, side=None, reason=None):
         """The line of an entry, or None if it is left out."""
-        if self.task.quiet and word in ("skipped", "young"):
+        if self.task.quiet and word in ("skipped", "young", "known"):
             return None
         if self.task.json:
             return json_line(word, path, why, reason, side)
@@ -271,9 +272,12 @@ class Walk:
                 yield self.refuse(below, "cannot open", "file")
 
     def has_no_day(self):
-        return not (self.task.below or self.done or self.refused or self.larger or self.young)
+        return not (self.task.below or self.done or self.refused or self.known or self.larger or self.young)
 
     def refuse(self, path, text, side=None, reason=None):
+        if f"refused {in_one_line(path)}: {text}" in (self.lines_known or ()):
+            self.known += 1
+            return self.line("known", path, text, side, reason)
         self.refused += 1
         return self.line("refused", path, text, side, reason)
 
@@ -555,10 +559,11 @@ class Verification:
     # The words of the days that the first number counts.
     GOOD = ("verified", "inplace")
 
-    def __init__(self, task, odd):
-        self.task, self.odd = task, odd
+    def __init__(self, task, odd, known=None):
+        self.task, self.odd, self.lines_known = task, odd, known
         self.root, self.out, self.reports = task.names
-        self.sums = dict.fromkeys(self.SUMS, 0)
+        sums = self.SUMS if known is None else [*self.SUMS[:3], "known", *self.SUMS[3:]]
+        self.sums = dict.fromkeys(sums, 0)
 
     def lines(self):
         yield from filter(None, self.entries_told())
@@ -580,16 +585,24 @@ class Verification:
                     yield self.told("orphan", path)
 
     def is_to_be_looked_at(self):
-        """What is not verified, in place or skipped; the whole archive has to have a day."""
-        return self.has_no_day() or any(count for word, count in self.sums.items() if word not in ("files", "skipped"))
+        """What is not verified, in place, skipped or known; the whole archive has to have a day."""
+        return self.has_no_day() or any(count for word, count in self.sums.items() if word not in ("files", "skipped", "known"))
 
     def has_no_day(self):
         return not self.task.below and all(word == "skipped" or not count for word, count in self.sums.items())
 
     def told(self, word, path, why=None, reason=None):
-        """The line of an entry, or None if it is left out."""
+        """The line of an entry, as known if it is, or None if it is left out."""
+        begin = f"refused {in_one_line(path)}: "
+        told_so = [line for line in self.lines_known or () if line.startswith(begin)]
+        if word == "missing" and told_so:
+            self.sums["known"] += 1
+            why = told_so[0].removeprefix(begin)
+            object_told = f'{{"what":"known","path":"{json_text(path)}","text":"{json_text(why)}"}}'
+            return None if self.task.quiet else object_told if self.task.json else f"known {in_one_line(path)}: {why}"
+        word = "known" if word == "refused" and f"{begin}{why}" in told_so else word
         self.sums["files" if word in self.GOOD else word] += 1
-        if self.task.quiet and word in (*self.GOOD, "skipped"):
+        if self.task.quiet and word in (*self.GOOD, "skipped", "known"):
             return None
         if self.task.json:
             return json_line(word, path, why, reason)

@@ -26,6 +26,8 @@ complete -c msrepack -n '__fish_seen_subcommand_from repack feed list compare ar
     -d 'Microseconds by which a record may be early or late'
 complete -c msrepack -n '__fish_seen_subcommand_from repack feed list archive' -l strict \
     -d 'Refuse a record whose last sample is not its reverse constant'
+complete -c msrepack -n '__fish_seen_subcommand_from archive verify' -r -F -l known \
+    -d 'Tell as known what lines of earlier runs tell as refused'
 complete -c msrepack -n '__fish_seen_subcommand_from archive verify' -l quiet \
     -d 'Print only what is to be looked at, and the counts'
 complete -c msrepack -n '__fish_seen_subcommand_from list archive verify' -l json -d 'Print each line as an object of JSON'

@@ -1,5 +1,6 @@
 -- What is known of the entries of a walk.
-use Rattle.std.specs.Prelude.{if◌then◌else◌, ◌≡◌, List, ℕ, ◌++◌, is_some}
+use Rattle.std.specs.Prelude.{if◌then◌else◌, ◌≡◌, List, ℕ, ◌++◌, codes, is_some}
+use Rattle.msr_folders.specs.Paths.{shown_path}
 use Rattle.msr_options.specs.Known.{knows, text_known}
 use Rattle.msr_options.specs.declared.known.Known.{Known as Asked}
 use Rattle.msr_options.specs.declared.task.Verifying.{Verifying}
@@ -11,7 +12,7 @@ use Rattle.msr_verify.specs.declared.judgement.Refusal.{Refusal}
 
 -- the line of a refusal in words, without the line feed
 abbrev pub refusal_line : (path : List ℕ) → Refusal → List ℕ
-refusal_line path refusal = refused_before path ++ refusal_text refusal
+refusal_line path refusal = codes "refused " ++ (shown_path path ++ (codes ": " ++ refusal_text refusal))
 
 -- what is told of an entry: that it is known exactly if it would be told as refused by a line that is known, or as missing,
 -- and a line that is known tells that it was refused

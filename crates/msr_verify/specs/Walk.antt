@@ -40,23 +40,23 @@ judged_line asked tally =
     ++ (decimal tally.skipped ++ (codes " refused " ++ (decimal tally.refused
     ++ (known_told (knows_any asked) tally ++ (others_told tally ++ codes "\n")))))))
 
--- the last members of the last line in JSON
-abbrev pub others_json : VerifyTally → List ℕ
-others_json tally =
-    codes ",\"missing\":" ++ (decimal tally.missing ++ (codes ",\"notshown\":"
-    ++ (decimal tally.not_shown ++ (codes ",\"differs\":" ++ (decimal tally.differ
-    ++ (codes ",\"orphan\":" ++ decimal tally.orphans))))))
-
 abbrev pub known_json : (told : Bool) → VerifyTally → List ℕ
 known_json false tally = []
 known_json true tally = codes ",\"known\":" ++ decimal tally.known
+
+-- the last members of the last line in JSON
+abbrev pub others_json : (told : Bool) → VerifyTally → List ℕ
+others_json told tally =
+    known_json told tally ++ (codes ",\"missing\":" ++ (decimal tally.missing ++ (codes ",\"notshown\":"
+    ++ (decimal tally.not_shown ++ (codes ",\"differs\":" ++ (decimal tally.differ
+    ++ (codes ",\"orphan\":" ++ decimal tally.orphans)))))))
 
 -- the last line in JSON
 abbrev pub judged_json : Known → VerifyTally → List ℕ
 judged_json asked tally =
     codes "{\"what\":\"files\",\"files\":" ++ (decimal tally.verified ++ (codes ",\"skipped\":"
     ++ (decimal tally.skipped ++ (codes ",\"refused\":" ++ (decimal tally.refused
-    ++ (known_json (knows_any asked) tally ++ (others_json tally ++ codes "}\n")))))))
+    ++ (others_json (knows_any asked) tally ++ codes "}\n"))))))
 
 abbrev pub judged_told : ListForm → Known → VerifyTally → List ℕ
 judged_told Words asked tally = judged_line asked tally

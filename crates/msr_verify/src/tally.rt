@@ -101,13 +101,14 @@ impl VerifyTally {
     }
 
     /// The last members of the last line in JSON.
-    fn others_json(self, alloc: Global) -> Result<String, AllocError>
-        ensures { IfOk result (λ text. string_bytes text ≡ others_json self) }
+    fn others_json(self, alloc: Global, told: bool) -> Result<String, AllocError>
+        ensures { IfOk result (λ text. string_bytes text ≡ others_json told self) }
     {
+        let known = self.known_json(alloc, told)?;
         let (missing, unshown) = (self.missing, self.not_shown);
         let (differ, orphans) = (self.differ, self.orphans);
         format!(in alloc;
-            ",\"missing\":{missing},\"notshown\":{unshown},\"differs\":{differ},\"orphan\":{orphans}"
+            "{known},\"missing\":{missing},\"notshown\":{unshown},\"differs\":{differ},\"orphan\":{orphans}"
         )
     }
 
@@ -116,10 +117,9 @@ impl VerifyTally {
         ensures { IfOk result (λ line. string_bytes line ≡ judged_json known.entry self) }
     {
         let (files, skipped, refused) = (self.verified, self.skipped, self.refused);
-        let known = self.known_json(alloc, known.is_asked())?;
-        let others = self.others_json(alloc)?;
+        let others = self.others_json(alloc, known.is_asked())?;
         format!(in alloc;
-            "{{\"what\":\"files\",\"files\":{files},\"skipped\":{skipped},\"refused\":{refused}{known}{others}}}\n"
+            "{{\"what\":\"files\",\"files\":{files},\"skipped\":{skipped},\"refused\":{refused}{others}}}\n"
         )
     }
 

@@ -100,7 +100,8 @@ impl EntryVisitor for Judging<'_> {
     ) -> Result<(), DeviceFault> {
         match SdsName::parse(path) {
             Ok(_) => {
-                let judgement = judge_day(tree, self.alloc, self.archive.folders, path)?;
+                let archive = self.archive;
+                let judgement = judge_day(tree, self.alloc, archive.folders, path)?;
                 let reason = tree.reason();
                 tell(
                     self.alloc,
@@ -196,7 +197,8 @@ impl EntryVisitor for Searching<'_> {
     ) -> Result<(), DeviceFault> {
         match SdsName::parse(path) {
             Ok(_) => {
-                let file = join(self.alloc, self.archive.folders.root, path)?;
+                let archive = self.archive;
+                let file = join(self.alloc, archive.folders.root, path)?;
                 if may_have(tree, file.as_str())? {
                     return Ok(());
                 }
