@@ -16,7 +16,8 @@ import walks
 from reports import NotAReport, parsed, verdict
 
 OF_RECORDS = ("--length", "--no-int24", "--tolerance", "--strict")
-OF_DAYS = ("--resume", "--check", "--only-smaller", "--keep-old", "--bytes")
+OF_KEPT = ("--resume", "--check", "--only-smaller", "--keep-old")
+OF_DAYS = (*OF_KEPT, "--bytes")
 OF_ORIGINALS = ("--undo", "--below", "--only-smaller", "--older-than", "--touch", "--int24")
 COMMANDS = {
     "repack": (OF_RECORDS, (1, 2)),
@@ -24,7 +25,7 @@ COMMANDS = {
     "list": (("--tolerance", "--strict", "--json"), (1, 1)),
     "check": ((), (2, 2)),
     "compare": (("--tolerance",), (2, 2)),
-    "archive": ((*OF_RECORDS, "--below", *OF_DAYS, "--older-than", "--known", "--quiet", "--json"), (3, 3)),
+    "archive": ((*OF_RECORDS, "--below", *OF_DAYS, "--older-than", "--known", "--quiet", "--json", "--dry-run"), (3, 3)),
     "verify": (("--known", "--quiet", "--json", "--below"), (3, 3)),
     "replace": (OF_ORIGINALS, (4, 4)),
 }
@@ -35,7 +36,7 @@ LENGTHS = [2**exponent for exponent in range(8, 17)]
 HINT_OF_LENGTHS = b"hint: msrepack writes records of %d, %d, %d, %d, %d, %d, %d, %d or %d bytes\n" % tuple(LENGTHS)
 
 OF_TASK = "command names length kinds tolerance strict json quiet below resume check only_smaller keep_old bytes"
-Task = namedtuple("Task", f"{OF_TASK} aside undo older_than touch int24 known")
+Task = namedtuple("Task", f"{OF_TASK} aside undo older_than touch int24 known dry_run")
 Device = namedtuple("Device", "most fails")
 # What a run is given beside its words.
 # The last is the file that tells what standard output had at each read, if one does.
@@ -132,6 +133,11 @@ def read_words(words):
         raise Ends(2, None)
     options, (fewest, most) = COMMANDS[command]
     names, chosen = told_apart(rest, options)
+    if "--dry-run" in chosen:
+        # Nothing is kept: neither where nor how is to be said.
+        fewest = most = 1
+        if chosen.keys() & set(OF_KEPT):
+            raise Ends(2, None)
     if not fewest <= len(names) <= most:
         raise Ends(2, None)
     length, below = chosen.get("--length", 512), chosen["--below"]
@@ -156,7 +162,9 @@ def read_words(words):
     aside = names.pop() if command == "replace" else None
     older_than = chosen.get("--older-than", 7 if command == "replace" else 0)
     of_originals = "--undo" in chosen, older_than, "--touch" in chosen, "--int24" in chosen
-    return Task(command, names, length, kinds, tolerance, strict, json, quiet, below, *flags, aside, *of_originals, chosen.get("--known"))
+    dry_run = "--dry-run" in chosen
+    of_days = chosen.get("--known"), dry_run
+    return Task(command, names, length, kinds, tolerance, strict, json, quiet, below, *flags, aside, *of_originals, *of_days)
 
 
 # Files and streams.
@@ -361,7 +369,7 @@ def known_of(task, given):
 def archive(task, given):
     if walks.overlap(task.names):
         raise Ends(2, told("the folders overlap"))
-    walk = walks.Walk(task, given.odd, known_of(task, given))
+    walk = walks.Trial(task, given.odd) if task.dry_run else walks.Walk(task, given.odd, known_of(task, given))
     text = model.text(walk.lines()).encode()
     yield Outcome(int(walk.refused > 0), text, hint_of(walk, given), lines=True)
 

@@ -178,7 +178,8 @@ class Walk:
 
     def __init__(self, task, odd, known=None):
         self.task, self.odd, self.lines_known = task, odd, known
-        self.root, self.out, self.reports = task.names
+        self.root, *kept = task.names
+        self.out, self.reports = kept or (None, None)
         self.done, self.skips, self.refused, self.known, self.larger, self.young, self.channels = 0, 0, 0, 0, 0, 0, {}
 
     def lines(self):
@@ -451,20 +452,29 @@ class Walk:
             return length if 256 <= length <= 65536 else 512
         return 512
 
-    def repack(self, source, places, claim):
-        """Repacks a day: all is written beside its names, and then the report gets its name first."""
+    @staticmethod
+    def opened(source):
+        """A day's file, if it is a regular one."""
         try:
             if not stat.S_ISREG(os.stat(source).st_mode):
                 raise OSError
-            file = os.open(source, os.O_RDONLY)
+            return os.open(source, os.O_RDONLY)
         except OSError as why:
             raise NotDone("cannot open", "file", reason_of(why)) from None
-        stamp, parts = stamp_of(source), self.parts(places, claim.number)
-        content = read_to_end(file)
+
+    def packed(self, content):
+        """The records and the report of what was read of a day, or its fault."""
         length = self.length_for(content or b"")
         asked = self.task.tolerance, self.task.strict, self.task.kinds
         records, report, fault = model.repacked(content or b"", length, *asked)
-        fault = "read fault" if content is None else fault
+        return records, report, "read fault" if content is None else fault
+
+    def repack(self, source, places, claim):
+        """Repacks a day: all is written beside its names, and then the report gets its name first."""
+        file = self.opened(source)
+        stamp, parts = stamp_of(source), self.parts(places, claim.number)
+        content = read_to_end(file)
+        records, report, fault = self.packed(content)
         for path, text, side in zip(parts, (records, report.encode() if report else b""), ("records", "report")):
             self.write(path, text, side)
         if fault:
@@ -550,6 +560,18 @@ class Walk:
             if odd.gone and os.path.exists(odd.gone):
                 raise OSError("other error")
         os.rename(part, path)
+
+
+class Trial(Walk):
+    """A walk that only tells what repacking each day would give."""
+
+    def day(self, path):
+        content = read_to_end(self.opened(f"{self.root}/{path}"))
+        records, report, fault = self.packed(content)
+        if fault:
+            raise NotDone(fault, "file" if fault.startswith("offset") else None)
+        read = parsed(report.encode())
+        return "would", read.counts[0], sum(line.records for line in read.lines), len(content), len(records)
 
 
 class Verification:

@@ -165,7 +165,7 @@ pub(crate) fn command_line<'a>(alloc: Global, verb: Verb) -> Result<Command<'a>,
 pub(crate) fn dry_run_line<'a>(alloc: Global) -> Result<Command<'a>, AllocError>
     ensures { IfOk result (λ command. app_of command ≡ app_with (codes "archive") dry_run_rules) }
 {
-    described(alloc, "archive", dry_run())?.bin_name("msrepack archive --dry-run")
+    described(alloc, "archive", dry_run())?.bin_name("msrepack archive")
 }
 
 /// What the help of a dry run says, and what it takes.

@@ -7,9 +7,7 @@ ghost use Rattle.msr_options.specs.Asked.{ask_dry_run, ask_help};
 ghost use Rattle.msr_options.specs.Tasks.{HasTolerance, IsTrial, KeepsInput, verb_of};
 
 use crate::commands::dry_run_line;
-use crate::words::{
-    LineFault, below_in, days_in, ending_of, file_in, read_line, refused, task_of,
-};
+use crate::words::{LineFault, below_in, days_in, ending_of, file_in, read_line, refused, task_of};
 use clap::ArgMatches;
 use msr_options::{NoTask, Task, Trying, Verb};
 use std::alloc::Global;

@@ -191,7 +191,10 @@ fn folders_named<'a>(alloc: Global, given: &[&'a str]) -> Result<Vec<&'a str>, A
 }
 
 /// The folders of an archive that are to be walked: paths of names, of which no two overlap.
-pub(crate) fn below_in<'a>(alloc: Global, found: &ArgMatches<'a>) -> Result<Vec<&'a str>, LineFault<'a>>
+pub(crate) fn below_in<'a>(
+    alloc: Global,
+    found: &ArgMatches<'a>,
+) -> Result<Vec<&'a str>, LineFault<'a>>
     ensures asked { IfOk result (λ below. AsksBelow (found_of found.now) (map (λ folder. folder.now) below.items)) }
     ensures apart { IfOk result (λ below. AreApart (map (λ folder. folder.now) below.items)) }
 {
@@ -435,7 +438,11 @@ fn task_in<'a>(alloc: Global, verb: Verb, found: &ArgMatches<'a>) -> Result<Task
 }
 
 /// What clap finds in these words, which begin with that of the command.
-pub(crate) fn read_line<'a>(alloc: Global, verb: Verb, words: &'a [&'a str]) -> Result<ArgMatches<'a>, NoTask>
+pub(crate) fn read_line<'a>(
+    alloc: Global,
+    verb: Verb,
+    words: &'a [&'a str],
+) -> Result<ArgMatches<'a>, NoTask>
     ensures found { IfOk result (λ found. IsFoundFor verb (found_of found)) }
     ensures told { IfErr result (IsToldByClap (ask_help (drop 1 (map (λ word. word.now) words.now)) ≡ true)) }
 {
@@ -446,7 +453,11 @@ pub(crate) fn read_line<'a>(alloc: Global, verb: Verb, words: &'a [&'a str]) -> 
 }
 
 /// The task of a command, or what is said if it has a fault that clap lets through.
-pub(crate) fn task_of<'a>(alloc: Global, verb: Verb, found: &ArgMatches<'a>) -> Result<Task<'a>, NoTask>
+pub(crate) fn task_of<'a>(
+    alloc: Global,
+    verb: Verb,
+    found: &ArgMatches<'a>,
+) -> Result<Task<'a>, NoTask>
     requires { IsFoundFor verb (found_of found.now) }
     ensures command { IfOk result (λ task. verb_of task ≡ verb) }
     ensures kept { IfOk result (λ task. HasTolerance task × KeepsInput task) }
