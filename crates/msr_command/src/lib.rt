@@ -6,10 +6,12 @@ mod comparing;
 mod done;
 mod files;
 mod hints;
+mod named;
 mod program;
 mod replacing;
 mod task_fault;
 mod tasks;
 mod turns;
 
+pub use named::{NamedFiles, SystemFiles};
 pub use program::run;
