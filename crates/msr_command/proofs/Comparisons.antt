@@ -17,7 +17,7 @@ use Rattle.msr_command.specs.declared.task_fault.TaskFault.TheVariants.{Tool}
 use Rattle.msr_tree.specs.Steps.{Step}
 use Rattle.msr_command.proofs.Inputs.{unread_unopened}
 use Rattle.msr_command.specs.Comparing.{TellsComparison, compare_settings, comparison_lines, stop_of}
-use Rattle.msr_command.specs.Ends.{Compares, ComparesNamed, CompareEnds, IsOpened, IsUnread, OverTwo}
+use Rattle.msr_command.specs.Ends.{Compares, ComparesNamed, CompareEnds, HasOpened, IsUnread, OverTwo}
 
 -- what was tried before prints nothing
 pub two_after : (opened : Type 0) (comes_one comes_other : List ℕ → Type 0)
@@ -50,9 +50,9 @@ two_none opened comes_one comes_other says out0 out unopened none ends = record 
 -- an input cannot be opened, or is the output
 pub compare_unread : (comes_one comes_other : List ℕ → Type 0) (choice : Choice) (asked : Comparing) (out : Device)
     (stop : TaskFault) → IsUnread stop
-    → OverTwo (IsOpened (Err stop)) comes_one comes_other (CompareEnds choice asked (Err stop)) out out
+    → OverTwo (HasOpened (Err stop)) comes_one comes_other (CompareEnds choice asked (Err stop)) out out
 compare_unread comes_one comes_other choice asked out stop is =
-    two_none (IsOpened (Err stop)) comes_one comes_other (CompareEnds choice asked (Err stop)) out out
+    two_none (HasOpened (Err stop)) comes_one comes_other (CompareEnds choice asked (Err stop)) out out
     (unread_unopened stop is) (takes_none out) (inr (inl (inl is), refl))
 
 -- what was done over two inputs that come from names

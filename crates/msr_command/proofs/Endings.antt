@@ -40,7 +40,7 @@ use Rattle.msr_tree.specs.Steps.{Path, Step}
 use Rattle.msr_options.specs.declared.task.Checking.{Checking}
 use Rattle.msr_command.proofs.Comparisons.{compare_unsettled, two_after, two_none}
 use Rattle.msr_command.proofs.Inputs.{unread_unopened}
-use Rattle.msr_command.specs.Ends.{Checks, ComesNamed, Does, EndsClosed, EndsReplacing, Feeds, FeedAnswers, FeedEnds, FeedsTo, IsOpened, IsUncreated, IsUnbegun, IsUnread, ListEnds, ListsNamed, IsOverlapOrMemory, Over, RepackEnds, Repacks, RepacksNamed, ReplaceEnds, ReplacesArchive, VerifiesArchive, WalksArchive, done_of_archive, done_of_verifying, is_whole}
+use Rattle.msr_command.specs.Ends.{Checks, ComesNamed, Does, EndsClosed, EndsReplacing, Feeds, FeedAnswers, FeedEnds, FeedsTo, HasOpened, IsUncreated, IsUnbegun, IsUnread, ListEnds, ListsNamed, IsOverlapOrMemory, Over, RepackEnds, Repacks, RepacksNamed, ReplaceEnds, ReplacesArchive, VerifiesArchive, WalksArchive, done_of_archive, done_of_verifying, is_whole}
 
 -- nothing was printed
 over_none : (opened : Type 0) (comes : List ℕ → Type 0) (says : (input printed : List ℕ) → Type 0) (out0 out : Device)
@@ -90,7 +90,7 @@ repack_uncreated choice source out stop is =
 pub repack_unread : (choice : Choice) (went : List Step → Type 0) (name : Path) (standard out : Device) (stop : TaskFault) →
     IsUnread stop → RepacksNamed choice went name standard out out (Err stop)
 repack_unread choice went name standard out stop is =
-    over_none (IsOpened (Err stop)) (ComesNamed went name standard) (RepackEnds choice (Err stop)) out out []
+    over_none (HasOpened (Err stop)) (ComesNamed went name standard) (RepackEnds choice (Err stop)) out out []
     (λ opened. absurd (unread_unopened stop is opened)) (takes_none out) (inr (inl (inl is), refl))
 
 pub feed_uncreated : (choice : Choice) (source out : Device) (stop : TaskFault) → IsUncreated stop →
@@ -103,7 +103,7 @@ feed_uncreated choice source out stop is =
 pub list_unread : (form : ListForm) (choice : Choice) (went : List Step → Type 0) (name : Path) (standard out : Device)
     (stop : TaskFault) → IsUnread stop → ListsNamed form choice went name standard out out (Err stop)
 list_unread form choice went name standard out stop is =
-    over_none (IsOpened (Err stop)) (ComesNamed went name standard) (ListEnds form choice (Err stop)) out out []
+    over_none (HasOpened (Err stop)) (ComesNamed went name standard) (ListEnds form choice (Err stop)) out out []
     (λ opened. absurd (unread_unopened stop is opened)) (takes_none out) (inr (inl is, refl))
 
 -- nothing can be printed

@@ -4,12 +4,12 @@ use Rattle.msr_devices.specs.Device.{Device, HasLeft}
 use Rattle.msr_tree.specs.Steps.{Path, Step}
 use Rattle.msr_command.specs.declared.task_fault.TaskFault.{TaskFault}
 use Rattle.msr_command.specs.declared.task_fault.TaskFault.TheVariants.{CannotOpen, Input, Failed, SameFile, SameOutput, Overlap, Closed, Tool}
-use Rattle.msr_command.specs.Ends.{IsOpened, IsUnread}
+use Rattle.msr_command.specs.Ends.{HasOpened, IsUnread}
 use Rattle.msr_command.specs.Named.{Comes, IsReaderOf, LeadsTo}
 
 -- what stops a task before anything is read
 
-pub unread_unopened : (stop : TaskFault) → IsUnread stop → IsOpened (Err stop) → ⊥
+pub unread_unopened : (stop : TaskFault) → IsUnread stop → HasOpened (Err stop) → ⊥
 unread_unopened (CannotOpen name why) is opened = opened
 unread_unopened SameFile is opened = opened
 unread_unopened (Input name why) is opened = is

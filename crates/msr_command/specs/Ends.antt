@@ -94,12 +94,12 @@ Ends done file stopped printed (Err stop) =
     IfTool stopped stop ⊎ ((file stop ⊎ (stop ≡ Closed)) × (printed ≡ []))
 
 -- no file stopped a task, and no closed standard output, before anything was read
-abbrev pub IsOpened : Result Done TaskFault → Type 0
-IsOpened (Err (CannotOpen name why)) = ⊥
-IsOpened (Err SameFile) = ⊥
-IsOpened (Err SameOutput) = ⊥
-IsOpened (Err Closed) = ⊥
-IsOpened _ = ⊤
+abbrev pub HasOpened : Result Done TaskFault → Type 0
+HasOpened (Err (CannotOpen name why)) = ⊥
+HasOpened (Err SameFile) = ⊥
+HasOpened (Err SameOutput) = ⊥
+HasOpened (Err Closed) = ⊥
+HasOpened _ = ⊤
 
 -- What a task over one input read and printed, and what these say. Where the input comes from is known if it was opened.
 pub record Over (opened : Type 0) (comes : List ℕ → Type 0) (says : (input printed : List ℕ) → Type 0) (out0 out : Device) :
@@ -139,7 +139,7 @@ ComesNamed went name standard input = Comes (name ≡ codes "-") went name stand
 abbrev pub RepacksNamed : Choice → (went : List Step → Type 0) → (name : Path) → (standard out0 out : Device)
     → Result Done TaskFault → Type 0
 RepacksNamed choice went name standard out0 out result =
-    Over (IsOpened result) (ComesNamed went name standard) (RepackEnds choice result) out0 out
+    Over (HasOpened result) (ComesNamed went name standard) (RepackEnds choice result) out0 out
 
 -- The input was listed with these counts.
 pub record WritesList (form : ListForm) (choice : Choice) (input printed : List ℕ) : Type 0 where
@@ -159,7 +159,7 @@ Lists form choice source out0 out result = Over ⊤ (HasLeft source) (ListEnds f
 abbrev pub ListsNamed : ListForm → Choice → (went : List Step → Type 0) → (name : Path) → (standard out0 out : Device)
     → Result Done TaskFault → Type 0
 ListsNamed form choice went name standard out0 out result =
-    Over (IsOpened result) (ComesNamed went name standard) (ListEnds form choice result) out0 out
+    Over (HasOpened result) (ComesNamed went name standard) (ListEnds form choice result) out0 out
 
 -- The input was repacked into what was printed, and this is the text of its report.
 pub record WritesRecords (choice : Choice) (input printed : List ℕ) : Type 0 where
@@ -200,8 +200,8 @@ pub record Checks (went : List Step → Type 0) (asked : Checking) (out0 out : D
   pub input : List ℕ
   pub text : List ℕ
   pub printed : List ℕ
-  pub packed : IsOpened result → LeadsTo went asked.packed.now input
-  pub report : IsOpened result → LeadsTo went asked.report.now text
+  pub packed : HasOpened result → LeadsTo went asked.packed.now input
+  pub report : HasOpened result → LeadsTo went asked.report.now text
   pub prints : Takes out0 out printed
   pub ends : CheckEnds input text printed result
 
@@ -239,14 +239,14 @@ IsOtherStandard asked = ¬ (IsOneStandard asked) × (asked.other.now ≡ codes "
 abbrev pub ComparesWith : (went : List Step → Type 0) → Choice → Comparing → (one standard out0 out : Device)
     → Result Done TaskFault → Type 0
 ComparesWith went choice asked one standard out0 out result =
-    OverTwo (IsOpened result) (HasLeft one) (ComesNamed went asked.other.now standard) (CompareEnds choice asked result)
+    OverTwo (HasOpened result) (HasLeft one) (ComesNamed went asked.other.now standard) (CompareEnds choice asked result)
     out0 out
 
 -- Comparing the files of two names, of which one may be standard input.
 abbrev pub ComparesNamed : (went : List Step → Type 0) → Choice → Comparing → (standard out0 out : Device)
     → Result Done TaskFault → Type 0
 ComparesNamed went choice asked standard out0 out result =
-    OverTwo (IsOpened result) (Comes (IsOneStandard asked) went asked.one.now standard)
+    OverTwo (HasOpened result) (Comes (IsOneStandard asked) went asked.one.now standard)
     (Comes (IsOtherStandard asked) went asked.other.now standard) (CompareEnds choice asked result) out0 out
 
 -- what a walk through an archive ends with, or through a part of it, and whether the whole has to have a day
