@@ -1,6 +1,6 @@
 -- How tasks end: done, stopped, or before they begin.
 use Rattle.std.specs.Prelude.{◌↔◌, ⊤, IsSomeAnd, IsTrue, Option, None, Some, String, string_bytes, vec_len}
-use Rattle.std.proofs.Common.{◌≡◌, ◌∙◌, ℕ, Bool, List, [], codes, refl, subst, sym, inl, inr, append-nil, Result, Ok, Err}
+use Rattle.std.proofs.Common.{◌≡◌, ◌∙◌, ℕ, Bool, List, [], refl, subst, sym, inl, inr, append-nil, Result, Ok, Err}
 use Rattle.msr_devices.specs.Device.{Device, HasLeft, Takes}
 use Rattle.msr_devices.proofs.Chaining.{left_of, takes_append, takes_none}
 use Rattle.msr_report.specs.declared.report.Report.{Report}
@@ -41,131 +41,142 @@ use Rattle.msr_options.specs.declared.task.ListForm.{ListForm}
 use Rattle.msr_options.specs.declared.task.Task.{Task}
 use Rattle.msr_options.specs.declared.task.Task.TheVariants.{Repack, List as Listing, Check, Compare, Archive, Trial, Verify, Replace, Feed}
 use Rattle.msr_command.specs.Turns.{AreTurns}
+use Rattle.msr_tree.specs.Steps.{Path, Step}
+use Rattle.msr_options.specs.declared.task.Checking.{Checking}
 use Rattle.msr_command.proofs.Comparisons.{compare_unsettled, two_after, two_none}
-use Rattle.msr_command.specs.Ends.{Checks, Does, EndsClosed, EndsReplacing, Feeds, FeedAnswers, FeedEnds, FeedsTo, IsUncreated, IsUnbegun, IsUnread, ListEnds, ListsNamed, IsOverlapOrMemory, Over, RepackEnds, Repacks, RepacksNamed, ReplaceEnds, ReplacesArchive, TriesArchive, VerifiesArchive, VerifiesKnown, WalksArchive, WalksKnown, IsArchivingRead, IsUnwalked, IsVerifyingRead, done_of_archive, done_of_trial, done_of_verifying, is_whole}
+use Rattle.msr_command.proofs.Inputs.{unread_unopened}
+use Rattle.msr_command.specs.Ends.{Checks, ComesNamed, Does, EndsClosed, EndsReplacing, Feeds, FeedAnswers, FeedEnds, FeedsTo, HasOpened, IsUncreated, IsUnbegun, IsUnread, ListEnds, ListsNamed, IsOverlapOrMemory, Over, RepackEnds, Repacks, RepacksNamed, ReplaceEnds, ReplacesArchive, VerifiesArchive, WalksArchive, done_of_archive, done_of_verifying, is_whole, TriesArchive, VerifiesKnown, WalksKnown, IsArchivingRead, IsUnwalked, IsVerifyingRead, done_of_trial}
 
--- nothing was read or printed
-over_none : (known : Type 0) (says : (input printed : List ℕ) → Type 0) (source out0 out : Device) → Takes out0 out [] →
-    ((input : List ℕ) → says input []) → Over known says source out0 out
-over_none known says source out0 out none ends = record {
-  input = (left_of source).0;
-  printed = [];
-  left = λ is. (left_of source).1;
-  prints = none;
-  ends = ends (left_of source).0;
-}
+-- nothing was printed
+over_none : (opened : Type 0) (comes : List ℕ → Type 0) (says : (input printed : List ℕ) → Type 0) (out0 out : Device)
+    (input : List ℕ) → (opened → comes input) → Takes out0 out [] → says input [] → Over opened comes says out0 out
+over_none opened comes says out0 out input come none ends =
+    record { input = input; printed = []; come = come; prints = none; ends = ends }
 
 -- what was tried before prints nothing
-over_after : (known : Type 0) (says : (input printed : List ℕ) → Type 0) (source out0 out1 out : Device) →
-    Takes out0 out1 [] → Over known says source out1 out → Over known says source out0 out
-over_after known says source out0 out1 out none does = record {
+over_after : (opened : Type 0) (comes : List ℕ → Type 0) (says : (input printed : List ℕ) → Type 0)
+    (out0 out1 out : Device) → Takes out0 out1 [] → Over opened comes says out1 out → Over opened comes says out0 out
+over_after opened comes says out0 out1 out none does = record {
   input = does.input;
   printed = does.printed;
-  left = does.left;
+  come = does.come;
   prints = takes_append out0 out1 out [] does.printed none does.prints;
   ends = does.ends;
 }
 
--- what was done over a source, where less is known of it
-pub over_named : {known named : Type 0} {says : (input printed : List ℕ) → Type 0} {source standard out0 out : Device}
-    (does : Over known says source out0 out) → (named → HasLeft standard does.input) → Over named says standard out0 out
-over_named does left =
-    record { input = does.input; printed = does.printed; left = left; prints = does.prints; ends = does.ends }
+-- what was done over an input that comes from a name
+pub over_named : {opened named : Type 0} {comes others : List ℕ → Type 0} {says : (input printed : List ℕ) → Type 0}
+    {out0 out : Device} (does : Over opened comes says out0 out) → (named → others does.input)
+    → Over named others says out0 out
+over_named does come =
+    record { input = does.input; printed = does.printed; come = come; prints = does.prints; ends = does.ends }
 
 -- the same is said otherwise
-over_said : (known : Type 0) (says others : (input printed : List ℕ) → Type 0) (source out0 out : Device) →
-    ((input printed : List ℕ) → says input printed → others input printed) → Over known says source out0 out
-    → Over known others source out0 out
-over_said known says others source out0 out then does = record {
+over_said : (opened : Type 0) (comes : List ℕ → Type 0) (says others : (input printed : List ℕ) → Type 0)
+    (out0 out : Device) → ((input printed : List ℕ) → says input printed → others input printed)
+    → Over opened comes says out0 out → Over opened comes others out0 out
+over_said opened comes says others out0 out then does = record {
   input = does.input;
   printed = does.printed;
-  left = does.left;
+  come = does.come;
   prints = does.prints;
   ends = then does.input does.printed does.ends;
 }
 
 -- a file cannot be opened or made, or is another one
 
-pub repack_uncreated : (choice : Choice) (known : Type 0) (source out : Device) (stop : TaskFault) → IsUncreated stop →
-    Over known (RepackEnds choice (Err stop)) source out out
-repack_uncreated choice known source out stop is =
-    over_none known (RepackEnds choice (Err stop)) source out out (takes_none out)
-    (λ input. inr (inl is, refl))
+pub repack_uncreated : (choice : Choice) (source out : Device) (stop : TaskFault) → IsUncreated stop →
+    Repacks choice source out out (Err stop)
+repack_uncreated choice source out stop is =
+    let left = left_of source in
+    over_none ⊤ (HasLeft source) (RepackEnds choice (Err stop)) out out left.0 (λ opened. left.1) (takes_none out)
+    (inr (inl is, refl))
 
-pub repack_unread : (choice : Choice) (name : List ℕ) (standard out : Device) (stop : TaskFault) → IsUnread stop →
-    RepacksNamed choice name standard out out (Err stop)
-repack_unread choice name standard out stop is =
-    repack_uncreated choice (name ≡ codes "-") standard out stop (inl is)
+pub repack_unread : (choice : Choice) (went : List Step → Type 0) (name : Path) (standard out : Device) (stop : TaskFault) →
+    IsUnread stop → RepacksNamed choice went name standard out out (Err stop)
+repack_unread choice went name standard out stop is =
+    over_none (HasOpened (Err stop)) (ComesNamed went name standard) (RepackEnds choice (Err stop)) out out []
+    (λ opened. absurd (unread_unopened stop is opened)) (takes_none out) (inr (inl (inl is), refl))
 
 pub feed_uncreated : (choice : Choice) (source out : Device) (stop : TaskFault) → IsUncreated stop →
     Feeds choice source out out (Err stop)
 feed_uncreated choice source out stop is =
-    over_none ⊤ (FeedEnds choice (Err stop)) source out out (takes_none out)
-    (λ input. inr (inl is, refl))
+    let left = left_of source in
+    over_none ⊤ (HasLeft source) (FeedEnds choice (Err stop)) out out left.0 (λ opened. left.1) (takes_none out)
+    (inr (inl is, refl))
 
-pub list_unread : (form : ListForm) (choice : Choice) (name : List ℕ) (standard out : Device) (stop : TaskFault) → IsUnread stop →
-    ListsNamed form choice name standard out out (Err stop)
-list_unread form choice name standard out stop is =
-    over_none (name ≡ codes "-") (ListEnds form choice (Err stop)) standard out out (takes_none out)
-    (λ input. inr (inl is, refl))
+pub list_unread : (form : ListForm) (choice : Choice) (went : List Step → Type 0) (name : Path) (standard out : Device)
+    (stop : TaskFault) → IsUnread stop → ListsNamed form choice went name standard out out (Err stop)
+list_unread form choice went name standard out stop is =
+    over_none (HasOpened (Err stop)) (ComesNamed went name standard) (ListEnds form choice (Err stop)) out out []
+    (λ opened. absurd (unread_unopened stop is opened)) (takes_none out) (inr (inl is, refl))
 
 -- nothing can be printed
 
-pub task_closed : (task : Task) (standard out0 out : Device) (stop : TaskFault) → Takes out0 out [] →
-    EndsClosed task stop → Does task standard out0 out (Err stop)
-task_closed (Repack asked) standard out0 out stop none ends =
-    rw ends (over_none _ _ standard out0 out none (λ input. inr (inr refl, refl)))
-task_closed (Listing asked) standard out0 out stop none ends =
-    rw ends (over_none _ _ standard out0 out none (λ input. inr (inr refl, refl)))
-task_closed (Check asked) standard out0 out stop none ends =
-    rw ends (record { input = []; text = []; printed = []; prints = none; ends = inr (inr refl, refl) })
-task_closed (Compare asked) standard out0 out stop none ends =
-    rw ends (two_none _ _ _ standard standard out0 out none (λ first second. inr (inr refl, refl)))
-task_closed (Archive asked) standard out0 out stop none ends =
+pub task_closed : (went : List Step → Type 0) (task : Task) (standard out0 out : Device) (stop : TaskFault) →
+    Takes out0 out [] → EndsClosed task stop → Does went task standard out0 out (Err stop)
+task_closed went (Repack asked) standard out0 out stop none ends =
+    rw ends (over_none _ _ _ out0 out [] (λ opened. absurd opened) none (inr (inr refl, refl)))
+task_closed went (Listing asked) standard out0 out stop none ends =
+    rw ends (over_none _ _ _ out0 out [] (λ opened. absurd opened) none (inr (inr refl, refl)))
+task_closed went (Check asked) standard out0 out stop none ends = rw ends (record {
+  input = [];
+  text = [];
+  printed = [];
+  packed = λ opened. absurd opened;
+  report = λ opened. absurd opened;
+  prints = none;
+  ends = inr (inr refl, refl);
+})
+task_closed went (Compare asked) standard out0 out stop none ends =
+    rw ends (two_none _ _ _ _ out0 out (λ opened. opened) none (inr (inr refl, refl)))
+task_closed went (Archive asked) standard out0 out stop none ends =
     rw ends (record { printed = []; prints = none; ends = inr (inr refl, refl) })
-task_closed (Trial asked) standard out0 out stop none ends =
+task_closed went (Trial asked) standard out0 out stop none ends =
     rw ends (record { printed = []; prints = none; ends = inr (inr refl, refl) })
-task_closed (Verify asked) standard out0 out stop none ends =
+task_closed went (Verify asked) standard out0 out stop none ends =
     rw ends (record { printed = []; prints = none; ends = inr (inr refl, refl) })
-task_closed (Replace asked) standard out0 out stop none ends =
+task_closed went (Replace asked) standard out0 out stop none ends =
     rw ends (record { printed = []; prints = none; ends = inr (inr (inr refl, refl)) })
-task_closed (Feed asked) standard out0 out stop none ends =
-    over_none _ _ standard out0 out none (λ input. inr (ends, refl))
+task_closed went (Feed asked) standard out0 out stop none ends =
+    let left = left_of standard in
+    over_none ⊤ (HasLeft standard) _ out0 out left.0 (λ opened. left.1) none (inr (ends, refl))
 
-pub then_does : (task : Task) (standard out0 out1 out : Device) (result : Result Done TaskFault) → Takes out0 out1 [] →
-    Does task standard out1 out result → Does task standard out0 out result
-then_does (Repack asked) standard out0 out1 out result none does = over_after _ _ standard out0 out1 out none does
-then_does (Listing asked) standard out0 out1 out result none does = over_after _ _ standard out0 out1 out none does
-then_does (Check asked) standard out0 out1 out result none does = record {
+pub then_does : (went : List Step → Type 0) (task : Task) (standard out0 out1 out : Device) (result : Result Done TaskFault) →
+    Takes out0 out1 [] → Does went task standard out1 out result → Does went task standard out0 out result
+then_does went (Repack asked) standard out0 out1 out result none does = over_after _ _ _ out0 out1 out none does
+then_does went (Listing asked) standard out0 out1 out result none does = over_after _ _ _ out0 out1 out none does
+then_does went (Check asked) standard out0 out1 out result none does = record {
   input = does.input;
   text = does.text;
   printed = does.printed;
+  packed = does.packed;
+  report = does.report;
   ends = does.ends;
   prints = takes_append out0 out1 out [] does.printed none does.prints;
 }
-then_does (Compare asked) standard out0 out1 out result none does =
-    two_after _ _ _ standard standard out0 out1 out none does
-then_does (Archive asked) standard out0 out1 out result none does = record {
+then_does went (Compare asked) standard out0 out1 out result none does = two_after _ _ _ _ out0 out1 out none does
+then_does went (Archive asked) standard out0 out1 out result none does = record {
   printed = does.printed;
   ends = does.ends;
   prints = takes_append out0 out1 out [] does.printed none does.prints;
 }
-then_does (Trial asked) standard out0 out1 out result none does = record {
+then_does went (Trial asked) standard out0 out1 out result none does = record {
   printed = does.printed;
   ends = does.ends;
   prints = takes_append out0 out1 out [] does.printed none does.prints;
 }
-then_does (Verify asked) standard out0 out1 out result none does = record {
+then_does went (Verify asked) standard out0 out1 out result none does = record {
   printed = does.printed;
   ends = does.ends;
   prints = takes_append out0 out1 out [] does.printed none does.prints;
 }
-then_does (Replace asked) standard out0 out1 out result none does = record {
+then_does went (Replace asked) standard out0 out1 out result none does = record {
   printed = does.printed;
   ends = does.ends;
   prints = takes_append out0 out1 out [] does.printed none does.prints;
 }
-then_does (Feed asked) standard out0 out1 out result none does = over_after _ _ standard out0 out1 out none does
+then_does went (Feed asked) standard out0 out1 out result none does = over_after _ _ _ out0 out1 out none does
 
 -- the engine succeeds, or stops
 
@@ -175,7 +186,7 @@ pub repack_done : (choice : Choice) (source records0 records out0 out : Device) 
 repack_done choice source records0 records out0 out report in_turns does turns = record {
   input = does.input;
   printed = does.told;
-  left = λ is. does.left;
+  come = λ opened. does.left;
   prints = does.told_all;
   ends = (in_turns, refl, record { written = does.written; report = report; reported = does.answers; turns = turns });
 }
@@ -185,7 +196,7 @@ pub repack_stops : (choice : Choice) (source records0 records out0 out : Device)
 repack_stops choice source records0 records out0 out why does = record {
   input = does.input;
   printed = does.told;
-  left = λ is. does.left;
+  come = λ opened. does.left;
   prints = does.told_all;
   ends = inl (record { written = does.written; answers = does.answers });
 }
@@ -197,7 +208,7 @@ pub feed_done : (choice : Choice) (source out0 out text0 text : Device) (report 
 feed_done choice source out0 out text0 text report does = record {
   input = does.input;
   printed = does.written;
-  left = λ is. does.left;
+  come = λ opened. does.left;
   prints = does.wrote;
   ends = record { told = does.told; report = report; reported = does.answers };
 }
@@ -207,24 +218,27 @@ pub feed_stops : (choice : Choice) (source out0 out text0 text : Device) (why : 
 feed_stops choice source out0 out text0 text why does = record {
   input = does.input;
   printed = does.written;
-  left = λ is. does.left;
+  come = λ opened. does.left;
   prints = does.wrote;
   ends = record { told = does.told; answers = does.answers };
 }
 
 pub fed : (choice : Choice) (source out0 out : Device) → FeedsTo choice source out0 out (Ok tt) →
     Feeds choice source out0 out (Ok Written)
-fed choice source out0 out does = over_said _ _ _ source out0 out (λ input printed ends. (refl, ends)) does
+fed choice source out0 out does = over_said ⊤ (HasLeft source) _ _ out0 out (λ input printed ends. (refl, ends)) does
 
 pub unfed : (choice : Choice) (source out0 out : Device) (why : ToolFault) →
     FeedsTo choice source out0 out (Err why) → Feeds choice source out0 out (Err (Tool why))
-unfed choice source out0 out why does = over_said _ _ _ source out0 out (λ input printed ends. inl ends) does
+unfed choice source out0 out why does = over_said ⊤ (HasLeft source) _ _ out0 out (λ input printed ends. inl ends) does
 
-pub check_unread : (out : Device) (stop : TaskFault) → IsUnread stop → Checks out out (Err stop)
-check_unread out stop is = record {
+pub check_unread : (went : List Step → Type 0) (asked : Checking) (out : Device) (stop : TaskFault) → IsUnread stop →
+    Checks went asked out out (Err stop)
+check_unread went asked out stop is = record {
   input = [];
   text = [];
   printed = [];
+  packed = λ opened. absurd (unread_unopened stop is opened);
+  report = λ opened. absurd (unread_unopened stop is opened);
   prints = takes_none out;
   ends = inr (inl is, refl);
 }
@@ -331,7 +345,7 @@ repack_unstored choice done input printed ends = inl (record {
 
 pub repack_unsettled : (choice : Choice) (source out0 out : Device) (done : Done) → Repacks choice source out0 out (Ok done) →
     Repacks choice source out0 out (Err (Tool fault.Write))
-repack_unsettled choice source out0 out done does = over_said _ _ _ source out0 out (repack_unstored choice done) does
+repack_unsettled choice source out0 out done does = over_said ⊤ (HasLeft source) _ _ out0 out (repack_unstored choice done) does
 
 feed_unstored : (choice : Choice) (input printed : List ℕ) → FeedAnswers choice (Ok tt) input printed →
     FeedAnswers choice (Err fault.Write) input printed
@@ -342,7 +356,7 @@ feed_unstored choice input printed ends = record {
 
 pub feed_unsettled : (choice : Choice) (source out0 out : Device) → FeedsTo choice source out0 out (Ok tt) →
     FeedsTo choice source out0 out (Err fault.Write)
-feed_unsettled choice source out0 out does = over_said _ _ _ source out0 out (feed_unstored choice) does
+feed_unsettled choice source out0 out does = over_said ⊤ (HasLeft source) _ _ out0 out (feed_unstored choice) does
 
 fed_unstored : (choice : Choice) (done : Done) (input printed : List ℕ) → FeedEnds choice (Ok done) input printed →
     FeedEnds choice (Err (Tool fault.Write)) input printed
@@ -353,12 +367,14 @@ list_unstored : (form : ListForm) (choice : Choice) (done : Done) (input printed
 list_unstored form choice done input printed ends = inl (inr
     (record { counts = ends.1.counts; tail = []; listed = rw append-nil ends.1.listed }))
 
-check_unsettled : (out0 out : Device) (done : Done) → Checks out0 out (Ok done) →
-    Checks out0 out (Err (Tool fault.Write))
-check_unsettled out0 out done does = record {
+check_unsettled : (went : List Step → Type 0) (asked : Checking) (out0 out : Device) (done : Done) →
+    Checks went asked out0 out (Ok done) → Checks went asked out0 out (Err (Tool fault.Write))
+check_unsettled went asked out0 out done does = record {
   input = does.input;
   text = does.text;
   printed = does.printed;
+  packed = does.packed;
+  report = does.report;
   prints = does.prints;
   ends = inl (record {
     verdict = does.ends.0;
@@ -376,16 +392,16 @@ replace_unstored asked printed done (inr ends) =
     IsWalk IsExchangeEntry IsExchangeEntryLine (exchange_summary asked.undo) text ends.walk.0 in
     record { entries = ends.walk.0; rest = []; walk = subst P (sym (append-nil printed)) ends.walk.1 }
 
-pub task_unsettled : (task : Task) (standard out0 out : Device) (done : Done) → Does task standard out0 out (Ok done) →
-    Does task standard out0 out (Err (Tool fault.Write))
-task_unsettled (Repack asked) standard out0 out done does =
-    over_said _ _ _ standard out0 out (repack_unstored asked.options done) does
-task_unsettled (Listing asked) standard out0 out done does =
-    over_said _ _ _ standard out0 out (list_unstored asked.form asked.options done) does
-task_unsettled (Check asked) standard out0 out done does = check_unsettled out0 out done does
-task_unsettled (Compare asked) standard out0 out done does =
-    compare_unsettled asked.options asked standard out0 out done does
-task_unsettled (Archive asked) standard out0 out done does =
+pub task_unsettled : (went : List Step → Type 0) (task : Task) (standard out0 out : Device) (done : Done) →
+    Does went task standard out0 out (Ok done) → Does went task standard out0 out (Err (Tool fault.Write))
+task_unsettled went (Repack asked) standard out0 out done does =
+    over_said ⊤ _ _ _ out0 out (repack_unstored asked.options done) does
+task_unsettled went (Listing asked) standard out0 out done does =
+    over_said ⊤ _ _ _ out0 out (list_unstored asked.form asked.options done) does
+task_unsettled went (Check asked) standard out0 out done does = check_unsettled went asked out0 out done does
+task_unsettled went (Compare asked) standard out0 out done does =
+    compare_unsettled went asked.options asked standard out0 out done does
+task_unsettled went (Archive asked) standard out0 out done does =
     let read = does.ends.walk.read in
     let ended = does.ends.walk.walk in
     let P : List ℕ → Type 0 = λ text. IsWalk (IsEntry read) (IsEntryLine read) (summary read) text ended.0 in
@@ -398,7 +414,7 @@ task_unsettled (Archive asked) standard out0 out done does =
         walk = record { entries = ended.0; rest = []; walk = subst P (sym (append-nil does.printed)) ended.1 };
       });
     }
-task_unsettled (Trial asked) standard out0 out done does =
+task_unsettled went (Trial asked) standard out0 out done does =
     let P : List ℕ → Type 0 = λ text.
     IsWalk (IsTrialEntry asked.days) (IsTrialLine asked.days) (summary asked.days) text does.ends.walk.0 in
     record {
@@ -410,7 +426,7 @@ task_unsettled (Trial asked) standard out0 out done does =
         walk = subst P (sym (append-nil does.printed)) does.ends.walk.1;
       });
     }
-task_unsettled (Verify asked) standard out0 out done does =
+task_unsettled went (Verify asked) standard out0 out done does =
     let read = does.ends.walk.read in
     let ended = does.ends.walk.walk in
     let P : List ℕ → Type 0 = λ text. IsWalk (IsJudgedEntry read) (IsToldLine read) (judged_summary read) text ended.0 in
@@ -423,7 +439,7 @@ task_unsettled (Verify asked) standard out0 out done does =
         walk = record { entries = ended.0; rest = []; walk = subst P (sym (append-nil does.printed)) ended.1 };
       });
     }
-task_unsettled (Replace asked) standard out0 out done does = record {
+task_unsettled went (Replace asked) standard out0 out done does = record {
   printed = does.printed;
   prints = does.prints;
   ends = inr (inl (record {
@@ -432,5 +448,5 @@ task_unsettled (Replace asked) standard out0 out done does = record {
     walk = replace_unstored asked does.printed done does.ends;
   }));
 }
-task_unsettled (Feed asked) standard out0 out done does =
-    over_said _ _ _ standard out0 out (fed_unstored asked.options done) does
+task_unsettled went (Feed asked) standard out0 out done does =
+    over_said ⊤ _ _ _ out0 out (fed_unstored asked.options done) does

@@ -35,6 +35,9 @@ use Rattle.msr_command.specs.declared.done.Done.TheVariants.{Written, Repacked, 
 use Rattle.msr_command.specs.declared.task_fault.TaskFault.{TaskFault}
 use Rattle.msr_command.specs.declared.task_fault.TaskFault.TheVariants.{CannotOpen, Failed, Input, SameFile, SameOutput, Overlap, Closed, Tool}
 use Rattle.msr_options.specs.declared.task.Comparing.{Comparing}
+use Rattle.msr_tree.specs.Steps.{Path, Step}
+use Rattle.msr_options.specs.declared.task.Checking.{Checking}
+use Rattle.msr_command.specs.Named.{Comes, LeadsTo}
 use Rattle.msr_command.specs.Comparing.{IsAnswered, IsAtFault, StopsComparison}
 use Rattle.msr_command.specs.Turns.{AreTurns}
 use Rattle.msr_options.specs.declared.hint.Unopened.{Unopened}
@@ -111,12 +114,20 @@ Ends done file stopped printed (Ok what) = done what
 Ends done file stopped printed (Err stop) =
     IfTool stopped stop ⊎ ((file stop ⊎ (stop ≡ Closed)) × (printed ≡ []))
 
--- What a task over one input read and printed, and what these say. The input is what the source has left, if the
--- source is known to be that of the task.
-pub record Over (known : Type 0) (says : (input printed : List ℕ) → Type 0) (source out0 out : Device) : Type 0 where
+-- no file stopped a task, and no closed standard output, before anything was read
+abbrev pub HasOpened : Result Done TaskFault → Type 0
+HasOpened (Err (CannotOpen name why)) = ⊥
+HasOpened (Err SameFile) = ⊥
+HasOpened (Err SameOutput) = ⊥
+HasOpened (Err Closed) = ⊥
+HasOpened _ = ⊤
+
+-- What a task over one input read and printed, and what these say. Where the input comes from is known if it was opened.
+pub record Over (opened : Type 0) (comes : List ℕ → Type 0) (says : (input printed : List ℕ) → Type 0) (out0 out : Device) :
+    Type 0 where
   pub input : List ℕ
   pub printed : List ℕ
-  pub left : known → HasLeft source input
+  pub come : opened → comes input
   pub prints : Takes out0 out printed
   pub ends : says input printed
 
@@ -139,11 +150,17 @@ RepackEnds choice result input printed =
 
 -- Repacking a source.
 abbrev pub Repacks : Choice → (source out0 out : Device) → Result Done TaskFault → Type 0
-Repacks choice source out0 out result = Over ⊤ (RepackEnds choice result) source out0 out
+Repacks choice source out0 out result = Over ⊤ (HasLeft source) (RepackEnds choice result) out0 out
 
--- Repacking the file of a name, which is standard input for `-`. What another name's file holds is not known.
-abbrev pub RepacksNamed : Choice → (name : List ℕ) → (standard out0 out : Device) → Result Done TaskFault → Type 0
-RepacksNamed choice name standard out0 out result = Over (name ≡ codes "-") (RepackEnds choice result) standard out0 out
+-- the input with a name, which is standard input for `-`
+abbrev pub ComesNamed : (went : List Step → Type 0) → (name : Path) → (standard : Device) → (input : List ℕ) → Type 0
+ComesNamed went name standard input = Comes (name ≡ codes "-") went name standard input
+
+-- Repacking the file of a name, which is standard input for `-`.
+abbrev pub RepacksNamed : Choice → (went : List Step → Type 0) → (name : Path) → (standard out0 out : Device)
+    → Result Done TaskFault → Type 0
+RepacksNamed choice went name standard out0 out result =
+    Over (HasOpened result) (ComesNamed went name standard) (RepackEnds choice result) out0 out
 
 -- The input was listed with these counts.
 pub record WritesList (form : ListForm) (choice : Choice) (input printed : List ℕ) : Type 0 where
@@ -157,13 +174,13 @@ ListEnds form choice result input printed =
 
 -- Listing a source.
 abbrev pub Lists : ListForm → Choice → (source out0 out : Device) → Result Done TaskFault → Type 0
-Lists form choice source out0 out result = Over ⊤ (ListEnds form choice result) source out0 out
+Lists form choice source out0 out result = Over ⊤ (HasLeft source) (ListEnds form choice result) out0 out
 
 -- Listing the file of a name.
-abbrev pub ListsNamed : ListForm → Choice → (name : List ℕ) → (standard out0 out : Device) → Result Done TaskFault
-    → Type 0
-ListsNamed form choice name standard out0 out result =
-    Over (name ≡ codes "-") (ListEnds form choice result) standard out0 out
+abbrev pub ListsNamed : ListForm → Choice → (went : List Step → Type 0) → (name : Path) → (standard out0 out : Device)
+    → Result Done TaskFault → Type 0
+ListsNamed form choice went name standard out0 out result =
+    Over (HasOpened result) (ComesNamed went name standard) (ListEnds form choice result) out0 out
 
 -- The input was repacked into what was printed, and this is the text of its report.
 pub record WritesRecords (choice : Choice) (input printed : List ℕ) : Type 0 where
@@ -182,7 +199,7 @@ FeedAnswers choice (Err fault) input printed = StopsRecords choice input printed
 
 -- Repacking a source to standard output, and its report to a file.
 abbrev pub FeedsTo : Choice → (source out0 out : Device) → Result (Unit {0}) ToolFault → Type 0
-FeedsTo choice source out0 out result = Over ⊤ (FeedAnswers choice result) source out0 out
+FeedsTo choice source out0 out result = Over ⊤ (HasLeft source) (FeedAnswers choice result) out0 out
 
 abbrev pub FeedEnds : Choice → Result Done TaskFault → (input printed : List ℕ) → Type 0
 FeedEnds choice result input printed =
@@ -191,30 +208,32 @@ FeedEnds choice result input printed =
 
 -- Repacking standard input to standard output, and how it ends.
 abbrev pub Feeds : Choice → (standard out0 out : Device) → Result Done TaskFault → Type 0
-Feeds choice standard out0 out result = Over ⊤ (FeedEnds choice result) standard out0 out
+Feeds choice standard out0 out result = Over ⊤ (HasLeft standard) (FeedEnds choice result) out0 out
 
 abbrev pub CheckEnds : (input text printed : List ℕ) → Result Done TaskFault → Type 0
 CheckEnds input text printed result =
     Ends (IsDoneBy Checked (λ verdict. VerdictAnswers input text printed (Ok verdict))) IsUnread
     (λ fault. VerdictAnswers input text printed (Err fault)) printed result
 
--- Checking some records with some report, and what was printed.
-pub record Checks (out0 out : Device) (result : Result Done TaskFault) : Type 0 where
+-- Checking the records that one name leads to with the report that the other does, and what was printed.
+pub record Checks (went : List Step → Type 0) (asked : Checking) (out0 out : Device) (result : Result Done TaskFault) : Type 0
+    where
   pub input : List ℕ
   pub text : List ℕ
   pub printed : List ℕ
+  pub packed : HasOpened result → LeadsTo went asked.packed.now input
+  pub report : HasOpened result → LeadsTo went asked.report.now text
   pub prints : Takes out0 out printed
   pub ends : CheckEnds input text printed result
 
--- What a task over two inputs read and printed, and what these say. Each input is what its source has left, if the source
--- is known to be that of the task.
-pub record OverTwo (known_one known_other : Type 0) (says : (first second printed : List ℕ) → Type 0)
-    (one other out0 out : Device) : Type 0 where
+-- What a task over two inputs read and printed, and what these say. Where each comes from is known if both were opened.
+pub record OverTwo (opened : Type 0) (comes_one comes_other : List ℕ → Type 0)
+    (says : (first second printed : List ℕ) → Type 0) (out0 out : Device) : Type 0 where
   pub first : List ℕ
   pub second : List ℕ
   pub printed : List ℕ
-  pub left_one : known_one → HasLeft one first
-  pub left_other : known_other → HasLeft other second
+  pub come_one : opened → comes_one first
+  pub come_other : opened → comes_other second
   pub prints : Takes out0 out printed
   pub ends : says first second printed
 
@@ -226,7 +245,8 @@ CompareEnds choice asked result first second printed =
 
 -- Comparing two sources.
 abbrev pub Compares : Choice → Comparing → (one other out0 out : Device) → Result Done TaskFault → Type 0
-Compares choice asked one other out0 out result = OverTwo ⊤ ⊤ (CompareEnds choice asked result) one other out0 out
+Compares choice asked one other out0 out result =
+    OverTwo ⊤ (HasLeft one) (HasLeft other) (CompareEnds choice asked result) out0 out
 
 -- the first name is that of standard input
 abbrev pub IsOneStandard : Comparing → Type 0
@@ -237,14 +257,18 @@ abbrev pub IsOtherStandard : Comparing → Type 0
 IsOtherStandard asked = ¬ (IsOneStandard asked) × (asked.other.now ≡ codes "-")
 
 -- Comparing a source with the file of the other name, which may be standard input.
-abbrev pub ComparesWith : Choice → Comparing → (one standard out0 out : Device) → Result Done TaskFault → Type 0
-ComparesWith choice asked one standard out0 out result =
-    OverTwo ⊤ (asked.other.now ≡ codes "-") (CompareEnds choice asked result) one standard out0 out
+abbrev pub ComparesWith : (went : List Step → Type 0) → Choice → Comparing → (one standard out0 out : Device)
+    → Result Done TaskFault → Type 0
+ComparesWith went choice asked one standard out0 out result =
+    OverTwo (HasOpened result) (HasLeft one) (ComesNamed went asked.other.now standard) (CompareEnds choice asked result)
+    out0 out
 
 -- Comparing the files of two names, of which one may be standard input.
-abbrev pub ComparesNamed : Choice → Comparing → (standard out0 out : Device) → Result Done TaskFault → Type 0
-ComparesNamed choice asked standard out0 out result =
-    OverTwo (IsOneStandard asked) (IsOtherStandard asked) (CompareEnds choice asked result) standard standard out0 out
+abbrev pub ComparesNamed : (went : List Step → Type 0) → Choice → Comparing → (standard out0 out : Device)
+    → Result Done TaskFault → Type 0
+ComparesNamed went choice asked standard out0 out result =
+    OverTwo (HasOpened result) (Comes (IsOneStandard asked) went asked.one.now standard)
+    (Comes (IsOtherStandard asked) went asked.other.now standard) (CompareEnds choice asked result) out0 out
 
 -- what a walk through an archive ends with, or through a part of it, and whether the whole has to have a day
 abbrev pub done_of_walk : Option Unopened → (is_whole wants_day : Bool) → WalkFound → Done
@@ -395,23 +419,23 @@ EndsClosed (Feed asked) stop = IsUncreated stop ⊎ (stop ≡ Closed)
 EndsClosed _ stop = stop ≡ Closed
 
 -- what doing a task reads and prints, and how it ends
-abbrev pub Does : Task → (standard out0 out : Device) → Result Done TaskFault → Type 0
-Does (Repack asked) standard out0 out result = RepacksNamed asked.options asked.input.now standard out0 out result
-Does (Listing asked) standard out0 out result =
-    ListsNamed asked.form asked.options asked.input.now standard out0 out result
-Does (Check asked) standard out0 out result = Checks out0 out result
-Does (Compare asked) standard out0 out result =
-    ComparesNamed asked.options asked standard out0 out result
-Does (Archive asked) standard out0 out result = WalksArchive asked out0 out result
-Does (Trial asked) standard out0 out result = TriesArchive asked out0 out result
-Does (Verify asked) standard out0 out result = VerifiesArchive asked out0 out result
-Does (Replace asked) standard out0 out result = ReplacesArchive asked out0 out result
-Does (Feed asked) standard out0 out result = Feeds asked.options standard out0 out result
+abbrev pub Does : (went : List Step → Type 0) → Task → (standard out0 out : Device) → Result Done TaskFault → Type 0
+Does went (Repack asked) standard out0 out result = RepacksNamed asked.options went asked.input.now standard out0 out result
+Does went (Listing asked) standard out0 out result =
+    ListsNamed asked.form asked.options went asked.input.now standard out0 out result
+Does went (Check asked) standard out0 out result = Checks went asked out0 out result
+Does went (Compare asked) standard out0 out result =
+    ComparesNamed went asked.options asked standard out0 out result
+Does went (Archive asked) standard out0 out result = WalksArchive asked out0 out result
+Does went (Trial asked) standard out0 out result = TriesArchive asked out0 out result
+Does went (Verify asked) standard out0 out result = VerifiesArchive asked out0 out result
+Does went (Replace asked) standard out0 out result = ReplacesArchive asked out0 out result
+Does went (Feed asked) standard out0 out result = Feeds asked.options standard out0 out result
 
 -- A task was done, and ended with this status.
-pub record EndsDone (task : Task) (standard out0 out : Device) (status : ℕ) : Type 0 where
+pub record EndsDone (went : List Step → Type 0) (task : Task) (standard out0 out : Device) (status : ℕ) : Type 0 where
   pub outcome : Result Done TaskFault
-  pub does : Does task standard out0 out outcome
+  pub does : Does went task standard out0 out outcome
   pub ended : status ≡ status_of outcome
 
 -- A text was printed whole for status 0. Status 2 is for a text on standard error, and then nothing is printed; status
@@ -424,17 +448,17 @@ EndsText NotALength out0 out status = (status ≡ 2) × (out ≡ out0)
 EndsText Memory out0 out status = (status ≡ 1) × (out ≡ out0)
 
 -- what was asked for was done, or what there is in its place was told
-abbrev pub EndsAsked : Result Task NoTask → (standard out0 out : Device) → (status : ℕ) → Type 0
-EndsAsked (Ok task) standard out0 out status = EndsDone task standard out0 out status
-EndsAsked (Err why) standard out0 out status = EndsText why out0 out status
+abbrev pub EndsAsked : (went : List Step → Type 0) → Result Task NoTask → (standard out0 out : Device) → (status : ℕ) → Type 0
+EndsAsked went (Ok task) standard out0 out status = EndsDone went task standard out0 out status
+EndsAsked went (Err why) standard out0 out status = EndsText why out0 out status
 
 -- The words ask for a task, with none for the default, else by the word of a command, and it ended with this status.
-pub record EndsTask (words : List (Bor (List ℕ))) (standard out0 out : Device) (status : ℕ) : Type 0 where
+pub record EndsTask (went : List Step → Type 0) (words : List (Bor (List ℕ))) (standard out0 out : Device) (status : ℕ) : Type 0 where
   pub task : Task
   pub outcome : Result Done TaskFault
   pub default : length words < 2 → IsDefault task
   pub command : 2 ≤ length words → IsSomeAnd (slice_get words 1) (λ word. word.now ≡ word_of (verb_of task))
-  pub does : Does task standard out0 out outcome
+  pub does : Does went task standard out0 out outcome
   pub ended : status ≡ status_of outcome
 
 -- The words ask for no task.

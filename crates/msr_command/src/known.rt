@@ -3,7 +3,7 @@ ghost use Rattle.std.specs.Prelude.{◌≡◌, IfErr, IfOk};
 ghost use Rattle.msr_command.specs.Ends.{IsUnknown};
 ghost use Rattle.msr_options.specs.declared.known.Known.TheVariants.{Lines};
 
-use crate::files::open_file;
+use crate::files::open_beside;
 use crate::task_fault::TaskFault;
 use msr_options::{Archiving, Known, KnownLines, Verifying};
 use msr_tool::ToolFault;
@@ -35,7 +35,7 @@ pub(crate) fn read_known<'a, R: Files>(
 ) -> Result<KnownLines, TaskFault<'a>>
     ensures { IfErr result IsUnknown }
 {
-    let (file, _) = open_file(rt, name)?;
+    let file = open_beside(rt, name)?;
     let mut known = KnownLines::new(alloc);
     match add_lines(alloc, file, &mut known) {
         Ok(()) => Ok(known),

@@ -7,6 +7,7 @@ mod done;
 mod files;
 mod hints;
 mod known;
+mod named;
 mod program;
 mod replacing;
 mod task_fault;
@@ -14,4 +15,5 @@ mod tasks;
 mod trying;
 mod turns;
 
+pub use named::{NamedFiles, SystemFiles};
 pub use program::run;

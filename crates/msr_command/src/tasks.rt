@@ -10,11 +10,12 @@ use crate::comparing::compare_files;
 use crate::done::Done;
 use crate::files::{create_output, create_report, open_file, open_input, settle_standard_output};
 use crate::known::{archiving_with, read_known, verifying_with};
+use crate::named::NamedFiles;
 use crate::replacing::replace_archive;
 use crate::task_fault::TaskFault;
 use crate::trying::try_archive;
 use crate::turns::is_in_turns;
-use msr_devices::{FromRead, FromWrite, Sink, Source};
+use msr_devices::{FromWrite, Sink, Source};
 use msr_folders::{FileId, LockFile, WalkFound, folders_overlap, settle};
 use msr_options::{
     Archiving, Checking, Feeding, Folders, Known, ListForm, Listing, Options, Repacking, Task,
@@ -31,48 +32,49 @@ use std::rt::Files;
 use std::time::Clock;
 
 /// Does what was asked for: reads files, and `input` if a name is `-`; writes files, and prints to `output`.
-pub(crate) fn do_task<'a, R: Files + Clock, I: Source, O: Sink>(
-    rt: &R,
+pub(crate) fn do_task<'a, F: NamedFiles, I: Source, O: Sink>(
+    files: &F,
     alloc: Global,
     task: &Task<'a>,
     input: &mut I,
     output: &mut O,
 ) -> Result<Done, TaskFault<'a>>
 where
-    R::File: LockFile,
+    <F::System as Files>::File: LockFile,
     requires input { CanCountCall (I.device input.old) }
     requires output { CanCountCall (O.device output.old) }
-    ensures { Does task.now (I.device input.old) (O.device output.old) (O.device output.new) result }
+    ensures { Does (F.went files.now) task.now (I.device input.old) (O.device output.old) (O.device output.new) result }
 {
     let Ok(()) = require_open(output) else {
-        return Err(end_closed(rt, task));
+        return Err(end_closed(files.system(), task));
     };
-    let done = do_open(rt, alloc, task, input, output)?;
+    let done = do_open(files, alloc, task, input, output)?;
     if !matches!(task, Task::Feed(_)) {
-        settle_standard_output(rt)?;
+        settle_standard_output(files.system())?;
     }
     Ok(done)
 }
 
 /// Does it when standard output is open.
-fn do_open<'a, R: Files + Clock, I: Source, O: Sink>(
-    rt: &R,
+fn do_open<'a, F: NamedFiles, I: Source, O: Sink>(
+    files: &F,
     alloc: Global,
     task: &Task<'a>,
     input: &mut I,
     output: &mut O,
 ) -> Result<Done, TaskFault<'a>>
 where
-    R::File: LockFile,
+    <F::System as Files>::File: LockFile,
     requires input { CanCountCall (I.device input.old) }
     requires output { CanCountCall (O.device output.old) }
-    ensures { Does task.now (I.device input.old) (O.device output.old) (O.device output.new) result }
+    ensures { Does (F.went files.now) task.now (I.device input.old) (O.device output.old) (O.device output.new) result }
 {
+    let rt = files.system();
     match task {
-        Task::Repack(asked) => repack_file(rt, alloc, asked, input, output),
-        Task::List(asked) => list_file(rt, alloc, asked, input, output),
-        Task::Check(asked) => check_files(rt, alloc, asked, output),
-        Task::Compare(asked) => compare_files(rt, alloc, asked, input, output),
+        Task::Repack(asked) => repack_file(files, alloc, asked, input, output),
+        Task::List(asked) => list_file(files, alloc, asked, input, output),
+        Task::Check(asked) => check_files(files, alloc, asked, output),
+        Task::Compare(asked) => compare_files(files, alloc, asked, input, output),
         Task::Archive(asked) => repack_archive(rt, alloc, asked, output),
         Task::Trial(asked) => try_archive(rt, alloc, asked, output),
         Task::Verify(asked) => verify_archive(rt, alloc, asked, output),
@@ -108,8 +110,8 @@ fn end_closed<'a, R: Files>(rt: &R, task: &Task<'a>) -> TaskFault<'a>
 }
 
 /// Opens the input before the output is made, so that a wrong input leaves an old output as it is.
-fn repack_file<'a, R: Files, I: Source, O: Sink>(
-    rt: &R,
+fn repack_file<'a, F: NamedFiles, I: Source, O: Sink>(
+    files: &F,
     alloc: Global,
     asked: &Repacking<'a>,
     input: &mut I,
@@ -117,16 +119,14 @@ fn repack_file<'a, R: Files, I: Source, O: Sink>(
 ) -> Result<Done, TaskFault<'a>>
     requires input { CanCountCall (I.device input.old) }
     requires output { CanCountCall (O.device output.old) }
-    ensures { RepacksNamed asked.now.options asked.now.input.now
+    ensures { RepacksNamed asked.now.options (F.went files.now) asked.now.input.now
         (I.device input.old) (O.device output.old) (O.device output.new) result }
 {
-    let (options, to) = (asked.options, asked.output);
-    match open_input(rt, asked.input) {
+    let (rt, options, to) = (files.system(), asked.options, asked.output);
+    match open_input(files, asked.input) {
         Ok((file, id)) => match file {
             None => repack_from(rt, alloc, options, to, id, input, output),
-            Some(file) => {
-                repack_from(rt, alloc, options, to, id, &mut FromRead::new(file), output)
-            }
+            Some(mut file) => repack_from(rt, alloc, options, to, id, &mut file, output),
         },
         Err(fault) => Err(fault),
     }
@@ -239,8 +239,8 @@ fn list_from<'a, I: Source, O: Sink>(
     Ok(Done::Written)
 }
 
-fn list_file<'a, R: Files, I: Source, O: Sink>(
-    rt: &R,
+fn list_file<'a, F: NamedFiles, I: Source, O: Sink>(
+    files: &F,
     alloc: Global,
     asked: &Listing<'a>,
     input: &mut I,
@@ -248,29 +248,29 @@ fn list_file<'a, R: Files, I: Source, O: Sink>(
 ) -> Result<Done, TaskFault<'a>>
     requires input { CanCountCall (I.device input.old) }
     requires output { CanCountCall (O.device output.old) }
-    ensures { ListsNamed asked.now.form asked.now.options asked.now.input.now (I.device input.old)
+    ensures { ListsNamed asked.now.form asked.now.options (F.went files.now) asked.now.input.now (I.device input.old)
         (O.device output.old) (O.device output.new) result }
 {
     let (options, form) = (asked.options, asked.form);
-    match open_input(rt, asked.input) {
+    match open_input(files, asked.input) {
         Ok((None, _)) => list_from(alloc, options, form, input, output),
-        Ok((Some(file), _)) => list_from(alloc, options, form, &mut FromRead::new(file), output),
+        Ok((Some(mut file), _)) => list_from(alloc, options, form, &mut file, output),
         Err(fault) => Err(fault),
     }
 }
 
 /// Opens both inputs before either is read.
-fn check_files<'a, R: Files, O: Sink>(
-    rt: &R,
+fn check_files<'a, F: NamedFiles, O: Sink>(
+    files: &F,
     alloc: Global,
     asked: &Checking<'a>,
     output: &mut O,
 ) -> Result<Done, TaskFault<'a>>
     requires { CanCountCall (O.device output.old) }
-    ensures { Checks (O.device output.old) (O.device output.new) result }
+    ensures { Checks (F.went files.now) asked.now (O.device output.old) (O.device output.new) result }
 {
-    let mut packed = FromRead::new(open_file(rt, asked.packed)?.0);
-    let mut report = FromRead::new(open_file(rt, asked.report)?.0);
+    let mut packed = open_file(files, asked.packed)?.0;
+    let mut report = open_file(files, asked.report)?.0;
     let verdict = check_and_tell(alloc, &mut packed, &mut report, output)?;
     Ok(Done::Checked(verdict))
 }
