@@ -25,9 +25,9 @@ pub leads_to : {went : List Step → Type 0} {name : Path} {device : Device} {in
     HasLeft device input → LeadsTo went name input
 leads_to {went} {name} {device} {input} reader left = record {
   leads = λ past is.
-    let o = reader.opens past is in
-    let same : o.0 ≡ input = subst (λ it. HasLeft it input) o.2 left in
-    o.1 ∙ ap (λ bytes. Some bytes) same;
+      let o = reader.opens past is in
+      let same : o.0 ≡ input = subst (λ it. HasLeft it input) o.2 left in
+      o.1 ∙ ap (λ bytes. Some bytes) same;
 }
 
 pub comes_file : {is_standard : Type 0} {went : List Step → Type 0} {name : Path} {standard device : Device} {input : List ℕ} →

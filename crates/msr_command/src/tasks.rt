@@ -307,7 +307,14 @@ where
 {
     let claims = SystemClaims::new(rt);
     let mut tree = SystemTree::unlinked(rt, alloc);
-    walk(&mut tree, &claims, alloc, &*archive, time_of_now(rt), output)
+    walk(
+        &mut tree,
+        &claims,
+        alloc,
+        &*archive,
+        time_of_now(rt),
+        output,
+    )
 }
 
 /// Walks it with the lines that are known, which are read first if a file has them.
