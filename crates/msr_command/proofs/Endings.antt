@@ -1,6 +1,6 @@
 -- How tasks end: done, stopped, or before they begin.
 use Rattle.std.specs.Prelude.{◌↔◌, ⊤, IsSomeAnd, IsTrue, Option, None, Some, String, string_bytes, vec_len}
-use Rattle.std.proofs.Common.{◌≡◌, ◌∙◌, ℕ, Bool, List, [], refl, subst, sym, inl, inr, append-nil, Result, Ok, Err}
+use Rattle.std.proofs.Common.{◌≡◌, ◌∙◌, ℕ, Bool, List, [], refl, subst, sym, inl, inr, append-nil, Result, Ok, Err, ◌≢◌, true, codes}
 use Rattle.msr_devices.specs.Device.{Device, HasLeft, Takes}
 use Rattle.msr_devices.proofs.Chaining.{left_of, takes_append, takes_none}
 use Rattle.msr_report.specs.declared.report.Report.{Report}
@@ -10,6 +10,9 @@ use Rattle.msr_options.specs.Choice.{Choice}
 use Rattle.msr_tool.specs.Tasks.{Reports}
 use Rattle.msr_tool.specs.declared.fault.ToolFault.{ToolFault}
 use Rattle.msr_tool.specs.declared.fault.ToolFault.TheVariants as fault
+use Rattle.msr_options.specs.Known.{knows_any}
+use Rattle.msr_options.specs.declared.known.Known.{Known}
+use Rattle.msr_options.specs.declared.known.Known.TheVariants.{Nothing, File, Lines}
 use Rattle.msr_options.specs.declared.task.Archiving.{Archiving}
 use Rattle.msr_options.specs.declared.task.Replacing.{Replacing}
 use Rattle.msr_options.specs.declared.task.Trying.{Trying}
@@ -45,7 +48,8 @@ use Rattle.msr_tree.specs.Steps.{Path, Step}
 use Rattle.msr_options.specs.declared.task.Checking.{Checking}
 use Rattle.msr_command.proofs.Comparisons.{compare_unsettled, two_after, two_none}
 use Rattle.msr_command.proofs.Inputs.{unread_unopened}
-use Rattle.msr_command.specs.Ends.{Checks, ComesNamed, Does, EndsClosed, EndsReplacing, Feeds, FeedAnswers, FeedEnds, FeedsTo, HasOpened, IsUncreated, IsUnbegun, IsUnread, ListEnds, ListsNamed, IsOverlapOrMemory, Over, RepackEnds, Repacks, RepacksNamed, ReplaceEnds, ReplacesArchive, VerifiesArchive, WalksArchive, done_of_archive, done_of_verifying, is_whole, TriesArchive, VerifiesKnown, WalksKnown, IsArchivingRead, IsUnwalked, IsVerifyingRead, done_of_trial}
+use Rattle.msr_command.specs.Ends.{Checks, ComesNamed, Does, EndsClosed, EndsReplacing, Feeds, FeedAnswers, FeedEnds, FeedsTo, HasOpened, IsUncreated, IsUnbegun, IsUnread, ListEnds, ListsNamed, IsOverlapOrMemory, Over, RepackEnds, Repacks, RepacksNamed, ReplaceEnds, ReplacesArchive, VerifiesArchive, WalksArchive, done_of_archive, done_of_verifying, is_whole, TriesArchive, VerifiesKnown, WalksKnown, IsArchivingRead, IsUnwalked, IsVerifyingRead, done_of_trial, IsKnownRead, IsUnknown}
+use denote.Ref.{Bor}
 
 -- nothing was printed
 over_none : (opened : Type 0) (comes : List ℕ → Type 0) (says : (input printed : List ℕ) → Type 0) (out0 out : Device)
@@ -256,11 +260,6 @@ pub archive_stops : (asked read : Archiving) (out0 out : Device) (why : ToolFaul
 archive_stops asked read out0 out why is does =
     record { printed = does.printed; prints = does.prints; ends = inl (record { read = read; is = is; walk = does.ends }) }
 
-pub archive_known : (asked read : Archiving) (out0 out : Device) (walked : Result Walked ToolFault) (result : Result Walked TaskFault)
-    → IsArchivingRead asked read → Walks read out0 out walked → result ≡ map_err Tool walked → WalksKnown asked out0 out result
-archive_known asked read out0 out (Ok walked) result is does same = rw same (archive_done asked read out0 out walked is does)
-archive_known asked read out0 out (Err why) result is does same = rw same (archive_stops asked read out0 out why is does)
-
 pub archive_unbegun : (asked : Archiving) (out : Device) (stop : TaskFault) → IsUnwalked asked.known stop
     → WalksArchive asked out out (Err stop)
 archive_unbegun asked out stop is = record { printed = []; prints = takes_none out; ends = inr (inl is, refl) }
@@ -276,6 +275,20 @@ trial_done asked out0 out tried does = record {
 pub trial_stops : (asked : Trying) (out0 out : Device) (why : ToolFault) → Tries asked.days out0 out (Err why) →
     TriesArchive asked out0 out (Err (Tool why))
 trial_stops asked out0 out why does = record { printed = does.printed; prints = does.prints; ends = inl does.ends }
+
+-- if no file is to be read, what is asked for is known
+pub known_same : (known : Known) → ((name : Bor (List ℕ)) → known ≢ File name) → IsKnownRead known known
+known_same Nothing other = refl
+known_same (File name) other = absurd (other name refl)
+known_same (Lines lines) other = refl
+
+-- the lines of a file are known
+pub known_lines : (asked read : Known) (name : Bor (List ℕ)) → asked ≡ File name → knows_any read ≡ true → IsKnownRead asked read
+known_lines asked read name is knows = rw is knows
+
+-- which could not be read
+pub unread : (asked : Known) (name : Bor (List ℕ)) (stop : TaskFault) → asked ≡ File name → IsUnknown stop → IsUnwalked asked stop
+unread asked name stop is unknown = rw is (inr unknown)
 
 -- before any file is read
 pub unwalked : (known : Known) (stop : TaskFault) → IsOverlapOrMemory stop → IsUnwalked known stop

@@ -1,7 +1,7 @@
 //! The lines of earlier runs that a walk is asked to know.
-ghost use Rattle.std.specs.Prelude.{◌≡◌, IfErr, IfOk};
+ghost use Rattle.std.specs.Prelude.{◌≡◌, IfErr, IfOk, true};
 ghost use Rattle.msr_command.specs.Ends.{IsUnknown};
-ghost use Rattle.msr_options.specs.declared.known.Known.TheVariants.{Lines};
+ghost use Rattle.msr_options.specs.Known.{knows_any};
 
 use crate::files::open_beside;
 use crate::task_fault::TaskFault;
@@ -48,7 +48,7 @@ pub(crate) fn archiving_with<'a>(
     asked: &Archiving<'a>,
     lines: &'a KnownLines,
 ) -> Result<Archiving<'a>, AllocError>
-    ensures { IfOk result (λ read. (read.days ≡ asked.now.days) × (read.known ≡ Lines lines)) }
+    ensures { IfOk result (λ read. (read.days ≡ asked.now.days) × (read.folders ≡ asked.now.folders) × (knows_any read.known ≡ true)) }
 {
     Ok(Archiving {
         folders: asked.folders,
@@ -62,7 +62,7 @@ pub(crate) fn verifying_with<'a>(
     asked: &Verifying<'a>,
     lines: &'a KnownLines,
 ) -> Result<Verifying<'a>, AllocError>
-    ensures { IfOk result (λ read. (read.telling ≡ asked.now.telling) × (read.known ≡ Lines lines)) }
+    ensures { IfOk result (λ read. (read.telling ≡ asked.now.telling) × (knows_any read.known ≡ true)) }
 {
     Ok(Verifying {
         folders: asked.folders,

@@ -1,9 +1,8 @@
 //! The tasks of the program, over the system's files, and any source and sink in place of standard input and output.
 ghost use Rattle.std.specs.Prelude.{IfErr};
 ghost use Rattle.msr_devices.specs.Device.{CanCountCall};
-ghost use Rattle.msr_command.specs.Ends.{Checks, Does, EndsClosed, Feeds, FeedsTo, IsOverlapOrMemory, Lists, ListsNamed, OpensOutput, Repacks, RepacksNamed, VerifiesArchive, VerifiesKnown, WalksArchive, WalksKnown};
+ghost use Rattle.msr_command.specs.Ends.{Checks, Does, EndsClosed, Feeds, FeedsTo, IsArchivingRead, IsOverlapOrMemory, IsVerifyingRead, Lists, ListsNamed, OpensOutput, Repacks, RepacksNamed, VerifiesArchive, VerifiesKnown, WalksArchive, WalksKnown};
 ghost use Rattle.msr_options.specs.Tasks.{StandApart};
-ghost use Rattle.msr_walk.specs.Walk.{Walks};
 
 use crate::clock::time_of_now;
 use crate::comparing::compare_files;
@@ -293,28 +292,23 @@ pub(crate) fn require_apart<'a, R: Files>(
 }
 
 /// Walks the archive, of which the lines that are known were read.
-fn walk_archive<R: Files + Clock, O: Sink>(
+fn walk_archive<'a, R: Files + Clock, O: Sink>(
     rt: &R,
     alloc: Global,
     archive: &Archiving<'_>,
     output: &mut O,
-) -> Result<Walked, ToolFault>
+) -> Result<Walked, TaskFault<'a>>
 where
     R::File: LockFile,
     requires apart { StandApart archive.now.folders }
     requires output { CanCountCall (O.device output.old) }
-    ensures { Walks archive.now (O.device output.old) (O.device output.new) result }
+    ensures { (asked : Archiving) → IsArchivingRead asked archive.now →
+        WalksKnown asked (O.device output.old) (O.device output.new) result }
 {
     let claims = SystemClaims::new(rt);
     let mut tree = SystemTree::unlinked(rt, alloc);
-    walk(
-        &mut tree,
-        &claims,
-        alloc,
-        &*archive,
-        time_of_now(rt),
-        output,
-    )
+    let walked = walk(&mut tree, &claims, alloc, &*archive, time_of_now(rt), output)?;
+    Ok(walked)
 }
 
 /// Walks it with the lines that are known, which are read first if a file has them.
@@ -330,14 +324,16 @@ where
     requires output { CanCountCall (O.device output.old) }
     ensures { WalksKnown asked.now (O.device output.old) (O.device output.new) result }
 {
-    let Known::File(name) = asked.known else {
-        return Ok(walk_archive(rt, alloc, asked, output)?);
-    };
-    let lines = read_known(rt, alloc, name)?;
-    let Ok(read) = archiving_with(asked, &lines) else {
-        return Err(TaskFault::Tool(ToolFault::Memory));
-    };
-    Ok(walk_archive(rt, alloc, &read, output)?)
+    match asked.known {
+        Known::File(name) => {
+            let lines = read_known(rt, alloc, name)?;
+            let Ok(read) = archiving_with(asked, &lines) else {
+                return Err(TaskFault::Tool(ToolFault::Memory));
+            };
+            walk_archive(rt, alloc, &read, output)
+        }
+        _ => walk_archive(rt, alloc, asked, output),
+    }
 }
 
 fn repack_archive<'a, R: Files + Clock, O: Sink>(
@@ -360,7 +356,22 @@ where
     Ok(Done::of_walk(walked.found, walked.unopened, asked.below.is_empty(), false))
 }
 
-/// Verifies the archive with the lines that are known, which are read first if a file has them.
+/// Verifies the archive, of which the lines that are known were read.
+fn verify_read<'a, R: Files, O: Sink>(
+    rt: &R,
+    alloc: Global,
+    archive: &Verifying<'_>,
+    output: &mut O,
+) -> Result<WalkFound, TaskFault<'a>>
+    requires { CanCountCall (O.device output.old) }
+    ensures { (asked : Verifying) → IsVerifyingRead asked archive.now →
+        VerifiesKnown asked (O.device output.old) (O.device output.new) result }
+{
+    let found = verify(&mut SystemTree::new(rt, alloc), alloc, &*archive, output)?;
+    Ok(found)
+}
+
+/// Verifies it with the lines that are known, which are read first if a file has them.
 fn verify_known<'a, R: Files, O: Sink>(
     rt: &R,
     alloc: Global,
@@ -370,15 +381,16 @@ fn verify_known<'a, R: Files, O: Sink>(
     requires { CanCountCall (O.device output.old) }
     ensures { VerifiesKnown asked.now (O.device output.old) (O.device output.new) result }
 {
-    let mut tree = SystemTree::new(rt, alloc);
-    let Known::File(name) = asked.known else {
-        return Ok(verify(&mut tree, alloc, &*asked, output)?);
-    };
-    let lines = read_known(rt, alloc, name)?;
-    let Ok(read) = verifying_with(asked, &lines) else {
-        return Err(TaskFault::Tool(ToolFault::Memory));
-    };
-    Ok(verify(&mut tree, alloc, &read, output)?)
+    match asked.known {
+        Known::File(name) => {
+            let lines = read_known(rt, alloc, name)?;
+            let Ok(read) = verifying_with(asked, &lines) else {
+                return Err(TaskFault::Tool(ToolFault::Memory));
+            };
+            verify_read(rt, alloc, &read, output)
+        }
+        _ => verify_read(rt, alloc, asked, output),
+    }
 }
 
 fn verify_archive<'a, R: Files, O: Sink>(

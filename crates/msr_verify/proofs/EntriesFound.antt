@@ -89,7 +89,7 @@ walk_ends asked out0 out1 out tally0 tally found told prints end = record {
 pub summary_is : (asked : Verifying) (entries : List JudgedEntry) (tally : VerifyTally) → IsVerifyTally entries tally
     → judged_end asked tally ≡ judged_summary asked entries
 summary_is asked entries tally h =
-    rw (h.verified, h.skipped, h.refused, h.known, h.missing, h.not_shown, h.differ, h.orphans) refl
+    rw (h.verified, h.skipped, h.refused, h.known, h.missing, h.not_shown, h.differ, h.orphans, h.unverified) refl
 
 -- a prefix of a text
 pub front_piece : (old new : Device) (text : List ℕ) (n : ℕ) → Takes old new (take n text) → TakesPrefix old new text
