@@ -24,9 +24,7 @@ pub fn is_young<T: Tree>(
         return Ok(false);
     };
     match tree.look_through(input) {
-        Ok(Some(facts)) => {
-            Ok(facts.kind == Kind::Regular && is_later(facts.changed, limit))
-        }
+        Ok(Some(facts)) => { Ok(facts.kind == Kind::Regular && is_later(facts.changed, limit)) }
         Ok(None) | Err(TreeFault::Failed) => Ok(false),
         Err(TreeFault::Memory) => Err(AllocError),
     }
