@@ -52,6 +52,16 @@ class Done(_Counted):
     WORD = "done"
 
 
+class Would(_Counted):
+    """What repacking the file would give, of a dry run.
+
+    >>> parse("would 2020/XX/TEST/BHN.D/XX.TEST.00.BHN.D.2020.001 read 5 written 3").written
+    3
+    """
+
+    WORD = "would"
+
+
 class Same(_Counted):
     """An earlier walk did it, and it was left alone.
 
@@ -317,7 +327,7 @@ class VerifyTotals:
         )
 
 
-ArchiveLine = Union[Done, Same, Larger, Young, NotShown, Differs, Changed, Shrunk, Skipped, Refused, Known, Channel, ArchiveTotals]
+ArchiveLine = Union[Done, Would, Same, Larger, Young, NotShown, Differs, Changed, Shrunk, Skipped, Refused, Known, Channel, ArchiveTotals]
 VerifyLine = Union[Verified, InPlace, Missing, NotShown, Differs, Skipped, Refused, Known, Orphan, VerifyTotals]
 Line = Union[ArchiveLine, VerifyLine]
 
@@ -329,7 +339,7 @@ TEXTS = (
     "|offset [0-9]+: [0-9]+ [A-Za-z0-9]+(?: [0-9]+)?"
 )
 Maker = Callable[..., Line]
-COUNTED: Dict[str, Maker] = {"done": Done, "same": Same, "larger": Larger}
+COUNTED: Dict[str, Maker] = {"done": Done, "would": Would, "same": Same, "larger": Larger}
 RefusalKind = Union[Type[Refused], Type[Known]]
 REFUSED: Dict[str, RefusalKind] = {"refused": Refused, "known": Known}
 NAMED: Dict[str, Maker] = {

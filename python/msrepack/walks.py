@@ -69,6 +69,33 @@ def archive(
     return cast(Iterator[ArchiveLine], _walk(words, below, (root, out, reports), nothing, timeout))
 
 
+def dry_run(
+    root: Path,
+    *,
+    length: Union[int, str] = 512,
+    int24: bool = False,
+    tolerance: int = 1000,
+    strict: bool = False,
+    below: Optional[Iterable[str]] = None,
+    older_than: int = 0,
+    bytes: bool = False,
+    timeout: Optional[float] = None,
+) -> Iterator[ArchiveLine]:
+    """Tells what `archive` with these words would give of each day below `root`, and writes nothing.
+
+    >>> import msrepack
+    >>> *_, totals = msrepack.dry_run("examples/sds", bytes=True)
+    >>> totals.files, totals.bytes_read, totals.bytes_written
+    (4, 9216, 6656)
+    """
+    chosen = {"--no-int24": not int24, "--strict": strict, "--bytes": bytes}
+    words = ["archive", "--dry-run", "--json", f"--length={length}", f"--tolerance={tolerance}", *options(chosen)]
+    words += [f"--older-than={older_than}"] if older_than else []
+    none = (0 if bytes else None,) * 2
+    nothing = ArchiveTotals(0, 0, 0, None, *none, 0 if older_than else None)
+    return cast(Iterator[ArchiveLine], _walk(words, below, (root,), nothing, timeout))
+
+
 def verify(
     root: Path,
     out: Path,

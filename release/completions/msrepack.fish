@@ -45,3 +45,4 @@ complete -c msrepack -n '__fish_seen_subcommand_from archive replace' -x -l olde
 complete -c msrepack -n '__fish_seen_subcommand_from replace' -l touch -d 'Give the records the time of now'
 complete -c msrepack -n '__fish_seen_subcommand_from replace' -l int24 -d 'Also days whose records have 24-bit integers'
 complete -c msrepack -n '__fish_seen_subcommand_from archive' -l bytes -d 'Tell bytes read and written too'
+complete -c msrepack -n '__fish_seen_subcommand_from archive' -l dry-run -d 'Tell what repacking would give, and write nothing'
