@@ -305,7 +305,14 @@ where
 {
     let claims = SystemClaims::new(rt);
     let mut tree = SystemTree::unlinked(rt, alloc);
-    let walked = walk(&mut tree, &claims, alloc, &*archive, time_of_now(rt), output)?;
+    let walked = walk(
+        &mut tree,
+        &claims,
+        alloc,
+        &*archive,
+        time_of_now(rt),
+        output,
+    )?;
     Ok(walked)
 }
 

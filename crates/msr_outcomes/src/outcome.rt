@@ -214,7 +214,11 @@ impl Outcome {
             return Ok(self);
         }
         let line = refusal_line(alloc, path, why)?;
-        if known.has(line.as_str()) { Ok(Outcome::Known(why)) } else { Ok(self) }
+        if known.has(line.as_str()) {
+            Ok(Outcome::Known(why))
+        } else {
+            Ok(self)
+        }
     }
 
     /// The first word of its line.

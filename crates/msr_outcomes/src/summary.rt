@@ -119,8 +119,15 @@ fn files_words(alloc: Global, asked: &Archiving<'_>, tally: &Tally) -> Result<St
     let known = count_told(alloc, asked.known.is_asked(), "known", tally.known)?;
     let larger = count_told(alloc, asked.days.only_smaller, "larger", tally.larger)?;
     let young = count_told(alloc, 0 < asked.days.older_than, "young", tally.young)?;
-    let size = bytes_told(alloc, asked.days.bytes, tally.bytes_read, tally.bytes_written)?;
-    format!(in alloc; "files {files} skipped {skipped} refused {refused}{known}{larger}{young}{size}\n")
+    let size = bytes_told(
+        alloc,
+        asked.days.bytes,
+        tally.bytes_read,
+        tally.bytes_written,
+    )?;
+    format!(in alloc;
+        "files {files} skipped {skipped} refused {refused}{known}{larger}{young}{size}\n"
+    )
 }
 
 /// The last line in JSON.
@@ -131,7 +138,12 @@ fn files_json(alloc: Global, asked: &Archiving<'_>, tally: &Tally) -> Result<Str
     let known = count_json(alloc, asked.known.is_asked(), "known", tally.known)?;
     let larger = count_json(alloc, asked.days.only_smaller, "larger", tally.larger)?;
     let young = count_json(alloc, 0 < asked.days.older_than, "young", tally.young)?;
-    let size = bytes_json(alloc, asked.days.bytes, tally.bytes_read, tally.bytes_written)?;
+    let size = bytes_json(
+        alloc,
+        asked.days.bytes,
+        tally.bytes_read,
+        tally.bytes_written,
+    )?;
     format!(in alloc;
         "{{\"what\":\"files\",\"files\":{files},\"skipped\":{skipped},\"refused\":{refused}{known}{larger}{young}{size}}}\n"
     )

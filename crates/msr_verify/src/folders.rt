@@ -37,10 +37,7 @@ fn walk_archive<'a, T: Tree, O: Sink>(
         alloc,
         root: archive.folders.root,
         below: archive.below.as_slice(),
-        visitor: &Judging {
-            alloc,
-            archive,
-        },
+        visitor: &Judging { alloc, archive },
     };
     visit_entries(&walk, tree, out, tally)
 }
@@ -65,10 +62,7 @@ fn walk_records<'a, T: Tree, O: Sink>(
         alloc,
         root: archive.folders.out,
         below: archive.below.as_slice(),
-        visitor: &Searching {
-            alloc,
-            archive,
-        },
+        visitor: &Searching { alloc, archive },
     };
     visit_entries(&walk, tree, out, tally)
 }

@@ -331,7 +331,11 @@ impl Judgement {
         match self {
             Judgement::Refused(refusal) => {
                 let line = refusal_line(alloc, path, refusal)?;
-                if known.has(line.as_str()) { Ok(Judgement::Known(refusal)) } else { Ok(self) }
+                if known.has(line.as_str()) {
+                    Ok(Judgement::Known(refusal))
+                } else {
+                    Ok(self)
+                }
             }
             Judgement::Missing => {
                 let before = refused_before(alloc, path)?;
