@@ -1,7 +1,6 @@
 pub mod EntriesFound
 pub mod ExactLemmas
 pub mod Judged
-pub mod JudgedLaws
 pub mod OpeningLemmas
 pub mod Repacks
 pub mod TellingThere

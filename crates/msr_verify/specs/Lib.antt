@@ -7,3 +7,4 @@ pub mod Laws
 pub mod Lines
 pub mod Opening
 pub mod Walk
+pub mod VisitorLaws

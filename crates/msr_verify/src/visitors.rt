@@ -4,7 +4,7 @@ ghost use Rattle.msr_devices.specs.Device.{CanCountCall};
 ghost use Rattle.msr_folders.proofs.ReadingLemmas.{none_holds};
 ghost use Rattle.msr_sds.specs.declared.SdsFault.{SdsFault};
 ghost use Rattle.msr_tree.specs.Reads.{OnlyReads};
-ghost use Rattle.msr_verify.proofs.JudgedLaws.{judged_laws};
+ghost use Rattle.msr_verify.specs.VisitorLaws.{judged_laws};
 ghost use Rattle.msr_verify.specs.Entries.{IsJudgementOf, JudgedEntry};
 ghost use Rattle.msr_verify.specs.Files.{IsToldOfOut, IsToldOfRoot, other_judgement};
 ghost use Rattle.msr_verify.specs.Known.{known_as};
