@@ -80,7 +80,8 @@ fn compare_with<'a, F: NamedFiles, One: Source, I: Source, O: Sink>(
     ensures { ComparesWith (F.went files.now) asked.now.options asked.now (One.device one.old) (I.device input.old)
         (O.device output.old) (O.device output.new) result }
 {
-    match open_input(files, asked.other)?.0 {
+    let (opened, _) = open_input(files, asked.other)?;
+    match opened {
         None => compare_sources(alloc, asked, one, input, output),
         Some(mut file) => compare_sources(alloc, asked, one, &mut file, output),
     }
@@ -99,7 +100,8 @@ pub(crate) fn compare_files<'a, F: NamedFiles, I: Source, O: Sink>(
     ensures { ComparesNamed (F.went files.now) asked.now.options asked.now (I.device input.old)
         (O.device output.old) (O.device output.new) result }
 {
-    match open_input(files, asked.one)?.0 {
+    let (opened, _) = open_input(files, asked.one)?;
+    match opened {
         None => {
             let mut other = open_file(files, asked.other)?.0;
             compare_sources(alloc, asked, input, &mut other, output)

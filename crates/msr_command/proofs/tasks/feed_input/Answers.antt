@@ -9,7 +9,9 @@ returns-in_err-file g c =
     (g.O.Sink.device c.args.output.now) c.in_err-file.field-0.0 c.in_err-file.ensures)
 
 pub returns-in-Ok : goal.returns-in-Ok
-returns-in-Ok g c = fed _ _ _ _ c.in-Ok.ensures
+returns-in-Ok g c = fed c.args.asked.now.options (g.I.Source.device c.args.input.now) (g.O.Sink.device c.args.output.now)
+    (g.O.Sink.device c.feed_to.new.output) c.in-Ok.ensures
 
 pub returns : goal.returns
-returns g c = unfed _ _ _ _ _ c.in-Err.ensures
+returns g c = unfed c.args.asked.now.options (g.I.Source.device c.args.input.now) (g.O.Sink.device c.args.output.now)
+    (g.O.Sink.device c.feed_to.new.output) _ c.in-Err.ensures

@@ -1,4 +1,5 @@
 use Rattle.std.proofs.Common.{◌≡◌, codes, rules}
+use Rattle.msr_command.specs.Named.{IsReaderOf}
 use Rattle.msr_command.proofs.Endings.{list_unread, over_named}
 use Rattle.msr_command.proofs.Inputs.{comes_file, comes_standard}
 use Rattle.msr_command.proofs.tasks.list_file.Goals as goal
@@ -18,5 +19,6 @@ returns-in-Ok-None-default g c =
 pub returns-in-Ok-Some-default : goal.returns-in-Ok-Some-default
 returns-in-Ok-Some-default g c =
     let no_name : c.args.asked.now.input.now ≡ codes "-" → ⊥ = search rules in
+    let reads : IsReaderOf (g.F.NamedFiles.went c.args.files.now) c.args.asked.now.input.now (g.F.Reader.Source.device c.in-Ok-Some-default.file) = search rules in
     let does = c.list_from-in-Ok-Some-default.ensures in
-    over_named does (λ opened. comes_file no_name c.in-Ok-Some-default.ensures.reads (does.come tt))
+    over_named does (λ opened. comes_file no_name reads (does.come tt))

@@ -1,4 +1,5 @@
 use Rattle.std.proofs.Common.{◌≡◌, codes, rules}
+use Rattle.msr_command.specs.Named.{IsReaderOf}
 use Rattle.msr_command.proofs.Endings.{over_named, repack_unread}
 use Rattle.msr_command.proofs.Inputs.{comes_file, comes_standard}
 use Rattle.msr_command.proofs.tasks.repack_file.Goals as goal
@@ -17,5 +18,6 @@ returns-in-None g c =
 pub returns-in-Some : goal.returns-in-Some
 returns-in-Some g c =
     let no_name : c.args.asked.now.input.now ≡ codes "-" → ⊥ = search rules in
+    let reads : IsReaderOf (g.F.NamedFiles.went c.args.files.now) c.args.asked.now.input.now (g.F.Reader.Source.device c.in-Some.file) = search rules in
     let does = c.repack_from-in-Some.ensures in
-    over_named does (λ opened. comes_file no_name c.in-Some.ensures.reads (does.come tt))
+    over_named does (λ opened. comes_file no_name reads (does.come tt))
