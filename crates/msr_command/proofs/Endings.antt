@@ -19,12 +19,11 @@ use Rattle.msr_options.specs.declared.task.Trying.{Trying}
 use Rattle.msr_options.specs.declared.task.Verifying.{Verifying}
 use Rattle.msr_folders.specs.declared.found.WalkFound.{WalkFound}
 use Rattle.msr_folders.specs.Visits.{IsWalk}
-use Rattle.msr_outcomes.specs.Entries.{IsEntry}
+use Rattle.msr_outcomes.specs.Known.{IsEntry}
 use Rattle.msr_outcomes.specs.Lines.{IsEntryLine}
 use Rattle.msr_outcomes.specs.Summary.{summary}
 use Rattle.msr_walk.specs.Walk.{Walks}
 use Rattle.msr_walk.specs.declared.folders.Walked.{Walked}
-use Rattle.msr_walk.proofs.EntriesTold.{none_told, stops_entries, walk_stops}
 use Rattle.msr_trial.specs.Entries.{IsTrialEntry}
 use Rattle.msr_trial.specs.Lines.{IsTrialLine}
 use Rattle.msr_trial.specs.Walk.{Tries}
@@ -32,7 +31,6 @@ use Rattle.msr_trial.specs.declared.walk.Tried.{Tried}
 use Rattle.msr_verify.specs.Known.{IsJudgedEntry}
 use Rattle.msr_verify.specs.Lines.{IsToldLine}
 use Rattle.msr_verify.specs.Walk.{Verifies, judged_summary}
-use Rattle.msr_verify.proofs.EntriesFound.{none_told as none_found, stops_entries as stops_found, walk_stops as verifying_stops}
 use Rattle.msr_replace.specs.Entries.{IsExchangeEntry, IsExchangeEntryLine}
 use Rattle.msr_replace.specs.Sums.{exchange_summary}
 use Rattle.msr_replace.specs.Walk.{ReplacesDays, ReplacingEnds, TellsFailed}
