@@ -3,7 +3,6 @@ use Rattle.std.proofs.Common.{◌≡◌, ◌<◌, ℕ, List, refl, sym, ◌∙�
 use Rattle.std.specs.declared.alloc.AllocError.{AllocError}
 use Rattle.msr_devices.specs.Device.{Device, HasLeft, unused}
 use Rattle.msr_folders.proofs.WalkedLemmas.{goes_so, goes_then}
-use Rattle.msr_kinds.specs.declared.lengths.Length.{Length}
 use Rattle.msr_making.proofs.Sights.{found_length, tells_failed}
 use Rattle.msr_making.specs.Day.{AsksForAge, CountAnswers, RepacksDay}
 use Rattle.msr_making.specs.declared.answer.DayFault.{DayFault}

@@ -3,13 +3,12 @@ use Rattle.std.proofs.Common.{◌≡◌, ◌≢◌, ◌↔◌, ℕ, List, [], �
 use Rattle.msr_devices.proofs.Chaining.{calm_same}
 use Rattle.msr_devices.specs.Device.{Device}
 use Rattle.msr_devices.specs.declared.fault.DeviceFault.TheVariants.{Memory}
-use Rattle.msr_folders.proofs.ReadingLemmas.{reads_same}
-use Rattle.msr_folders.proofs.VisitLemmas.{part_none, stops_more, these_more, these_none}
+use Rattle.msr_folders.proofs.VisitLemmas.{part_none, these_none}
 use Rattle.msr_folders.proofs.WalkedLemmas.{goes_none, goes_so}
 use Rattle.msr_folders.specs.Days.{IsDay, IsNoDay}
 use Rattle.msr_folders.specs.Entries.{Entry as Found, Visit, WithoutList}
 use Rattle.msr_folders.specs.Paths.{joined, told_folder}
-use Rattle.msr_folders.specs.Walks.{TellsVisit, VisitDoes, VisitLaws}
+use Rattle.msr_folders.specs.Walks.{TellsVisit, VisitDoes}
 use Rattle.msr_making.specs.declared.answer.DayFault.TheVariants.{Gone as WasGone, Listing}
 use Rattle.msr_options.specs.declared.days.DayOptions.{DayOptions}
 use Rattle.msr_outcomes.specs.Entries.{Entry, IsTally}
@@ -19,7 +18,7 @@ use Rattle.msr_outcomes.specs.declared.tally.Tally.{Tally}
 use Rattle.msr_sds.specs.SdsPath.{HasDate, IsWaveform, ReadsAs, SdsPath}
 use Rattle.msr_sds.specs.declared.SdsFault.{SdsFault}
 use Rattle.msr_sds.specs.declared.SdsFault.TheVariants.{BadDay, NotSds, NotWaveform}
-use Rattle.msr_tree.proofs.Reading.{look_lists_none, look_reads, looks_none, reads_none, reads_then, reads_unlisted}
+use Rattle.msr_tree.proofs.Reading.{look_lists_none, look_reads, looks_none}
 use Rattle.msr_tree.specs.Calls.{Goes}
 use Rattle.msr_tree.specs.Reads.{OnlyLooks, OnlyReads}
 use Rattle.msr_tree.specs.Steps.{Path, Step}
@@ -30,22 +29,6 @@ use Rattle.msr_trial.specs.Days.{TriesDay}
 use Rattle.msr_trial.specs.Entries.{IsToldOfVisit, IsTrialEntry}
 use Rattle.msr_trial.specs.Lines.{IsTrialLine}
 use Rattle.msr_trial.specs.Walk.{StopsTrial, TellsTrial}
-
--- the laws of a visitor that tells entries as these options ask for it, and only reads
-pub trial_laws : {V : Type 0} (days : V → DayOptions) (spared : V → Path) →
-    VisitLaws (λ visitor. TellsTrial (days visitor)) (λ visitor. StopsTrial (days visitor)) (λ visitor. OnlyReads) spared
-trial_laws days spared = record {
-  calm = λ visitor lines out0 out tally0 tally these. these.told.calm;
-  none = λ visitor. these_none (IsTrialEntry (days visitor)) (IsTrialLine (days visitor)) IsTally;
-  more = λ visitor. these_more (IsTrialEntry (days visitor)) (IsTrialLine (days visitor)) IsTally;
-  refused = λ visitor out. (part_none (IsTrialEntry (days visitor)) (IsTrialLine (days visitor)) out, (calm_same out).steady);
-  later = λ visitor lines out0 out1 out tally0 tally1 fault these stopped.
-      stops_more (IsTrialEntry (days visitor)) (IsTrialLine (days visitor)) IsTally out0 out1 out tally0 tally1 fault these.told stopped;
-  still = λ visitor. reads_none;
-  onward = λ visitor. reads_then;
-  unlisted = λ visitor. reads_unlisted;
-  same = λ visitor. reads_same (spared visitor);
-}
 
 -- nothing was printed
 pub none_told : (days : DayOptions) (out : Device) → StopsTrial days out out Memory

@@ -22,7 +22,7 @@ use Rattle.msr_tree.specs.Reads.{OnlyReads}
 use Rattle.msr_tree.specs.Steps.{Step}
 use Rattle.msr_trial.specs.Entries.{IsToldOfVisit, IsTrialEntry}
 use Rattle.msr_trial.specs.Lines.{IsTrialLine}
-use Rattle.msr_trial.specs.Walk.{StopsTrial, TellsEnd, TellsTrial, TellsTried, Tries, TriesTree}
+use Rattle.msr_trial.specs.Walk.{StopsTrial, TrialFinds, TellsTrial, TellsTried, Tries, TriesTree}
 use Rattle.msr_trial.specs.declared.walk.Tried.{Tried}
 
 -- some more entries were told
@@ -55,7 +55,7 @@ stop_tells Part out0 out Memory h = ((λ e. absurd cc), (λ has_failed. absurd (
 
 -- what the counts find is what the entries tell
 pub tells_end : (entries : List Entry) (tally : Tally) (found : WalkFound) → IsTally entries tally
-    → Finds tally.refused (min (tally.done + tally.young) (2 ^ 64 - 1)) found → TellsEnd entries found
+    → Finds tally.refused (min (tally.done + tally.young) (2 ^ 64 - 1)) found → TrialFinds entries found
 tells_end entries tally Well counts finds = rw (← counts.refused, ← counts.done, ← counts.young) (finds.0, grind (arith, finds.1))
 tells_end entries tally Unwell counts finds = rw (← counts.refused) finds
 tells_end entries tally NoDay counts finds =

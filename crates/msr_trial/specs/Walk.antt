@@ -28,14 +28,14 @@ abbrev pub StopsTrial : DayOptions → Device → Device → DeviceFault → Typ
 StopsTrial days out0 out fault = StopsTelling (IsTrialEntry days) (IsTrialLine days) out0 out fault
 
 -- a walk that came to its end tells whether an entry was refused, and if none was, whether there was a day, young or not
-abbrev pub TellsEnd : List Entry → WalkFound → Type 0
-TellsEnd entries Well = (counted is_refused entries ≡ 0) × ((0 < counted is_done entries) ⊎ (0 < counted is_young entries))
-TellsEnd entries Unwell = 0 < counted is_refused entries
-TellsEnd entries NoDay = (counted is_refused entries ≡ 0) × (counted is_done entries ≡ 0) × (counted is_young entries ≡ 0)
+abbrev pub TrialFinds : List Entry → WalkFound → Type 0
+TrialFinds entries Well = (counted is_refused entries ≡ 0) × ((0 < counted is_done entries) ⊎ (0 < counted is_young entries))
+TrialFinds entries Unwell = 0 < counted is_refused entries
+TrialFinds entries NoDay = (counted is_refused entries ≡ 0) × (counted is_done entries ≡ 0) × (counted is_young entries ≡ 0)
 
 -- It tells too what could not be opened of the first day that was refused for that.
 pub record TellsTried (entries : List Entry) (tried : Tried) : Type 0 where
-  pub end : TellsEnd entries tried.found
+  pub end : TrialFinds entries tried.found
   pub first : tried.unopened ≡ first_unopened entries
 
 -- the whole text was printed, or a prefix of it when the walk stopped, which no input and no source can make it do
