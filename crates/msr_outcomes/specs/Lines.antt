@@ -8,6 +8,7 @@ use Rattle.msr_input.specs.declared.fault.ReadFault.TheVariants as stop
 use Rattle.msr_making.specs.declared.answer.DayFault.{DayFault}
 use Rattle.msr_making.specs.declared.answer.DayFault.TheVariants.{CannotOpen, Changed, ClaimedByAnother, Differs, Gone, Larger, Listing, NotShown, Shrunk, Tool}
 use Rattle.msr_making.specs.declared.answer.Repacked.{Repacked}
+use Rattle.msr_options.specs.declared.days.DayOptions.{DayOptions}
 use Rattle.msr_options.specs.declared.task.Archiving.{Archiving}
 use Rattle.msr_options.specs.declared.hint.Side.{Side}
 use Rattle.msr_options.specs.declared.hint.Side.TheVariants as side
@@ -152,7 +153,11 @@ is_to_look_at _ = false
 abbrev pub is_outcome_told : Telling → Outcome → Bool
 is_outcome_told telling outcome = not telling.quiet || is_to_look_at outcome
 
--- What is printed of an entry: its line, or nothing if that is left out.
-pub record IsEntryLine (asked : Archiving) (entry : Entry) (line : List ℕ) : Type 0 where
-  pub told : is_outcome_told asked.days.telling entry.outcome ≡ true → IsOutcomeLine asked.days.telling.form asked.days.bytes entry.path entry.outcome line
-  pub left_out : is_outcome_told asked.days.telling entry.outcome ≡ false → line ≡ []
+-- What is printed of an entry with these options: its line, or nothing if that is left out.
+pub record IsLineBy (days : DayOptions) (entry : Entry) (line : List ℕ) : Type 0 where
+  pub told : is_outcome_told days.telling entry.outcome ≡ true → IsOutcomeLine days.telling.form days.bytes entry.path entry.outcome line
+  pub left_out : is_outcome_told days.telling entry.outcome ≡ false → line ≡ []
+
+-- in a walk over an archive
+abbrev pub IsEntryLine : Archiving → Entry → List ℕ → Type 0
+IsEntryLine asked = IsLineBy asked.days

@@ -51,33 +51,33 @@ count_json false word days = []
 count_json true word days = codes ",\"" ++ (word ++ (codes "\":" ++ decimal days))
 
 -- the last line in words
-abbrev pub files_words : Archiving → Tally → List ℕ
-files_words asked tally =
+abbrev pub files_words : DayOptions → (known : Bool) → Tally → List ℕ
+files_words days known tally =
     codes "files " ++ (decimal tally.done ++ (codes " skipped "
     ++ (decimal tally.skipped ++ (codes " refused " ++ (decimal tally.refused
-    ++ (count_told (knows_any asked.known) (codes "known") tally.known ++ (count_told asked.days.only_smaller (codes "larger") tally.larger ++ (count_told (nat_lt 0 asked.days.older_than) (codes "young") tally.young
-    ++ (bytes_told asked.days.bytes tally.bytes_read tally.bytes_written ++ codes "\n")))))))))
+    ++ (count_told known (codes "known") tally.known ++ (count_told days.only_smaller (codes "larger") tally.larger ++ (count_told (nat_lt 0 days.older_than) (codes "young") tally.young
+    ++ (bytes_told days.bytes tally.bytes_read tally.bytes_written ++ codes "\n")))))))))
 
 -- in JSON
-abbrev pub files_json : Archiving → Tally → List ℕ
-files_json asked tally =
+abbrev pub files_json : DayOptions → (known : Bool) → Tally → List ℕ
+files_json days known tally =
     codes "{\"what\":\"files\",\"files\":" ++ (decimal tally.done ++ (codes ",\"skipped\":"
     ++ (decimal tally.skipped ++ (codes ",\"refused\":" ++ (decimal tally.refused
-    ++ (count_json (knows_any asked.known) (codes "known") tally.known ++ (count_json asked.days.only_smaller (codes "larger") tally.larger ++ (count_json (nat_lt 0 asked.days.older_than) (codes "young") tally.young
-    ++ (bytes_json asked.days.bytes tally.bytes_read tally.bytes_written ++ codes "}\n")))))))))
+    ++ (count_json known (codes "known") tally.known ++ (count_json days.only_smaller (codes "larger") tally.larger ++ (count_json (nat_lt 0 days.older_than) (codes "young") tally.young
+    ++ (bytes_json days.bytes tally.bytes_read tally.bytes_written ++ codes "}\n")))))))))
 
-abbrev pub files_told : ListForm → Archiving → Tally → List ℕ
-files_told Words asked tally = files_words asked tally
-files_told Json asked tally = files_json asked tally
+abbrev pub files_told : ListForm → DayOptions → (known : Bool) → Tally → List ℕ
+files_told Words days known tally = files_words days known tally
+files_told Json days known tally = files_json days known tally
 
 -- the last line
-abbrev pub files_line : Archiving → Tally → List ℕ
-files_line asked tally = files_told asked.days.telling.form asked tally
+abbrev pub files_line : DayOptions → (known : Bool) → Tally → List ℕ
+files_line days known tally = files_told days.telling.form days known tally
 
 -- the lines after those of the entries, from what is counted of these
-abbrev pub tally_lines : Archiving → Tally → List ℕ
-tally_lines asked tally = flat_map (channel_line asked.days) (with_bytes tally.channels tally.bytes)
-    ++ files_line asked tally
+abbrev pub tally_lines : DayOptions → (known : Bool) → Tally → List ℕ
+tally_lines days known tally = flat_map (channel_line days) (with_bytes tally.channels tally.bytes)
+    ++ files_line days known tally
 
 -- the counts and totals of the entries
 abbrev pub tally_of : List Entry → Tally
@@ -95,6 +95,10 @@ tally_of entries = record {
   unopened = first_unopened entries;
 }
 
--- the lines after those of the entries
+-- the lines after those of the entries, with the count of those that are known if that is told
+abbrev pub summary_by : DayOptions → (known : Bool) → List Entry → List ℕ
+summary_by days known entries = tally_lines days known (tally_of entries)
+
+-- those of a walk over an archive
 abbrev pub summary : Archiving → List Entry → List ℕ
-summary asked entries = tally_lines asked (tally_of entries)
+summary asked = summary_by asked.days (knows_any asked.known)

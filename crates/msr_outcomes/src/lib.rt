@@ -8,5 +8,5 @@ mod tally;
 
 pub use channel::channel_text;
 pub use outcome::{Outcome, counts_told, repacked_json};
-pub use summary::write_summary;
+pub use summary::{write_summary, write_sums};
 pub use tally::Tally;

@@ -1,14 +1,14 @@
 //! What becomes of an entry of a folder, and its line.
 ghost use Rattle.std.specs.Prelude.{◌≡◌, ℕ, List, IfOk};
 ghost use Rattle.std.specs.String.{string_bytes};
-ghost use Rattle.msr_outcomes.specs.Lines.{IsOutcomeJson, IsOutcomeLine, IsOutcomeReason, IsEntryLine, bytes_json, bytes_told, repacked_json, counts_told, is_to_look_at, day_place_json, day_refusal_json, day_refusal_text, unopened_json, outcome_word, outcome_members, outcome_rest, outcome_words};
+ghost use Rattle.msr_outcomes.specs.Lines.{IsOutcomeJson, IsOutcomeLine, IsLineBy, IsOutcomeReason, bytes_json, bytes_told, repacked_json, counts_told, is_to_look_at, day_place_json, day_refusal_json, day_refusal_text, unopened_json, outcome_word, outcome_members, outcome_rest, outcome_words};
 ghost use Rattle.msr_outcomes.specs.Known.{is_plain, known_as, refusal_line};
 ghost use Rattle.msr_outcomes.specs.Outcomes.{of_day};
 
 use msr_folders::{JsonText, Shown, ToldFault, fault_json, reason_json, skip_text};
 use msr_input::ReadFault;
 use msr_making::{DayFault, DayOutcome, Repacked, Shrinkage};
-use msr_options::{Archiving, DayOptions, Known, ListForm, Side};
+use msr_options::{DayOptions, Known, ListForm, Side};
 use msr_sds::SdsFault;
 use msr_tool::ToolFault;
 use std::alloc::{AllocError, Global};
@@ -357,16 +357,16 @@ impl Outcome {
     pub fn told(
         self,
         alloc: Global,
-        asked: &Archiving<'_>,
+        days: &DayOptions,
         path: &str,
         listing: Option<io::Error>,
     ) -> Result<String, AllocError>
         ensures { (channel : List ℕ) → IfOk result (λ line.
-            IsEntryLine asked.now (record { path = path.now; channel = channel; outcome = self }) (string_bytes line)) }
+            IsLineBy days.now (record { path = path.now; channel = channel; outcome = self }) (string_bytes line)) }
     {
-        if asked.days.telling.quiet && !self.is_to_look_at() {
+        if days.telling.quiet && !self.is_to_look_at() {
             return Ok(String::new(alloc));
         }
-        self.line(alloc, &asked.days, path, listing)
+        self.line(alloc, days, path, listing)
     }
 }

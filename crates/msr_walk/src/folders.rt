@@ -117,7 +117,7 @@ fn tell<K, C, O: Sink>(
 {
     let archive = walker.archive;
     let outcome = outcome.known_as(walker.alloc, archive.known, path)?;
-    let line = outcome.told(walker.alloc, archive, path, listing)?;
+    let line = outcome.told(walker.alloc, &archive.days, path, listing)?;
     write_all(out, line.as_bytes())?;
     progress.tally.add(channel, outcome)?;
     Ok(())
