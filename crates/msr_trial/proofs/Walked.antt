@@ -14,7 +14,7 @@ use Rattle.msr_folders.specs.declared.found.WalkFound.TheVariants.{Well, Unwell,
 use Rattle.msr_options.specs.declared.days.DayOptions.{DayOptions}
 use Rattle.msr_options.specs.declared.task.Trying.{Trying}
 use Rattle.msr_outcomes.specs.Entries.{Entry, IsTally}
-use Rattle.msr_outcomes.specs.Summary.{summary}
+use Rattle.msr_outcomes.specs.Summary.{summary_by}
 use Rattle.msr_outcomes.specs.declared.tally.Tally.{Tally}
 use Rattle.msr_tool.specs.Fault.{fault_of_writing}
 use Rattle.msr_tool.specs.declared.fault.ToolFault.TheVariants.{Write}
@@ -31,16 +31,16 @@ TellsSome days out0 out tally0 tally = Tells (IsTrialEntry days) (IsTrialLine da
 
 -- a prefix of the text of a walk was printed
 abbrev pub WalksInPart : DayOptions → Device → Device → Type 0
-WalksInPart days out0 out = walks.WalksInPart (IsTrialEntry days) (IsTrialLine days) (summary days) out0 out
+WalksInPart days out0 out = walks.WalksInPart (IsTrialEntry days) (IsTrialLine days) (summary_by days false) out0 out
 
 pub stops_entries : (days : DayOptions) (out0 out : Device) (fault : DeviceFault) → StopsTrial days out0 out fault
     → StopsAt (WalksInPart days out0 out) out0 out fault
-stops_entries days = walks.stops_entries (IsTrialEntry days) (IsTrialLine days) (summary days)
+stops_entries days = walks.stops_entries (IsTrialEntry days) (IsTrialLine days) (summary_by days false)
 
 pub stops_summary : (days : DayOptions) (out0 out1 out : Device) (tally0 tally : Tally) (fault : DeviceFault)
-    (told : TellsSome days out0 out1 tally0 tally) → StopsPrefix out1 out (summary days told.entries) fault
+    (told : TellsSome days out0 out1 tally0 tally) → StopsPrefix out1 out (summary_by days false told.entries) fault
     → StopsAt (WalksInPart days out0 out) out0 out fault
-stops_summary days = walks.stops_summary (IsTrialEntry days) (IsTrialLine days) (summary days) IsTally
+stops_summary days = walks.stops_summary (IsTrialEntry days) (IsTrialLine days) (summary_by days false) IsTally
 
 pub walk_stops : (days : DayOptions) (out0 out : Device) (fault : DeviceFault)
     → StopsAt (WalksInPart days out0 out) out0 out fault → Tries days out0 out (Err (fault_of_writing fault))
@@ -62,11 +62,11 @@ tells_end entries tally NoDay counts finds =
     rw (← counts.refused, ← counts.done, ← counts.young) (finds.0, omega (arith, finds.1), omega (arith, finds.1))
 
 pub walk_ends : (days : DayOptions) (out0 out1 out : Device) (tally0 tally : Tally) (tried : Tried) →
-    (told : TellsSome days out0 out1 tally0 tally) → Takes out1 out (summary days told.entries)
+    (told : TellsSome days out0 out1 tally0 tally) → Takes out1 out (summary_by days false told.entries)
     → TellsTried told.entries tried → Tries days out0 out (Ok tried)
 walk_ends days out0 out1 out tally0 tally tried told prints end = record {
-  printed = told.lines ++ summary days told.entries;
-  prints = takes_append out0 out1 out told.lines (summary days told.entries) told.prints prints;
+  printed = told.lines ++ summary_by days false told.entries;
+  prints = takes_append out0 out1 out told.lines (summary_by days false told.entries) told.prints prints;
   ends = (
     told.entries,
     record { lines = told.lines; are_entries = told.are_entries; are_lines = told.are_lines; whole = refl },
@@ -80,17 +80,17 @@ TellsArchive asked = TellsWalk (TellsTrial asked.days) (IsToldOfVisit asked.root
     (λ past. AreEntriesOf past asked.root.now asked.below.items)
 
 pub tree_ends : (asked : Trying) (before after : List Step → Type 0) (out0 out1 out : Device) (tally0 tally : Tally) (tried : Tried)
-    → (told : TellsArchive asked before after out0 out1 tally0 tally) → Takes out1 out (summary asked.days told.told.told.entries)
+    → (told : TellsArchive asked before after out0 out1 tally0 tally) → Takes out1 out (summary_by asked.days false told.told.told.entries)
     → TellsTried told.told.told.entries tried → TriesTree asked before after out0 out tried
 tree_ends asked before after out0 out1 out tally0 tally tried told prints end =
     let these = told.told.told in
-    let printed : List ℕ = these.lines ++ summary asked.days these.entries in
+    let printed : List ℕ = these.lines ++ summary_by asked.days false these.entries in
     record {
       visits = told.visits;
       entries = told.lines;
       printed = printed;
-      prints = takes_append out0 out1 out these.lines (summary asked.days these.entries) these.prints prints;
-      text = subst (λ entries. IsWalk (IsTrialEntry asked.days) (IsTrialLine asked.days) (summary asked.days) printed entries) told.told.are
+      prints = takes_append out0 out1 out these.lines (summary_by asked.days false these.entries) these.prints prints;
+      text = subst (λ entries. IsWalk (IsTrialEntry asked.days) (IsTrialLine asked.days) (summary_by asked.days false) printed entries) told.told.are
           (record { lines = these.lines; are_entries = these.are_entries; are_lines = these.are_lines; whole = refl });
       tells = subst (λ entries. TellsTried entries tried) told.told.are end;
       goes = told.goes;

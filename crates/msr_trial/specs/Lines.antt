@@ -6,7 +6,7 @@ use Rattle.msr_options.specs.declared.days.DayOptions.{DayOptions}
 use Rattle.msr_options.specs.declared.task.ListForm.{ListForm}
 use Rattle.msr_options.specs.declared.task.ListForm.TheVariants.{Words, Json}
 use Rattle.msr_outcomes.specs.Entries.{Entry}
-use Rattle.msr_outcomes.specs.Lines.{IsEntryLine, counts_told, repacked_json}
+use Rattle.msr_outcomes.specs.Lines.{IsLineBy, counts_told, repacked_json}
 use Rattle.msr_outcomes.specs.declared.outcome.Outcome.{Outcome}
 use Rattle.msr_outcomes.specs.declared.outcome.Outcome.TheVariants.{Done}
 
@@ -31,7 +31,7 @@ would_told asked path repacked = cond asked.telling.quiet [] (would_line asked p
 -- what is printed of an entry: of what is no such day that which the repack prints
 abbrev pub IsLineOf : DayOptions → (path channel : List ℕ) → Outcome → List ℕ → Type 0
 IsLineOf asked path channel (Done repacked) line = line ≡ would_told asked path repacked
-IsLineOf asked path channel outcome line = IsEntryLine asked (record { path = path; channel = channel; outcome = outcome }) line
+IsLineOf asked path channel outcome line = IsLineBy asked (record { path = path; channel = channel; outcome = outcome }) line
 
 pub record IsTrialLine (asked : DayOptions) (entry : Entry) (line : List ℕ) : Type 0 where
   pub is : IsLineOf asked entry.path entry.channel entry.outcome line

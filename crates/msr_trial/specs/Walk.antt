@@ -1,5 +1,5 @@
 -- What a dry run prints, and how it ends.
-use Rattle.std.specs.Prelude.{◌≡◌, ◌⊎◌, ◌<◌, ℕ, List, Result, Ok, Err}
+use Rattle.std.specs.Prelude.{◌≡◌, ◌⊎◌, ◌<◌, ℕ, false, List, Result, Ok, Err}
 use Rattle.msr_devices.specs.Device.{Device, Takes}
 use Rattle.msr_devices.specs.declared.fault.DeviceFault.{DeviceFault}
 use Rattle.msr_folders.specs.Entries.{Visit}
@@ -9,7 +9,7 @@ use Rattle.msr_folders.specs.declared.found.WalkFound.TheVariants.{Well, Unwell,
 use Rattle.msr_options.specs.declared.days.DayOptions.{DayOptions}
 use Rattle.msr_options.specs.declared.task.Trying.{Trying}
 use Rattle.msr_outcomes.specs.Entries.{Entry, IsTally, counted, first_unopened, is_done, is_refused, is_young}
-use Rattle.msr_outcomes.specs.Summary.{summary}
+use Rattle.msr_outcomes.specs.Summary.{summary_by}
 use Rattle.msr_outcomes.specs.declared.tally.Tally.{Tally}
 use Rattle.msr_tool.specs.declared.fault.ToolFault.{ToolFault}
 use Rattle.msr_tool.specs.declared.fault.ToolFault.TheVariants.{Write, Memory}
@@ -41,9 +41,9 @@ pub record TellsTried (entries : List Entry) (tried : Tried) : Type 0 where
 -- the whole text was printed, or a prefix of it when the walk stopped, which no input and no source can make it do
 abbrev pub TrialEnds : DayOptions → (printed : List ℕ) → Result Tried ToolFault → Type 0
 TrialEnds days printed (Ok tried) = (entries : List Entry)
-    × IsWalk (IsTrialEntry days) (IsTrialLine days) (summary days) printed entries × TellsTried entries tried
-TrialEnds days printed (Err Write) = IsWalkInPart (IsTrialEntry days) (IsTrialLine days) (summary days) printed
-TrialEnds days printed (Err Memory) = IsWalkInPart (IsTrialEntry days) (IsTrialLine days) (summary days) printed
+    × IsWalk (IsTrialEntry days) (IsTrialLine days) (summary_by days false) printed entries × TellsTried entries tried
+TrialEnds days printed (Err Write) = IsWalkInPart (IsTrialEntry days) (IsTrialLine days) (summary_by days false) printed
+TrialEnds days printed (Err Memory) = IsWalkInPart (IsTrialEntry days) (IsTrialLine days) (summary_by days false) printed
 TrialEnds days printed (Err _) = ⊥
 
 -- What a dry run printed, and how it ended.
@@ -59,6 +59,6 @@ pub record TriesTree (asked : Trying) (before after : List Step → Type 0) (out
   pub entries : List Entry
   pub printed : List ℕ
   pub prints : Takes out0 out printed
-  pub text : IsWalk (IsTrialEntry asked.days) (IsTrialLine asked.days) (summary asked.days) printed entries
+  pub text : IsWalk (IsTrialEntry asked.days) (IsTrialLine asked.days) (summary_by asked.days false) printed entries
   pub tells : TellsTried entries tried
   pub goes : Goes before after (IsArchiveTried asked visits entries)

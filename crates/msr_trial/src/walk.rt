@@ -23,7 +23,7 @@ use msr_devices::{DeviceFault, Sink, write_all};
 use msr_folders::{EntryVisitor, EntryWalk, WalkFound, join, told_folder, visit_entries};
 use msr_making::DayFault;
 use msr_options::{Trying, Unopened};
-use msr_outcomes::{Outcome, Tally, channel_text, write_summary};
+use msr_outcomes::{Outcome, Tally, channel_text, write_sums};
 use msr_sds::SdsName;
 use msr_tool::ToolFault;
 use msr_tree::{FileKind, Time, Tree};
@@ -221,7 +221,7 @@ pub fn trial<'a, T: Tree, O: Sink>(
         visitor: &Trier { alloc, asked, now },
     };
     visit_entries(&walk, tree, out, &mut tally)?;
-    write_summary(alloc, out, &asked.days, &tally)?;
+    write_sums(alloc, out, &asked.days, false, &tally)?;
     Ok(Tried {
         found: WalkFound::of(tally.refused, tally.done.saturating_add(tally.young)),
         unopened: tally.unopened,
