@@ -1,8 +1,9 @@
 -- What repacking a day's file gave, put together from what was done.
-use Rattle.std.proofs.Common.{◌≡◌, ◌<◌, ℕ, List, refl, sym, ◌∙◌, ap, subst, length, Some, None, Result, Ok, Err, Option, IfOk, option_map, arith}
+use Rattle.std.proofs.Common.{◌≡◌, ◌<◌, ℕ, false, List, refl, sym, ◌∙◌, ap, subst, length, Some, None, Result, Ok, Err, Option, IfOk, option_map, arith}
 use Rattle.std.specs.declared.alloc.AllocError.{AllocError}
 use Rattle.msr_devices.specs.Device.{Device, HasLeft, unused}
 use Rattle.msr_folders.proofs.WalkedLemmas.{goes_so, goes_then}
+use Rattle.msr_kinds.specs.declared.lengths.Length.{Length}
 use Rattle.msr_making.proofs.Sights.{found_length, tells_failed}
 use Rattle.msr_making.specs.Day.{AsksForAge, CountAnswers, RepacksDay}
 use Rattle.msr_making.specs.declared.answer.DayFault.{DayFault}
@@ -109,8 +110,9 @@ module _ {R : Type 0} (path : Path) (device : R → Device) where
 
   -- what was opened is there
   look_none : (reader : R) (old mid new : List Step) → Tells Says (Ok reader) old mid → Tells (Looks path) (Ok None) mid new → ⊥
-  look_none reader old mid new (same, bytes, has, is) tells =
-      let gone : now old path ≡ None = subst (λ past. now past path ≡ None) same tells.1 in
+  look_none reader old mid new opened tells =
+      let has = opened.1.1 in
+      let gone : now old path ≡ None = subst (λ past. now past path ≡ None) opened.0 tells.1 in
       let other : seen old path ≡ None = ap (λ found. option_map (λ file. file.bytes) found) gone in
       absurd cc
 
@@ -121,9 +123,14 @@ module _ {R : Type 0} (path : Path) (device : R → Device) where
 
   look_found : (day : OpenDay R) (facts : Facts) (old mid new : List Step) → day.bytes ≡ facts.bytes → Tells Says (Ok day.source) old mid
       → Tells (Looks path) (Ok (Some facts)) mid new → OpensDay path device (Ok day) old new
-  look_found day facts old mid new count (same, bytes, has, is) tells = record {
-    looks = looks_then old mid new (tells_looks Says (Ok day.source) old mid (same, bytes, has, is)) (tells_looks (Looks path) (Ok (Some facts)) mid new tells);
-    opens = (bytes, has, is, count ∙ found_length path old facts bytes (subst (λ past. Looks path past (Some facts)) same tells.1) has);
+  look_found day facts old mid new count opened tells = record {
+    looks = looks_then old mid new (tells_looks Says (Ok day.source) old mid opened) (tells_looks (Looks path) (Ok (Some facts)) mid new tells);
+    opens = (
+      opened.1.0,
+      opened.1.1,
+      opened.1.2,
+      count ∙ found_length path old facts opened.1.0 (subst (λ past. Looks path past (Some facts)) opened.0 tells.1) opened.1.1,
+    );
   }
 
   pub looked : (day : OpenDay R) (facts : Facts) (one mid two : List Step → Type 0) → day.bytes ≡ facts.bytes → Goes one mid (Tells Says (Ok day.source))
@@ -190,3 +197,13 @@ tried_as days path channel (Skipped fault) day was = absurd was.was.answers
 tried_as days path channel (Refused Gone) day was = tt
 tried_as days path channel (Refused Listing) day was = tt
 tried_as days path channel outcome day was = record { day = day; tried = was }
+
+-- what is asked of the day, and what was tried for it
+pub for_day : (days asked : DayOptions) (record_length : Length) → asked ≡ in_length record_length days
+    → (days.same_length ≡ false → record_length ≡ days.options.record_length) → IsForDay days asked
+for_day days asked record_length is own = record { record_length = record_length; is = is; own = own }
+
+pub tried_if : (days asked : DayOptions) (result : Result Outcome AllocError) → IsForDay days asked → IfOk result (WasTried asked.options)
+    → IfOk result (WasTriedFor days)
+tried_if days asked (Ok outcome) is was = tried_for days asked outcome is was
+tried_if days asked (Err e) is was = tt

@@ -5,10 +5,8 @@ use Rattle.msr_devices.specs.declared.fault.DeviceFault.{DeviceFault}
 use Rattle.msr_devices.specs.declared.fault.DeviceFault.TheVariants.{Failed, Memory}
 use Rattle.msr_devices.proofs.Chaining.{steady_sound, takes_append}
 use Rattle.msr_folders.proofs.WalkLemmas as walks
-use Rattle.msr_folders.specs.Entries.{AreEntriesOf}
 use Rattle.msr_folders.specs.Found.{Finds}
 use Rattle.msr_folders.specs.Visits.{IsWalk, StopsAt, StopsPrefix, Tells}
-use Rattle.msr_folders.specs.Walks.{TellsWalk}
 use Rattle.msr_folders.specs.declared.found.WalkFound.{WalkFound}
 use Rattle.msr_folders.specs.declared.found.WalkFound.TheVariants.{Well, Unwell, NoDay}
 use Rattle.msr_options.specs.declared.days.DayOptions.{DayOptions}
@@ -18,11 +16,10 @@ use Rattle.msr_outcomes.specs.Summary.{summary_by}
 use Rattle.msr_outcomes.specs.declared.tally.Tally.{Tally}
 use Rattle.msr_tool.specs.Fault.{fault_of_writing}
 use Rattle.msr_tool.specs.declared.fault.ToolFault.TheVariants.{Write}
-use Rattle.msr_tree.specs.Reads.{OnlyReads}
 use Rattle.msr_tree.specs.Steps.{Step}
-use Rattle.msr_trial.specs.Entries.{IsToldOfVisit, IsTrialEntry}
+use Rattle.msr_trial.specs.Entries.{IsTrialEntry}
 use Rattle.msr_trial.specs.Lines.{IsTrialLine}
-use Rattle.msr_trial.specs.Walk.{StopsTrial, TrialFinds, TellsTrial, TellsTried, Tries, TriesTree}
+use Rattle.msr_trial.specs.Walk.{StopsTrial, TellsArchive, TellsTried, TrialFinds, Tries, TriesTree}
 use Rattle.msr_trial.specs.declared.walk.Tried.{Tried}
 
 -- some more entries were told
@@ -73,11 +70,6 @@ walk_ends days out0 out1 out tally0 tally tried told prints end = record {
     end,
   );
 }
-
--- the visits of an archive were told
-abbrev pub TellsArchive : Trying → (before after : List Step → Type 0) (out0 out : Device) (tally0 tally : Tally) → Type 0
-TellsArchive asked = TellsWalk (TellsTrial asked.days) (IsToldOfVisit asked.root.now asked.days) OnlyReads asked.root.now
-    (λ past. AreEntriesOf past asked.root.now asked.below.items)
 
 pub tree_ends : (asked : Trying) (before after : List Step → Type 0) (out0 out1 out : Device) (tally0 tally : Tally) (tried : Tried)
     → (told : TellsArchive asked before after out0 out1 tally0 tally) → Takes out1 out (summary_by asked.days false told.told.told.entries)

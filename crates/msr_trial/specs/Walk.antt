@@ -2,8 +2,9 @@
 use Rattle.std.specs.Prelude.{◌≡◌, ◌⊎◌, ◌<◌, ℕ, false, List, Result, Ok, Err}
 use Rattle.msr_devices.specs.Device.{Device, Takes}
 use Rattle.msr_devices.specs.declared.fault.DeviceFault.{DeviceFault}
-use Rattle.msr_folders.specs.Entries.{Visit}
+use Rattle.msr_folders.specs.Entries.{AreEntriesOf, Visit}
 use Rattle.msr_folders.specs.Visits.{IsWalk, IsWalkInPart, StopsTelling, TellsThese}
+use Rattle.msr_folders.specs.Walks.{TellsWalk}
 use Rattle.msr_folders.specs.declared.found.WalkFound.{WalkFound}
 use Rattle.msr_folders.specs.declared.found.WalkFound.TheVariants.{Well, Unwell, NoDay}
 use Rattle.msr_options.specs.declared.days.DayOptions.{DayOptions}
@@ -14,14 +15,20 @@ use Rattle.msr_outcomes.specs.declared.tally.Tally.{Tally}
 use Rattle.msr_tool.specs.declared.fault.ToolFault.{ToolFault}
 use Rattle.msr_tool.specs.declared.fault.ToolFault.TheVariants.{Write, Memory}
 use Rattle.msr_tree.specs.Calls.{Goes}
+use Rattle.msr_tree.specs.Reads.{OnlyReads}
 use Rattle.msr_tree.specs.Steps.{Step}
-use Rattle.msr_trial.specs.Entries.{IsArchiveTried, IsTrialEntry}
+use Rattle.msr_trial.specs.Entries.{IsArchiveTried, IsToldOfVisit, IsTrialEntry}
 use Rattle.msr_trial.specs.Lines.{IsTrialLine}
 use Rattle.msr_trial.specs.declared.walk.Tried.{Tried}
 
 -- these entries were told
 abbrev pub TellsTrial : DayOptions → List Entry → Device → Device → Tally → Tally → Type 0
 TellsTrial days = TellsThese (IsTrialEntry days) (IsTrialLine days) IsTally
+
+-- the visits of an archive were told
+abbrev pub TellsArchive : Trying → (before after : List Step → Type 0) (out0 out : Device) (tally0 tally : Tally) → Type 0
+TellsArchive asked = TellsWalk (TellsTrial asked.days) (IsToldOfVisit asked.root.now asked.days) OnlyReads asked.root.now
+    (λ past. AreEntriesOf past asked.root.now asked.below.items)
 
 -- that was printed when the walk stopped
 abbrev pub StopsTrial : DayOptions → Device → Device → DeviceFault → Type 0

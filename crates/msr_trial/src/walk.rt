@@ -15,7 +15,7 @@ ghost use Rattle.msr_tree.specs.declared.kind.FileKind.{FileKind};
 ghost use Rattle.msr_tree.specs.declared.kind.FileKind.TheVariants.{Gone};
 ghost use Rattle.msr_trial.specs.Entries.{IsToldOfVisit, IsTrialEntry, IsTriedAs};
 ghost use Rattle.msr_trial.specs.Lines.{IsTrialLine};
-ghost use Rattle.msr_trial.specs.Walk.{StopsTrial, TellsTrial, Tries, TriesTree};
+ghost use Rattle.msr_trial.specs.Walk.{StopsTrial, TellsArchive, TellsTrial, Tries, TriesTree};
 
 use crate::day::try_day;
 use crate::line::line_of;
@@ -44,7 +44,7 @@ pub(crate) struct Trier<'a> {
     pub(crate) alloc: Global,
     pub(crate) asked: &'a Trying<'a>,
     /// The time by which it is told how old files are.
-    pub(crate) now: Time,
+    pub(crate) begun: Time,
 }
 
 /// Prints the line of an entry, unless it is left out, and counts it. The channel is that of a day, the reason that of the
@@ -92,7 +92,13 @@ impl Trier<'_> {
     {
         let channel = channel_text(self.alloc, name)?;
         let input = join(self.alloc, self.asked.root, path)?;
-        let outcome = try_day(tree, self.alloc, input.as_str(), &self.asked.days, self.now)?;
+        let outcome = try_day(
+            tree,
+            self.alloc,
+            input.as_str(),
+            &self.asked.days,
+            self.begun,
+        )?;
         tell(self, path, channel.as_str(), outcome, None, out, tally)
     }
 
@@ -190,6 +196,28 @@ impl EntryVisitor for Trier<'_> {
     fn leave_folder<T: Tree>(&self, _tree: &mut T, _tally: &mut Tally) {}
 }
 
+/// Tells of each entry of the archive.
+fn visit_archive<T: Tree, O: Sink>(
+    tree: &mut T,
+    trier: &Trier<'_>,
+    out: &mut O,
+    tally: &mut Tally,
+) -> Result<(), DeviceFault>
+    requires { CanCountCall (O.device out.old) }
+    ensures told { OnOk result (TellsArchive trier.now.asked.now (T.went tree.old) (T.went tree.new)
+        (O.device out.old) (O.device out.new) tally.old tally.new) }
+    ensures stops { IfErr result (StopsTrial trier.now.asked.now.days (O.device out.old) (O.device out.new)) }
+    ensures reads { Goes (T.went tree.old) (T.went tree.new) OnlyReads }
+{
+    let walk = EntryWalk {
+        alloc: trier.alloc,
+        root: trier.asked.root,
+        below: trier.asked.below.as_slice(),
+        visitor: trier,
+    };
+    visit_entries(&walk, tree, out, tally)
+}
+
 /// Walks the archive, or the folders of it that are asked for, and tells what repacking each day would give, whether an entry
 /// was refused, whether there was a day, and what of the first one could not be opened. By the time of now it is told how
 /// old files are.
@@ -214,13 +242,12 @@ pub fn trial<'a, T: Tree, O: Sink>(
     ensures reads { Goes (T.went tree.old) (T.went tree.new) OnlyReads }
 {
     let mut tally = Tally::new(alloc);
-    let walk = EntryWalk {
+    let trier = Trier {
         alloc,
-        root: asked.root,
-        below: asked.below.as_slice(),
-        visitor: &Trier { alloc, asked, now },
+        asked,
+        begun: now,
     };
-    visit_entries(&walk, tree, out, &mut tally)?;
+    visit_archive(tree, &trier, out, &mut tally)?;
     write_sums(alloc, out, &asked.days, false, &tally)?;
     Ok(Tried {
         found: WalkFound::of(tally.refused, tally.done.saturating_add(tally.young)),

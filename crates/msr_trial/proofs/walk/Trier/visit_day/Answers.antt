@@ -36,16 +36,16 @@ pub returns-clause-told : goal.returns-clause-told
 returns-clause-told g c =
     let days = c.args.self.now.asked.now.days in
     let root = c.args.self.now.asked.now.root.now in
-    let day : IsDayOf c.args.path.now c.as_str.result.now = search rules in
-    let at : c.as_str-2.result.now ≡ joined root c.args.path.now = search rules in
-    let is : IsTriedAs days c.args.path.now c.as_str.result.now c.in_ok-outcome.outcome = tried_as days _ _ _ day c.in_ok-outcome.ensures.told in
-    λ kind there. on_ok_as c.tell.result (λ told. visited_day days root c.args.path.now c.as_str.result.now c.in_ok-outcome.outcome kind
+    let day : IsDayOf c.args.path.now c.as_str-2.result.now = search rules in
+    let at : c.as_str.result.now ≡ joined root c.args.path.now = search rules in
+    let is : IsTriedAs days c.args.path.now c.as_str-2.result.now c.in_ok-outcome.outcome = tried_as days _ _ _ day c.in_ok-outcome.ensures.told in
+    λ kind there. on_ok_as c.tell.result (λ told. visited_day days root c.args.path.now c.as_str-2.result.now c.in_ok-outcome.outcome kind
     (g.T.Tree.went c.args.tree.now) (g.T.Tree.went c.try_day.new.tree) (g.O.Sink.device c.args.out.now) (g.O.Sink.device c.tell.new.out)
     c.args.tally.now c.tell.new.tally there (c.args.name.now, c.requires.day) (rw at at c.in_ok-outcome.ensures.goes) told) (c.tell.ensures.told is)
 
 pub returns-clause-stops : goal.returns-clause-stops
 returns-clause-stops g c =
-    let day : IsDayOf c.args.path.now c.as_str.result.now = search rules in
+    let day : IsDayOf c.args.path.now c.as_str-2.result.now = search rules in
     c.tell.ensures.stops (tried_as c.args.self.now.asked.now.days _ _ _ day c.in_ok-outcome.ensures.told)
 
 pub returns-clause-does : goal.returns-clause-does
