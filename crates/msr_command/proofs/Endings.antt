@@ -1,6 +1,6 @@
 -- How tasks end: done, stopped, or before they begin.
 use Rattle.std.specs.Prelude.{◌↔◌, ⊤, IsSomeAnd, IsTrue, Option, None, Some, String, string_bytes, vec_len}
-use Rattle.std.proofs.Common.{◌≡◌, ◌∙◌, ℕ, Bool, List, [], refl, subst, sym, inl, inr, append-nil, Result, Ok, Err, ◌≢◌, true, codes}
+use Rattle.std.proofs.Common.{◌≡◌, ◌∙◌, ℕ, Bool, List, [], refl, subst, sym, inl, inr, append-nil, Result, Ok, Err, ◌≢◌, true, false, codes}
 use Rattle.msr_devices.specs.Device.{Device, HasLeft, Takes}
 use Rattle.msr_devices.proofs.Chaining.{left_of, takes_append, takes_none}
 use Rattle.msr_report.specs.declared.report.Report.{Report}
@@ -21,7 +21,7 @@ use Rattle.msr_folders.specs.declared.found.WalkFound.{WalkFound}
 use Rattle.msr_folders.specs.Visits.{IsWalk}
 use Rattle.msr_outcomes.specs.Known.{IsEntry}
 use Rattle.msr_outcomes.specs.Lines.{IsEntryLine}
-use Rattle.msr_outcomes.specs.Summary.{summary}
+use Rattle.msr_outcomes.specs.Summary.{summary, summary_by}
 use Rattle.msr_walk.specs.Walk.{Walks}
 use Rattle.msr_walk.specs.declared.folders.Walked.{Walked}
 use Rattle.msr_trial.specs.Entries.{IsTrialEntry}
@@ -46,7 +46,7 @@ use Rattle.msr_tree.specs.Steps.{Path, Step}
 use Rattle.msr_options.specs.declared.task.Checking.{Checking}
 use Rattle.msr_command.proofs.Comparisons.{compare_unsettled, two_after, two_none}
 use Rattle.msr_command.proofs.Inputs.{unread_unopened}
-use Rattle.msr_command.specs.Ends.{Checks, ComesNamed, Does, EndsClosed, EndsReplacing, Feeds, FeedAnswers, FeedEnds, FeedsTo, HasOpened, IsUncreated, IsUnbegun, IsUnread, ListEnds, ListsNamed, IsOverlapOrMemory, Over, RepackEnds, Repacks, RepacksNamed, ReplaceEnds, ReplacesArchive, VerifiesArchive, WalksArchive, done_of_archive, done_of_verifying, is_whole, TriesArchive, VerifiesKnown, WalksKnown, IsArchivingRead, IsUnwalked, IsVerifyingRead, done_of_trial, IsKnownRead, IsUnknown}
+use Rattle.msr_command.specs.Ends.{Checks, ComesNamed, Does, EndsClosed, EndsReplacing, Feeds, FeedAnswers, FeedEnds, FeedsTo, HasOpened, IsUncreated, IsUnbegun, IsUnread, ListEnds, ListsNamed, IsOverlapOrMemory, Over, RepackEnds, Repacks, RepacksNamed, ReplaceEnds, ReplacesArchive, VerifiesArchive, WalksArchive, done_of_archive, done_of_verifying, is_whole, TriesArchive, VerifiesKnown, WalksKnown, IsArchivingRead, IsUnwalked, IsVerifyingRead, done_of_trial, IsKnownRead, IsUnknown, NamesFile}
 use denote.Ref.{Bor}
 
 -- nothing was printed
@@ -281,8 +281,13 @@ known_same (File name) other = absurd (other name refl)
 known_same (Lines lines) other = refl
 
 -- the lines of a file are known
-pub known_lines : (asked read : Known) (name : Bor (List ℕ)) → asked ≡ File name → knows_any read ≡ true → IsKnownRead asked read
-known_lines asked read name is knows = rw is knows
+pub known_lines : (asked read : Known) → NamesFile asked → knows_any read ≡ true → IsKnownRead asked read
+known_lines Nothing read named knows = absurd named
+known_lines (File name) read named knows = knows
+known_lines (Lines lines) read named knows = absurd named
+
+pub names_file : (asked : Known) (name : Bor (List ℕ)) → asked ≡ File name → NamesFile asked
+names_file asked name is = rw is tt
 
 -- which could not be read
 pub unread : (asked : Known) (name : Bor (List ℕ)) (stop : TaskFault) → asked ≡ File name → IsUnknown stop → IsUnwalked asked stop
@@ -427,7 +432,7 @@ task_unsettled went (Archive asked) standard out0 out done does =
     }
 task_unsettled went (Trial asked) standard out0 out done does =
     let P : List ℕ → Type 0 = λ text.
-    IsWalk (IsTrialEntry asked.days) (IsTrialLine asked.days) (summary asked.days) text does.ends.walk.0 in
+    IsWalk (IsTrialEntry asked.days) (IsTrialLine asked.days) (summary_by asked.days false) text does.ends.walk.0 in
     record {
       printed = does.printed;
       prints = does.prints;
