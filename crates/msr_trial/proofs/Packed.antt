@@ -1,13 +1,12 @@
 -- What repacking a day's file gave, put together from what was done.
-use Rattle.std.proofs.Common.{◌≡◌, ◌<◌, ℕ, false, List, refl, sym, ◌∙◌, ap, subst, length, Some, None, Result, Ok, Err, Option, IfOk, option_map, arith}
+use Rattle.std.proofs.Common.{◌≡◌, ◌<◌, ℕ, false, List, sym, ◌∙◌, ap, subst, length, Some, None, Result, Ok, Err, IfOk, option_map, arith}
 use Rattle.std.specs.declared.alloc.AllocError.{AllocError}
 use Rattle.msr_devices.specs.Device.{Device, HasLeft, unused}
 use Rattle.msr_folders.proofs.WalkedLemmas.{goes_so, goes_then}
 use Rattle.msr_kinds.specs.declared.lengths.Length.{Length}
 use Rattle.msr_making.proofs.Sights.{found_length, tells_failed}
-use Rattle.msr_making.specs.Day.{AsksForAge, CountAnswers, RepacksDay}
-use Rattle.msr_making.specs.declared.answer.DayFault.{DayFault}
-use Rattle.msr_making.specs.declared.answer.DayFault.TheVariants.{CannotOpen, Changed, ClaimedByAnother, Differs, Gone, Larger, Listing, NotShown, Shrunk, Tool}
+use Rattle.msr_making.specs.Day.{AsksForAge, RepacksDay}
+use Rattle.msr_making.specs.declared.answer.DayFault.TheVariants.{CannotOpen, Gone, Listing, Tool}
 use Rattle.msr_making.specs.declared.answer.Repacked.{Repacked}
 use Rattle.msr_options.specs.Choice.{Choice}
 use Rattle.msr_options.specs.Days.{in_length}
@@ -16,17 +15,17 @@ use Rattle.msr_options.specs.declared.hint.Unopened.{Unopened}
 use Rattle.msr_outcomes.specs.Entries.{IsDayOf}
 use Rattle.msr_outcomes.specs.Outcomes.{IsForDay}
 use Rattle.msr_outcomes.specs.declared.outcome.Outcome.{Outcome}
-use Rattle.msr_outcomes.specs.declared.outcome.Outcome.TheVariants.{Done, Refused, Same, Skipped, Young}
+use Rattle.msr_outcomes.specs.declared.outcome.Outcome.TheVariants.{Done, Refused, Skipped, Young}
 use Rattle.msr_tool.specs.declared.fault.ToolFault.{ToolFault}
-use Rattle.msr_tree.proofs.Reading.{failures_read, look_reads, looks_none, looks_then, now_read, tells_looks}
+use Rattle.msr_tree.proofs.Reading.{failures_read, look_reads, looks_then, now_read, tells_looks}
 use Rattle.msr_tree.specs.Calls.{Goes, Looks, Opens, Tells}
 use Rattle.msr_tree.specs.Reads.{OnlyLooks}
 use Rattle.msr_tree.specs.Steps.{Path, Step, failures, now, seen}
 use Rattle.msr_tree.specs.declared.facts.Facts.{Facts}
 use Rattle.msr_tree.specs.declared.tree.TreeFault.{TreeFault}
 use Rattle.msr_tree.specs.declared.tree.TreeFault.TheVariants as fault
-use Rattle.msr_trial.specs.Days.{IsDayTried, IsOpened, IsPackedThere, IsTriedInLength, IsTriedThere, OpensDay, OutcomeAnswers, PacksFrom, TriesDay, TriesFile, WasPacked, WasTried, WasTriedFor, WasTriedInLength}
-use Rattle.msr_trial.specs.Entries.{IsTriedAs, IsTriedDay}
+use Rattle.msr_trial.specs.Days.{IsDayTried, IsOpened, IsTriedThere, OpensDay, OutcomeAnswers, PacksFrom, TriesDay, TriesFile, WasTried, WasTriedFor}
+use Rattle.msr_trial.specs.Entries.{IsTriedAs}
 use Rattle.msr_trial.specs.declared.day.OpenDay.{OpenDay}
 
 -- a repack that was counted

@@ -1,5 +1,5 @@
 -- Walks put together from the entries that were told.
-use Rattle.std.proofs.Common.{◌≡◌, ◌↔◌, ◌+◌, ◌-◌, ◌^◌, min, ℕ, List, ◌++◌, arith, refl, subst, Ok, Err, IsErrOf}
+use Rattle.std.proofs.Common.{◌↔◌, ◌+◌, ◌-◌, ◌^◌, min, ℕ, List, ◌++◌, arith, refl, subst, Ok, Err, IsErrOf}
 use Rattle.msr_devices.specs.Device.{Device, HasFailed, Takes}
 use Rattle.msr_devices.specs.declared.fault.DeviceFault.{DeviceFault}
 use Rattle.msr_devices.specs.declared.fault.DeviceFault.TheVariants.{Failed, Memory}
