@@ -6,10 +6,10 @@ use Rattle.msr_options.specs.declared.days.DayOptions.{DayOptions}
 use Rattle.msr_outcomes.specs.Lines.{IsEntryLine}
 use Rattle.msr_outcomes.specs.declared.outcome.Outcome.{Outcome}
 use Rattle.msr_outcomes.specs.declared.outcome.Outcome.TheVariants.{Done}
-use Rattle.msr_trial.specs.Lines.{IsLineOf, IsTrialLine}
+use Rattle.msr_trial.specs.Lines.{IsTrialLineOf, IsTrialLine}
 
 line_is : (asked : DayOptions) (path channel : List ℕ) (outcome : Outcome) (line : List ℕ) → ((repacked : Repacked) → outcome ≡ Done repacked → ⊥)
-    → IsEntryLine asked (record { path = path; channel = channel; outcome = outcome }) line → IsLineOf asked path channel outcome line
+    → IsEntryLine asked (record { path = path; channel = channel; outcome = outcome }) line → IsTrialLineOf asked path channel outcome line
 line_is asked path channel (Done repacked) line not is = absurd (not repacked refl)
 line_is asked path channel outcome line not is = is
 
