@@ -3,14 +3,13 @@ use Rattle.std.proofs.Common.{◌≡◌, ℕ, List, refl, Result, Ok, Err, IfOk,
 use Rattle.std.specs.declared.alloc.AllocError.{AllocError}
 use Rattle.msr_making.specs.declared.answer.Repacked.{Repacked}
 use Rattle.msr_options.specs.declared.days.DayOptions.{DayOptions}
-use Rattle.msr_outcomes.specs.Entries.{Entry}
 use Rattle.msr_outcomes.specs.Lines.{IsLineBy}
 use Rattle.msr_outcomes.specs.declared.outcome.Outcome.{Outcome}
 use Rattle.msr_outcomes.specs.declared.outcome.Outcome.TheVariants.{Done}
-use Rattle.msr_trial.specs.Lines.{IsLineOf, IsTrialLine}
+use Rattle.msr_trial.specs.Lines.{IsTrialLineOf, IsTrialLine}
 
 line_is : (asked : DayOptions) (path channel : List ℕ) (outcome : Outcome) (line : List ℕ) → ((repacked : Repacked) → outcome ≡ Done repacked → ⊥)
-    → IsLineBy asked (record { path = path; channel = channel; outcome = outcome }) line → IsLineOf asked path channel outcome line
+    → IsLineBy asked (record { path = path; channel = channel; outcome = outcome }) line → IsTrialLineOf asked path channel outcome line
 line_is asked path channel (Done repacked) line not is = absurd (not repacked refl)
 line_is asked path channel outcome line not is = is
 

@@ -26,7 +26,7 @@ use Rattle.msr_tree.specs.declared.kind.FileKind.{FileKind}
 use Rattle.msr_tree.specs.declared.kind.FileKind.TheVariants.{Gone}
 use Rattle.std.specs.declared.alloc.AllocError.{AllocError}
 use Rattle.msr_trial.specs.Days.{TriesDay}
-use Rattle.msr_trial.specs.Entries.{IsToldOfVisit, IsTrialEntry}
+use Rattle.msr_trial.specs.Entries.{IsTrialOfVisit, IsTrialEntry}
 use Rattle.msr_trial.specs.Lines.{IsTrialLine}
 use Rattle.msr_trial.specs.Walk.{StopsTrial, TellsTrial}
 
@@ -55,7 +55,7 @@ unlisted_entry path = record { path = path; channel = []; outcome = Refused List
 
 module _ (days : DayOptions) (root : Path) where
   abbrev pub TellsOf : Visit → (before after : List Step → Type 0) (out0 out : Device) (tally0 tally : Tally) → Type 0
-  TellsOf = TellsVisit (TellsTrial days) (IsToldOfVisit root days) OnlyReads
+  TellsOf = TellsVisit (TellsTrial days) (IsTrialOfVisit root days) OnlyReads
 
   -- a day
   pub visited_day : (path channel : Path) (outcome : Outcome) (kind : FileKind) (before after : List Step → Type 0) (out0 out : Device) (tally0 tally : Tally)
@@ -82,7 +82,7 @@ module _ (days : DayOptions) (root : Path) where
 
   -- where nothing is done
   told_still : (visit : Visit) (entry : Entry) (before : List Step → Type 0) (out0 out : Device) (tally0 tally : Tally)
-      → ((past : List Step) → IsToldOfVisit root days past past visit (entry ∷ []))
+      → ((past : List Step) → IsTrialOfVisit root days past past visit (entry ∷ []))
       → TellsTrial days (entry ∷ []) out0 out tally0 tally → TellsOf visit before before out0 out tally0 tally
   told_still visit entry before out0 out tally0 tally so told = record {
     lines = entry ∷ [];

@@ -1,5 +1,5 @@
 -- Walks put together from the entries that were told.
-use Rattle.std.proofs.Common.{◌≡◌, ◌↔◌, ◌+◌, ◌-◌, ◌^◌, min, ℕ, false, List, ◌++◌, arith, refl, subst, Ok, Err, IsErrOf}
+use Rattle.std.proofs.Common.{◌↔◌, ◌+◌, ◌-◌, ◌^◌, min, ℕ, false, List, ◌++◌, arith, refl, subst, Ok, Err, IsErrOf}
 use Rattle.msr_devices.specs.Device.{Device, HasFailed, Takes}
 use Rattle.msr_devices.specs.declared.fault.DeviceFault.{DeviceFault}
 use Rattle.msr_devices.specs.declared.fault.DeviceFault.TheVariants.{Failed, Memory}
@@ -19,7 +19,7 @@ use Rattle.msr_tool.specs.declared.fault.ToolFault.TheVariants.{Write}
 use Rattle.msr_tree.specs.Steps.{Step}
 use Rattle.msr_trial.specs.Entries.{IsTrialEntry}
 use Rattle.msr_trial.specs.Lines.{IsTrialLine}
-use Rattle.msr_trial.specs.Walk.{StopsTrial, TellsArchive, TellsTried, TrialFinds, Tries, TriesTree}
+use Rattle.msr_trial.specs.Walk.{StopsTrial, TellsTrialOf, TellsTried, TrialFinds, Tries, TriesTree}
 use Rattle.msr_trial.specs.declared.walk.Tried.{Tried}
 
 -- some more entries were told
@@ -72,7 +72,7 @@ walk_ends days out0 out1 out tally0 tally tried told prints end = record {
 }
 
 pub tree_ends : (asked : Trying) (before after : List Step → Type 0) (out0 out1 out : Device) (tally0 tally : Tally) (tried : Tried)
-    → (told : TellsArchive asked before after out0 out1 tally0 tally) → Takes out1 out (summary_by asked.days false told.told.told.entries)
+    → (told : TellsTrialOf asked before after out0 out1 tally0 tally) → Takes out1 out (summary_by asked.days false told.told.told.entries)
     → TellsTried told.told.told.entries tried → TriesTree asked before after out0 out tried
 tree_ends asked before after out0 out1 out tally0 tally tried told prints end =
     let these = told.told.told in

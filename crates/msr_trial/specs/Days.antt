@@ -78,15 +78,15 @@ IsDayTried days path Young old new = AsksForAge days
 IsDayTried days path outcome old new = IsTriedInLength days path outcome old new
 
 -- A file was opened and looked at, or a call failed.
-abbrev pub IsOpened : {R : Type 0} → Path → (R → Device) → Result (OpenDay R) TreeFault → (old new : List Step) → Type 0
-IsOpened path device (Ok day) old new =
+abbrev pub IsDayOpened : {R : Type 0} → Path → (R → Device) → Result (OpenDay R) TreeFault → (old new : List Step) → Type 0
+IsDayOpened path device (Ok day) old new =
     (input : List ℕ) × (seen old path ≡ Some input) × (device day.source ≡ unused (Some input)) × (day.bytes ≡ length input)
-IsOpened path device (Err Failed) old new = failures old < failures new
-IsOpened path device (Err Memory) old new = ⊤
+IsDayOpened path device (Err Failed) old new = failures old < failures new
+IsDayOpened path device (Err Memory) old new = ⊤
 
 pub record OpensDay {R : Type 0} (path : Path) (device : R → Device) (result : Result (OpenDay R) TreeFault) (old new : List Step) : Type 0 where
   pub looks : OnlyLooks old new
-  pub opens : IsOpened path device result old new
+  pub opens : IsDayOpened path device result old new
 
 -- A file was tried, and nothing changed.
 pub record TriesFile (choice : Choice) (path : Path) (result : Result Outcome AllocError) (old new : List Step) : Type 0 where

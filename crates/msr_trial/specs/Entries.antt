@@ -34,21 +34,21 @@ pub record IsTrialEntry (days : DayOptions) (entry : Entry) : Type 0 where
 
 -- What is told of an entry, by what the names lead to: that it is gone, what repacking it would give if it is a day, and
 -- else why it is none.
-pub record IsToldOfPath (days : DayOptions) (root path : Path) (kind : FileKind) (outcome : Outcome) (old new : List Step) : Type 0 where
+pub record IsTrialOfPath (days : DayOptions) (root path : Path) (kind : FileKind) (outcome : Outcome) (old new : List Step) : Type 0 where
   pub gone : kind ≡ Gone → outcome ≡ Refused WasGone
   pub day : kind ≢ Gone → IsDay path → IsDayTried days (joined root path) outcome old new
   pub other : kind ≢ Gone → ¬ (IsDay path) → (fault : SdsFault) × IsNoDay path fault × (outcome ≡ Skipped fault)
 
 -- the one entry that is told of a visit
-abbrev pub IsToldOfVisit : (root : Path) → DayOptions → (old new : List Step) → Visit → List Entry → Type 0
-IsToldOfVisit root days old new (Found path kind) entries = (channel : Path) × (outcome : Outcome)
+abbrev pub IsTrialOfVisit : (root : Path) → DayOptions → (old new : List Step) → Visit → List Entry → Type 0
+IsTrialOfVisit root days old new (Found path kind) entries = (channel : Path) × (outcome : Outcome)
     × (entries ≡ record { path = path; channel = channel; outcome = outcome } ∷ [])
-    × IsToldOfPath days root path kind outcome old new
-IsToldOfVisit root days old new (WithoutList folder) entries =
+    × IsTrialOfPath days root path kind outcome old new
+IsTrialOfVisit root days old new (WithoutList folder) entries =
     entries ≡ record { path = told_folder folder; channel = []; outcome = Refused Listing } ∷ []
 
 -- What was told of an archive: of each entry, in order, by what its name led to. Nothing was changed.
 abbrev pub IsArchiveTried : Trying → List Visit → List Entry → (old new : List Step) → Type 0
 IsArchiveTried asked visits entries old new =
-    IsWalked (IsToldOfVisit asked.root.now asked.days) OnlyReads asked.root.now
+    IsWalked (IsTrialOfVisit asked.root.now asked.days) OnlyReads asked.root.now
     (λ past. AreEntriesOf past asked.root.now asked.below.items) visits entries old new

@@ -29,9 +29,9 @@ abbrev pub would_told : DayOptions → List ℕ → Repacked → List ℕ
 would_told asked path repacked = cond asked.telling.quiet [] (would_line asked path repacked)
 
 -- what is printed of an entry: of what is no such day that which the repack prints
-abbrev pub IsLineOf : DayOptions → (path channel : List ℕ) → Outcome → List ℕ → Type 0
-IsLineOf asked path channel (Done repacked) line = line ≡ would_told asked path repacked
-IsLineOf asked path channel outcome line = IsLineBy asked (record { path = path; channel = channel; outcome = outcome }) line
+abbrev pub IsTrialLineOf : DayOptions → (path channel : List ℕ) → Outcome → List ℕ → Type 0
+IsTrialLineOf asked path channel (Done repacked) line = line ≡ would_told asked path repacked
+IsTrialLineOf asked path channel outcome line = IsLineBy asked (record { path = path; channel = channel; outcome = outcome }) line
 
 pub record IsTrialLine (asked : DayOptions) (entry : Entry) (line : List ℕ) : Type 0 where
-  pub is : IsLineOf asked entry.path entry.channel entry.outcome line
+  pub is : IsTrialLineOf asked entry.path entry.channel entry.outcome line

@@ -17,7 +17,7 @@ use Rattle.msr_tool.specs.declared.fault.ToolFault.TheVariants.{Write, Memory}
 use Rattle.msr_tree.specs.Calls.{Goes}
 use Rattle.msr_tree.specs.Reads.{OnlyReads}
 use Rattle.msr_tree.specs.Steps.{Step}
-use Rattle.msr_trial.specs.Entries.{IsArchiveTried, IsToldOfVisit, IsTrialEntry}
+use Rattle.msr_trial.specs.Entries.{IsArchiveTried, IsTrialOfVisit, IsTrialEntry}
 use Rattle.msr_trial.specs.Lines.{IsTrialLine}
 use Rattle.msr_trial.specs.declared.walk.Tried.{Tried}
 
@@ -26,8 +26,8 @@ abbrev pub TellsTrial : DayOptions → List Entry → Device → Device → Tall
 TellsTrial days = TellsThese (IsTrialEntry days) (IsTrialLine days) IsTally
 
 -- the visits of an archive were told
-abbrev pub TellsArchive : Trying → (before after : List Step → Type 0) (out0 out : Device) (tally0 tally : Tally) → Type 0
-TellsArchive asked = TellsWalk (TellsTrial asked.days) (IsToldOfVisit asked.root.now asked.days) OnlyReads asked.root.now
+abbrev pub TellsTrialOf : Trying → (before after : List Step → Type 0) (out0 out : Device) (tally0 tally : Tally) → Type 0
+TellsTrialOf asked = TellsWalk (TellsTrial asked.days) (IsTrialOfVisit asked.root.now asked.days) OnlyReads asked.root.now
     (λ past. AreEntriesOf past asked.root.now asked.below.items)
 
 -- that was printed when the walk stopped

@@ -13,9 +13,9 @@ ghost use Rattle.msr_tree.specs.Calls.{Goes};
 ghost use Rattle.msr_tree.specs.Reads.{OnlyReads};
 ghost use Rattle.msr_tree.specs.declared.kind.FileKind.{FileKind};
 ghost use Rattle.msr_tree.specs.declared.kind.FileKind.TheVariants.{Gone};
-ghost use Rattle.msr_trial.specs.Entries.{IsToldOfVisit, IsTrialEntry, IsTriedAs};
+ghost use Rattle.msr_trial.specs.Entries.{IsTrialOfVisit, IsTrialEntry, IsTriedAs};
 ghost use Rattle.msr_trial.specs.Lines.{IsTrialLine};
-ghost use Rattle.msr_trial.specs.Walk.{StopsTrial, TellsArchive, TellsTrial, Tries, TriesTree};
+ghost use Rattle.msr_trial.specs.Walk.{StopsTrial, TellsTrialOf, TellsTrial, Tries, TriesTree};
 
 use crate::day::try_day;
 use crate::line::line_of;
@@ -85,7 +85,7 @@ impl Trier<'_> {
         requires day { ReadsAsDay path.now name.now }
         requires count { CanCountCall (O.device out.old) }
         ensures told { (kind : FileKind) → kind ≢ Gone → OnOk result (TellsVisit (TellsTrial self.now.asked.now.days)
-            (IsToldOfVisit self.now.asked.now.root.now self.now.asked.now.days) OnlyReads (Found path.now kind)
+            (IsTrialOfVisit self.now.asked.now.root.now self.now.asked.now.days) OnlyReads (Found path.now kind)
             (T.went tree.old) (T.went tree.new) (O.device out.old) (O.device out.new) tally.old tally.new) }
         ensures stops { IfErr result (StopsTrial self.now.asked.now.days (O.device out.old) (O.device out.new)) }
         ensures does { Goes (T.went tree.old) (T.went tree.new) (VisitDoes OnlyReads) }
@@ -112,7 +112,7 @@ impl Trier<'_> {
     ) -> Result<(), DeviceFault>
         requires { CanCountCall (O.device out.old) }
         ensures told { (kind : FileKind) → kind ≢ Gone → OnOk result (TellsVisit (TellsTrial self.now.asked.now.days)
-            (IsToldOfVisit self.now.asked.now.root.now self.now.asked.now.days) OnlyReads (Found path.now kind)
+            (IsTrialOfVisit self.now.asked.now.root.now self.now.asked.now.days) OnlyReads (Found path.now kind)
             (T.went tree.old) (T.went tree.new) (O.device out.old) (O.device out.new) tally.old tally.new) }
         ensures stops { IfErr result (StopsTrial self.now.asked.now.days (O.device out.old) (O.device out.new)) }
         ensures does { Goes (T.went tree.old) (T.went tree.new) (VisitDoes OnlyReads) }
@@ -135,7 +135,7 @@ impl EntryVisitor for Trier<'_> {
 
     ghost stops = { λ trier. StopsTrial trier.asked.now.days };
 
-    ghost says = { λ trier. IsToldOfVisit trier.asked.now.root.now trier.asked.now.days };
+    ghost says = { λ trier. IsTrialOfVisit trier.asked.now.root.now trier.asked.now.days };
 
     ghost does = { λ _. OnlyReads };
 
@@ -204,7 +204,7 @@ fn visit_archive<T: Tree, O: Sink>(
     tally: &mut Tally,
 ) -> Result<(), DeviceFault>
     requires { CanCountCall (O.device out.old) }
-    ensures told { OnOk result (TellsArchive trier.now.asked.now (T.went tree.old) (T.went tree.new)
+    ensures told { OnOk result (TellsTrialOf trier.now.asked.now (T.went tree.old) (T.went tree.new)
         (O.device out.old) (O.device out.new) tally.old tally.new) }
     ensures stops { IfErr result (StopsTrial trier.now.asked.now.days (O.device out.old) (O.device out.new)) }
     ensures reads { Goes (T.went tree.old) (T.went tree.new) OnlyReads }

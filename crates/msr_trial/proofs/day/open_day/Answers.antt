@@ -1,5 +1,5 @@
 use Rattle.std.proofs.lemmas.Result.{err_from_is_err_and}
-use Rattle.msr_trial.proofs.Packed.{looked, not_looked, not_opened, nothing_there}
+use Rattle.msr_trial.proofs.Packed.{not_looked, not_opened}
 use Rattle.msr_trial.proofs.day.open_day.Goals as goal
 
 pub returns-in_err-source-clause-goes : goal.returns-in_err-source-clause-goes

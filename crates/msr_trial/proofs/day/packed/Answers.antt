@@ -1,2 +1,0 @@
-use Rattle.msr_trial.proofs.Packed.{packed_done, packed_fault}
-use Rattle.msr_trial.proofs.day.packed.Goals as goal
