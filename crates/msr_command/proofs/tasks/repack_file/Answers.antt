@@ -6,7 +6,7 @@ use Rattle.msr_command.proofs.tasks.repack_file.Goals as goal
 
 pub returns-in-Err : goal.returns-in-Err
 returns-in-Err g c =
-    repack_unread c.args.asked.now.options (g.F.NamedFiles.went c.args.files.now) c.args.asked.now.input.now
+    repack_unread (g.F.NamedFiles.went c.args.files.now) (g.F.NamedFiles.went c.args.files.now) c.args.asked.now
     (g.I.Source.device c.args.input.now) (g.O.Sink.device c.args.output.now) c.in-Err.fault c.in-Err.ensures.stop
 
 pub returns-in-None : goal.returns-in-None
