@@ -179,13 +179,17 @@ repack_done choice source records0 records out0 out report in_turns does turns =
   printed = does.told;
   come = λ opened. does.left;
   prints = does.told_all;
-  ends = (in_turns, refl, record {
-    written = does.written;
-    output = does.wrote;
-    report = report;
-    reported = does.answers;
-    turns = turns;
-  });
+  ends = (
+    in_turns,
+    refl,
+    record {
+      written = does.written;
+      output = does.wrote;
+      report = report;
+      reported = does.answers;
+      turns = turns;
+    },
+  );
 }
 
 pub repack_stops : (choice : Choice) (source records0 records out0 out : Device) (why : ToolFault) →
@@ -224,12 +228,15 @@ pub fed : (before after : List Step → Type 0) (asked : Feeding) (holds : List 
     ((told : List ℕ) → holds told → GetsReport before after asked.report.now told) →
     FeedsTo asked.options holds source out0 out (Ok tt) → Feeds before after asked source out0 out (Ok Written)
 fed before after asked holds source out0 out so does = over_said ⊤ (HasLeft source) _ _ out0 out
-    (λ input printed ends. (refl, record {
-      told = ends.told;
-      output = so ends.told ends.output;
-      report = ends.report;
-      reported = ends.reported;
-    })) does
+    (λ input printed ends. (
+      refl,
+      record {
+        told = ends.told;
+        output = so ends.told ends.output;
+        report = ends.report;
+        reported = ends.reported;
+      },
+    )) does
 
 pub unfed : (before after : List Step → Type 0) (asked : Feeding) (holds : List ℕ → Type 0) (source out0 out : Device)
     (why : ToolFault) → ((told : List ℕ) → holds told → GetsNoReport before after asked.report.now told) →
@@ -361,13 +368,17 @@ if_tool Closed so is = is
 repack_elsewhere : (choice : Choice) {holds others : List ℕ → Type 0} (result : Result Done TaskFault) (input printed : List ℕ) →
     ((written : List ℕ) → holds written → others written) → RepackEnds choice holds result input printed →
     RepackEnds choice others result input printed
-repack_elsewhere choice (Ok done) input printed so ends = (ends.0, ends.1, record {
-  written = ends.2.written;
-  output = so ends.2.written ends.2.output;
-  report = ends.2.report;
-  reported = ends.2.reported;
-  turns = ends.2.turns;
-})
+repack_elsewhere choice (Ok done) input printed so ends = (
+  ends.0,
+  ends.1,
+  record {
+    written = ends.2.written;
+    output = so ends.2.written ends.2.output;
+    report = ends.2.report;
+    reported = ends.2.reported;
+    turns = ends.2.turns;
+  },
+)
 repack_elsewhere choice (Err stop) input printed so (inl stops) = inl (if_tool stop
     (λ why it. record { written = it.written; output = so it.written it.output; answers = it.answers }) stops)
 repack_elsewhere choice (Err stop) input printed so (inr unread) = inr unread

@@ -29,9 +29,9 @@ pub leads_to : {went : List Step → Type 0} {name : Path} {device : Device} {in
     HasLeft device input → LeadsTo went name input
 leads_to {went} {name} {device} {input} reader left = record {
   leads = λ past is.
-    let o = reader.opens past is in
-    let same : o.0 ≡ input = subst (λ it. HasLeft it input) o.2 left in
-    o.1 ∙ ap (λ bytes. Some bytes) same;
+      let o = reader.opens past is in
+      let same : o.0 ≡ input = subst (λ it. HasLeft it input) o.2 left in
+      o.1 ∙ ap (λ bytes. Some bytes) same;
 }
 
 pub comes_file : {is_standard : Type 0} {went : List Step → Type 0} {name : Path} {standard device : Device} {input : List ℕ} →
@@ -66,12 +66,15 @@ pub goes_on : {R S T : (old new : List Step) → Type 0} {one mid two : List Ste
     ((old between new : List Step) → R old between → S between new → T old new) → Goes one mid R → Goes mid two S → Goes one two T
 goes_on so first second = record {
   from = λ new went.
-    let later = second.from new went in
-    let sooner = first.from later.0 later.1 in
-    (sooner.0, sooner.1, so sooner.0 later.0 new sooner.2 later.2);
+      let later = second.from new went in
+      let sooner = first.from later.0 later.1 in
+      (sooner.0, sooner.1, so sooner.0 later.0 new sooner.2 later.2);
 }
 
 -- nothing was done
+pub goes_still : {one : List Step → Type 0} → Goes one one (λ old new. new ≡ old)
+goes_still = record { from = λ new went. (new, went, refl) }
+
 pub still_only : {one : List Step → Type 0} (name : Path) → Goes one one (ChangesOnly (name ∷ []))
 still_only name = record { from = λ new went. (new, went, changes_none (name ∷ []) new) }
 

@@ -215,14 +215,14 @@ CheckEnds input text printed result =
 
 -- Checking the records that one name leads to with the report that the other does, and what was printed.
 pub record Checks (went : List Step → Type 0) (asked : Checking) (out0 out : Device) (result : Result Done TaskFault) : Type 0
-    where
-  pub input : List ℕ
-  pub text : List ℕ
-  pub printed : List ℕ
-  pub packed : HasOpened result → LeadsTo went asked.packed.now input
-  pub report : HasOpened result → LeadsTo went asked.report.now text
-  pub prints : Takes out0 out printed
-  pub ends : CheckEnds input text printed result
+  where
+    pub input : List ℕ
+    pub text : List ℕ
+    pub printed : List ℕ
+    pub packed : HasOpened result → LeadsTo went asked.packed.now input
+    pub report : HasOpened result → LeadsTo went asked.report.now text
+    pub prints : Takes out0 out printed
+    pub ends : CheckEnds input text printed result
 
 -- What a task over two inputs read and printed, and what these say. Where each comes from is known if both were opened.
 pub record OverTwo (opened : Type 0) (comes_one comes_other : List ℕ → Type 0)

@@ -16,9 +16,9 @@ pub record IsReaderOf (went : List Step → Type 0) (name : Path) (device : Devi
 -- The input with a name is what standard input has left, if the name is that of standard input, and else what the name
 -- leads to.
 pub record Comes (is_standard : Type 0) (went : List Step → Type 0) (name : Path) (standard : Device) (input : List ℕ) : Type 0
-    where
-  pub from_standard : is_standard → HasLeft standard input
-  pub from_file : ¬ is_standard → LeadsTo went name input
+  where
+    pub from_standard : is_standard → HasLeft standard input
+    pub from_file : ¬ is_standard → LeadsTo went name input
 
 -- what is opened to be written keeps what it had, and is made if nothing had its name
 abbrev pub OpensUncut : Path → (old new : List Step) → Type 0

@@ -105,7 +105,10 @@ impl<'a, R: Files + Clock> NamedFiles for SystemFiles<'a, R> {
     }
 
     fn open_uncut(&mut self, name: &str) -> io::Result<(SystemUncut<R::File>, Option<FileId>)> {
-        let file = OpenOptions::new().write(true).create(true).open(self.rt, name)?;
+        let file = OpenOptions::new()
+            .write(true)
+            .create(true)
+            .open(self.rt, name)?;
         let id = FileId::of_regular(&file.metadata()?);
         let is_regular = id.is_some();
         Ok((SystemUncut { file, is_regular }, id))

@@ -80,7 +80,8 @@ where
     <F::System as Files>::File: LockFile,
     requires input { CanCountCall (I.device input.old) }
     requires output { CanCountCall (O.device output.old) }
-    ensures { EndsAsked (F.went files.old) (F.went files.new) asked.entry (I.device input.old) (O.device output.old) (O.device output.new) result }
+    ensures { EndsAsked (F.went files.old) (F.went files.new) asked.entry (I.device input.old)
+        (O.device output.old) (O.device output.new) result }
 {
     match asked {
         Ok(task) => {

@@ -142,7 +142,13 @@ fn repack_from<'a, F: NamedFiles, I: Source, O: Sink>(
         (O.device output.old) (O.device output.new) result }
 {
     let (Some(name), input) = to else {
-        return repack_to(alloc, options, source, &mut FromWrite::new(io::sink()), output);
+        return repack_to(
+            alloc,
+            options,
+            source,
+            &mut FromWrite::new(io::sink()),
+            output,
+        );
     };
     let mut writer = create_output(files, name, input)?;
     let done = repack_to(alloc, options, source, &mut writer, output);

@@ -43,7 +43,14 @@ where
     ensures { EndsTask (F.went files.old) (F.went files.new) words.now (I.device input.old) (O.device output.old) (O.device output.new) result
         ⊎ EndsWithoutTask words.now (O.device output.old) (O.device output.new) result }
 {
-    run(files, alloc, read_words(alloc, words), input, output, errors)
+    run(
+        files,
+        alloc,
+        read_words(alloc, words),
+        input,
+        output,
+        errors,
+    )
 }
 
 /// Tells a person who gave no word, and gives no input either, that input is waited for.

@@ -18,6 +18,7 @@ returns-in-None g c =
 pub returns-in-Some : goal.returns-in-Some
 returns-in-Some g c =
     let no_name : c.args.asked.now.input.now ≡ codes "-" → ⊥ = search rules in
-    let reads : IsReaderOf (g.F.NamedFiles.went c.args.files.now) c.args.asked.now.input.now (g.F.Reader.Source.device c.in-Some.file) = search rules in
+    let reads : IsReaderOf (g.F.NamedFiles.went c.args.files.now) c.args.asked.now.input.now (g.F.Reader.Source.device c.in-Some.file) =
+    search rules in
     let does = c.repack_from-in-Some.ensures in
     over_named does (λ opened. comes_file no_name reads (does.come tt))
