@@ -37,7 +37,7 @@ use Rattle.msr_replace.specs.Walk.{ReplacesDays, ReplacingEnds, TellsFailed}
 use Rattle.msr_command.specs.declared.done.Done.{Done}
 use Rattle.msr_command.specs.declared.done.Done.TheVariants.{Written, Repacked}
 use Rattle.msr_command.specs.declared.task_fault.TaskFault.{TaskFault}
-use Rattle.msr_command.specs.declared.task_fault.TaskFault.TheVariants.{Failed, Tool}
+use Rattle.msr_command.specs.declared.task_fault.TaskFault.TheVariants.{CannotOpen, Closed, Failed, Input, Overlap, SameFile, SameOutput, Tool}
 use Rattle.msr_options.specs.declared.task.ListForm.{ListForm}
 use Rattle.msr_options.specs.declared.task.Task.{Task}
 use Rattle.msr_options.specs.declared.task.Task.TheVariants.{Repack, List as Listing, Check, Compare, Archive, Trial, Verify, Replace, Feed}
@@ -45,8 +45,11 @@ use Rattle.msr_command.specs.Turns.{AreTurns}
 use Rattle.msr_tree.specs.Steps.{Path, Step}
 use Rattle.msr_options.specs.declared.task.Checking.{Checking}
 use Rattle.msr_command.proofs.Comparisons.{compare_unsettled, two_after, two_none}
-use Rattle.msr_command.proofs.Inputs.{unread_unopened}
-use Rattle.msr_command.specs.Ends.{Checks, ComesNamed, Does, EndsClosed, EndsReplacing, Feeds, FeedAnswers, FeedEnds, FeedsTo, HasOpened, IsUncreated, IsUnbegun, IsUnread, ListEnds, ListsNamed, IsOverlapOrMemory, Over, RepackEnds, Repacks, RepacksNamed, ReplaceEnds, ReplacesArchive, VerifiesArchive, WalksArchive, done_of_archive, done_of_verifying, is_whole, TriesArchive, VerifiesKnown, WalksKnown, IsArchivingRead, IsUnwalked, IsVerifyingRead, done_of_trial, IsKnownRead, IsUnknown, NamesFile}
+use Rattle.msr_options.specs.declared.task.Feeding.{Feeding}
+use Rattle.msr_options.specs.declared.task.Repacking.{Repacking}
+use Rattle.msr_command.specs.Named.{GetsNoReport, GetsOutput, GetsReport}
+use Rattle.msr_command.proofs.Inputs.{goes_so, unread_unopened}
+use Rattle.msr_command.specs.Ends.{Checks, ComesNamed, Does, EndsClosed, EndsReplacing, Feeds, FeedAnswers, FeedEnds, FeedsTo, HasOpened, IfTool, IsUncreated, IsUnbegun, IsUnread, ListEnds, ListsNamed, IsOverlapOrMemory, Over, RepackEnds, Repacks, RepacksNamed, ReplaceEnds, ReplacesArchive, Settles, StopsRecords, VerifiesArchive, WalksArchive, WritesRecords, done_of_archive, done_of_verifying, is_whole, TriesArchive, VerifiesKnown, WalksKnown, IsArchivingRead, IsUnwalked, IsVerifyingRead, done_of_trial, IsKnownRead, IsUnknown, NamesFile}
 use denote.Ref.{Bor}
 
 -- nothing was printed
@@ -87,25 +90,25 @@ over_said opened comes says others out0 out then does = record {
 
 -- a file cannot be opened or made, or is another one
 
-pub repack_uncreated : (choice : Choice) (source out : Device) (stop : TaskFault) → IsUncreated stop →
-    Repacks choice source out out (Err stop)
-repack_uncreated choice source out stop is =
+pub repack_uncreated : (choice : Choice) (holds : List ℕ → Type 0) (source out : Device) (stop : TaskFault) → IsUncreated stop →
+    Repacks choice holds source out out (Err stop)
+repack_uncreated choice holds source out stop is =
     let left = left_of source in
-    over_none ⊤ (HasLeft source) (RepackEnds choice (Err stop)) out out left.0 (λ opened. left.1) (takes_none out)
+    over_none ⊤ (HasLeft source) (RepackEnds choice holds (Err stop)) out out left.0 (λ opened. left.1) (takes_none out)
     (inr (inl is, refl))
 
-pub repack_unread : (choice : Choice) (went : List Step → Type 0) (name : Path) (standard out : Device) (stop : TaskFault) →
-    IsUnread stop → RepacksNamed choice went name standard out out (Err stop)
-repack_unread choice went name standard out stop is =
-    over_none (HasOpened (Err stop)) (ComesNamed went name standard) (RepackEnds choice (Err stop)) out out []
+pub repack_unread : (before after : List Step → Type 0) (asked : Repacking) (standard out : Device) (stop : TaskFault) →
+    IsUnread stop → RepacksNamed before after asked standard out out (Err stop)
+repack_unread before after asked standard out stop is =
+    over_none (HasOpened (Err stop)) (ComesNamed before asked.input.now standard)
+    (RepackEnds asked.options (GetsOutput before after asked.output) (Err stop)) out out []
     (λ opened. absurd (unread_unopened stop is opened)) (takes_none out) (inr (inl (inl is), refl))
 
-pub feed_uncreated : (choice : Choice) (source out : Device) (stop : TaskFault) → IsUncreated stop →
-    Feeds choice source out out (Err stop)
-feed_uncreated choice source out stop is =
+pub feed_uncreated : (before after : List Step → Type 0) (asked : Feeding) (source out : Device) (stop : TaskFault) →
+    IsUncreated stop → Feeds before after asked source out out (Err stop)
+feed_uncreated before after asked source out stop is =
     let left = left_of source in
-    over_none ⊤ (HasLeft source) (FeedEnds choice (Err stop)) out out left.0 (λ opened. left.1) (takes_none out)
-    (inr (inl is, refl))
+    over_none ⊤ (HasLeft source) _ out out left.0 (λ opened. left.1) (takes_none out) (inr (inl is, refl))
 
 pub list_unread : (form : ListForm) (choice : Choice) (went : List Step → Type 0) (name : Path) (standard out : Device)
     (stop : TaskFault) → IsUnread stop → ListsNamed form choice went name standard out out (Err stop)
@@ -115,13 +118,13 @@ list_unread form choice went name standard out stop is =
 
 -- nothing can be printed
 
-pub task_closed : (went : List Step → Type 0) (task : Task) (standard out0 out : Device) (stop : TaskFault) →
-    Takes out0 out [] → EndsClosed task stop → Does went task standard out0 out (Err stop)
-task_closed went (Repack asked) standard out0 out stop none ends =
+pub task_closed : (before after : List Step → Type 0) (task : Task) (standard out0 out : Device) (stop : TaskFault) →
+    Takes out0 out [] → EndsClosed task stop → Does before after task standard out0 out (Err stop)
+task_closed before after (Repack asked) standard out0 out stop none ends =
     rw ends (over_none _ _ _ out0 out [] (λ opened. absurd opened) none (inr (inr refl, refl)))
-task_closed went (Listing asked) standard out0 out stop none ends =
+task_closed before after (Listing asked) standard out0 out stop none ends =
     rw ends (over_none _ _ _ out0 out [] (λ opened. absurd opened) none (inr (inr refl, refl)))
-task_closed went (Check asked) standard out0 out stop none ends = rw ends (record {
+task_closed before after (Check asked) standard out0 out stop none ends = rw ends (record {
   input = [];
   text = [];
   printed = [];
@@ -130,25 +133,25 @@ task_closed went (Check asked) standard out0 out stop none ends = rw ends (recor
   prints = none;
   ends = inr (inr refl, refl);
 })
-task_closed went (Compare asked) standard out0 out stop none ends =
+task_closed before after (Compare asked) standard out0 out stop none ends =
     rw ends (two_none _ _ _ _ out0 out (λ opened. opened) none (inr (inr refl, refl)))
-task_closed went (Archive asked) standard out0 out stop none ends =
+task_closed before after (Archive asked) standard out0 out stop none ends =
     rw ends (record { printed = []; prints = none; ends = inr (inr refl, refl) })
-task_closed went (Trial asked) standard out0 out stop none ends =
+task_closed before after (Trial asked) standard out0 out stop none ends =
     rw ends (record { printed = []; prints = none; ends = inr (inr refl, refl) })
-task_closed went (Verify asked) standard out0 out stop none ends =
+task_closed before after (Verify asked) standard out0 out stop none ends =
     rw ends (record { printed = []; prints = none; ends = inr (inr refl, refl) })
-task_closed went (Replace asked) standard out0 out stop none ends =
+task_closed before after (Replace asked) standard out0 out stop none ends =
     rw ends (record { printed = []; prints = none; ends = inr (inr (inr refl, refl)) })
-task_closed went (Feed asked) standard out0 out stop none ends =
+task_closed before after (Feed asked) standard out0 out stop none ends =
     let left = left_of standard in
     over_none ⊤ (HasLeft standard) _ out0 out left.0 (λ opened. left.1) none (inr (ends, refl))
 
-pub then_does : (went : List Step → Type 0) (task : Task) (standard out0 out1 out : Device) (result : Result Done TaskFault) →
-    Takes out0 out1 [] → Does went task standard out1 out result → Does went task standard out0 out result
-then_does went (Repack asked) standard out0 out1 out result none does = over_after _ _ _ out0 out1 out none does
-then_does went (Listing asked) standard out0 out1 out result none does = over_after _ _ _ out0 out1 out none does
-then_does went (Check asked) standard out0 out1 out result none does = record {
+pub then_does : (before after : List Step → Type 0) (task : Task) (standard out0 out1 out : Device) (result : Result Done TaskFault) →
+    Takes out0 out1 [] → Does before after task standard out1 out result → Does before after task standard out0 out result
+then_does before after (Repack asked) standard out0 out1 out result none does = over_after _ _ _ out0 out1 out none does
+then_does before after (Listing asked) standard out0 out1 out result none does = over_after _ _ _ out0 out1 out none does
+then_does before after (Check asked) standard out0 out1 out result none does = record {
   input = does.input;
   text = does.text;
   printed = does.printed;
@@ -157,81 +160,103 @@ then_does went (Check asked) standard out0 out1 out result none does = record {
   ends = does.ends;
   prints = takes_append out0 out1 out [] does.printed none does.prints;
 }
-then_does went (Compare asked) standard out0 out1 out result none does = two_after _ _ _ _ out0 out1 out none does
-then_does went (Archive asked) standard out0 out1 out result none does = record {
+then_does before after (Compare asked) standard out0 out1 out result none does = two_after _ _ _ _ out0 out1 out none does
+then_does before after (Archive asked) standard out0 out1 out result none does = record {
   printed = does.printed;
   ends = does.ends;
   prints = takes_append out0 out1 out [] does.printed none does.prints;
 }
-then_does went (Trial asked) standard out0 out1 out result none does = record {
+then_does before after (Trial asked) standard out0 out1 out result none does = record {
   printed = does.printed;
   ends = does.ends;
   prints = takes_append out0 out1 out [] does.printed none does.prints;
 }
-then_does went (Verify asked) standard out0 out1 out result none does = record {
+then_does before after (Verify asked) standard out0 out1 out result none does = record {
   printed = does.printed;
   ends = does.ends;
   prints = takes_append out0 out1 out [] does.printed none does.prints;
 }
-then_does went (Replace asked) standard out0 out1 out result none does = record {
+then_does before after (Replace asked) standard out0 out1 out result none does = record {
   printed = does.printed;
   ends = does.ends;
   prints = takes_append out0 out1 out [] does.printed none does.prints;
 }
-then_does went (Feed asked) standard out0 out1 out result none does = over_after _ _ _ out0 out1 out none does
+then_does before after (Feed asked) standard out0 out1 out result none does = over_after _ _ _ out0 out1 out none does
 
 -- the engine succeeds, or stops
 
 pub repack_done : (choice : Choice) (source records0 records out0 out : Device) (report : Report) (in_turns : Bool) →
     Reports choice source records0 records out0 out (Ok report) → (IsTrue in_turns ↔ AreTurns report) →
-    Repacks choice source out0 out (Ok (Repacked in_turns))
+    Repacks choice (Takes records0 records) source out0 out (Ok (Repacked in_turns))
 repack_done choice source records0 records out0 out report in_turns does turns = record {
   input = does.input;
   printed = does.told;
   come = λ opened. does.left;
   prints = does.told_all;
-  ends = (in_turns, refl, record { written = does.written; report = report; reported = does.answers; turns = turns });
+  ends = (
+    in_turns,
+    refl,
+    record {
+      written = does.written;
+      output = does.wrote;
+      report = report;
+      reported = does.answers;
+      turns = turns;
+    },
+  );
 }
 
 pub repack_stops : (choice : Choice) (source records0 records out0 out : Device) (why : ToolFault) →
-    Reports choice source records0 records out0 out (Err why) → Repacks choice source out0 out (Err (Tool why))
+    Reports choice source records0 records out0 out (Err why) → Repacks choice (Takes records0 records) source out0 out (Err (Tool why))
 repack_stops choice source records0 records out0 out why does = record {
   input = does.input;
   printed = does.told;
   come = λ opened. does.left;
   prints = does.told_all;
-  ends = inl (record { written = does.written; answers = does.answers });
+  ends = inl (record { written = does.written; output = does.wrote; answers = does.answers });
 }
 
 -- what was fed is a repack whose records are printed, and whose text goes to a file
 
 pub feed_done : (choice : Choice) (source out0 out text0 text : Device) (report : Report) →
-    Reports choice source out0 out text0 text (Ok report) → FeedsTo choice source out0 out (Ok tt)
+    Reports choice source out0 out text0 text (Ok report) → FeedsTo choice (Takes text0 text) source out0 out (Ok tt)
 feed_done choice source out0 out text0 text report does = record {
   input = does.input;
   printed = does.written;
   come = λ opened. does.left;
   prints = does.wrote;
-  ends = record { told = does.told; report = report; reported = does.answers };
+  ends = record { told = does.told; output = does.told_all; report = report; reported = does.answers };
 }
 
 pub feed_stops : (choice : Choice) (source out0 out text0 text : Device) (why : ToolFault) →
-    Reports choice source out0 out text0 text (Err why) → FeedsTo choice source out0 out (Err why)
+    Reports choice source out0 out text0 text (Err why) → FeedsTo choice (Takes text0 text) source out0 out (Err why)
 feed_stops choice source out0 out text0 text why does = record {
   input = does.input;
   printed = does.written;
   come = λ opened. does.left;
   prints = does.wrote;
-  ends = record { told = does.told; answers = does.answers };
+  ends = record { told = does.told; output = does.told_all; answers = does.answers };
 }
 
-pub fed : (choice : Choice) (source out0 out : Device) → FeedsTo choice source out0 out (Ok tt) →
-    Feeds choice source out0 out (Ok Written)
-fed choice source out0 out does = over_said ⊤ (HasLeft source) _ _ out0 out (λ input printed ends. (refl, ends)) does
+pub fed : (before after : List Step → Type 0) (asked : Feeding) (holds : List ℕ → Type 0) (source out0 out : Device) →
+    ((told : List ℕ) → holds told → GetsReport before after asked.report.now told) →
+    FeedsTo asked.options holds source out0 out (Ok tt) → Feeds before after asked source out0 out (Ok Written)
+fed before after asked holds source out0 out so does = over_said ⊤ (HasLeft source) _ _ out0 out
+    (λ input printed ends. (
+      refl,
+      record {
+        told = ends.told;
+        output = so ends.told ends.output;
+        report = ends.report;
+        reported = ends.reported;
+      },
+    )) does
 
-pub unfed : (choice : Choice) (source out0 out : Device) (why : ToolFault) →
-    FeedsTo choice source out0 out (Err why) → Feeds choice source out0 out (Err (Tool why))
-unfed choice source out0 out why does = over_said ⊤ (HasLeft source) _ _ out0 out (λ input printed ends. inl ends) does
+pub unfed : (before after : List Step → Type 0) (asked : Feeding) (holds : List ℕ → Type 0) (source out0 out : Device)
+    (why : ToolFault) → ((told : List ℕ) → holds told → GetsNoReport before after asked.report.now told) →
+    FeedsTo asked.options holds source out0 out (Err why) → Feeds before after asked source out0 out (Err (Tool why))
+unfed before after asked holds source out0 out why so does = over_said ⊤ (HasLeft source) _ _ out0 out
+    (λ input printed ends. inl (record { told = ends.told; output = so ends.told ends.output; answers = ends.answers })) does
 
 pub check_unread : (went : List Step → Type 0) (asked : Checking) (out : Device) (stop : TaskFault) → IsUnread stop →
     Checks went asked out out (Err stop)
@@ -352,31 +377,83 @@ replace_ended asked out0 out failed (Err fault) _ does ends = absurd ends
 
 -- what was printed is not stored
 
-repack_unstored : (choice : Choice) (done : Done) (input printed : List ℕ) → RepackEnds choice (Ok done) input printed →
-    RepackEnds choice (Err (Tool fault.Write)) input printed
-repack_unstored choice done input printed ends = inl (record {
+repack_unstored : (choice : Choice) (holds : List ℕ → Type 0) (done : Done) (input printed : List ℕ) →
+    RepackEnds choice holds (Ok done) input printed → RepackEnds choice holds (Err (Tool fault.Write)) input printed
+repack_unstored choice holds done input printed ends = inl (record {
   written = ends.2.written;
+  output = ends.2.output;
   answers = inr (record { report = ends.2.report; rest = []; reported = rw append-nil ends.2.reported });
 })
 
-pub repack_unsettled : (choice : Choice) (source out0 out : Device) (done : Done) → Repacks choice source out0 out (Ok done) →
-    Repacks choice source out0 out (Err (Tool fault.Write))
-repack_unsettled choice source out0 out done does = over_said ⊤ (HasLeft source) _ _ out0 out (repack_unstored choice done) does
+repack_unsettled : (choice : Choice) (holds : List ℕ → Type 0) (source out0 out : Device) (done : Done) →
+    Repacks choice holds source out0 out (Ok done) → Repacks choice holds source out0 out (Err (Tool fault.Write))
+repack_unsettled choice holds source out0 out done does =
+    over_said ⊤ (HasLeft source) _ _ out0 out (repack_unstored choice holds done) does
 
-feed_unstored : (choice : Choice) (input printed : List ℕ) → FeedAnswers choice (Ok tt) input printed →
-    FeedAnswers choice (Err fault.Write) input printed
-feed_unstored choice input printed ends = record {
+pub repack_settled : (choice : Choice) (holds : List ℕ → Type 0) (source out0 out : Device) (done result : Result Done TaskFault) →
+    Settles done result → Repacks choice holds source out0 out done → Repacks choice holds source out0 out result
+repack_settled choice holds source out0 out (Ok done) result (inl same) does = rw same does
+repack_settled choice holds source out0 out (Ok done) result (inr failed) does =
+    rw failed (repack_unsettled choice holds source out0 out done does)
+repack_settled choice holds source out0 out (Err stop) result same does = rw same does
+
+-- what one place holds another does
+
+if_tool : {P Q : ToolFault → Type 0} (stop : TaskFault) → ((why : ToolFault) → P why → Q why) → IfTool P stop → IfTool Q stop
+if_tool (Tool why) so is = so why is
+if_tool (CannotOpen name why) so is = is
+if_tool (Input name why) so is = is
+if_tool (Failed path why) so is = is
+if_tool SameFile so is = is
+if_tool SameOutput so is = is
+if_tool Overlap so is = is
+if_tool Closed so is = is
+
+repack_elsewhere : (choice : Choice) {holds others : List ℕ → Type 0} (result : Result Done TaskFault) (input printed : List ℕ) →
+    ((written : List ℕ) → holds written → others written) → RepackEnds choice holds result input printed →
+    RepackEnds choice others result input printed
+repack_elsewhere choice (Ok done) input printed so ends = (
+  ends.0,
+  ends.1,
+  record {
+    written = ends.2.written;
+    output = so ends.2.written ends.2.output;
+    report = ends.2.report;
+    reported = ends.2.reported;
+    turns = ends.2.turns;
+  },
+)
+repack_elsewhere choice (Err stop) input printed so (inl stops) = inl (if_tool stop
+    (λ why it. record { written = it.written; output = so it.written it.output; answers = it.answers }) stops)
+repack_elsewhere choice (Err stop) input printed so (inr unread) = inr unread
+
+pub repack_held : (choice : Choice) {holds others : List ℕ → Type 0} (source out0 out : Device) (result : Result Done TaskFault) →
+    ((written : List ℕ) → holds written → others written) → Repacks choice holds source out0 out result →
+    Repacks choice others source out0 out result
+repack_held choice {holds} {others} source out0 out result so does =
+    over_said ⊤ (HasLeft source) _ _ out0 out (λ input printed ends. repack_elsewhere choice result input printed so ends) does
+
+feed_unstored : (choice : Choice) (holds left : List ℕ → Type 0) (input printed : List ℕ) →
+    ((told : List ℕ) → holds told → left told) → WritesRecords choice holds input printed →
+    StopsRecords choice left input printed fault.Write
+feed_unstored choice holds left input printed so ends = record {
   told = ends.told;
+  output = so ends.told ends.output;
   answers = inr (record { report = ends.report; rest = []; reported = rw append-nil ends.reported });
 }
 
-pub feed_unsettled : (choice : Choice) (source out0 out : Device) → FeedsTo choice source out0 out (Ok tt) →
-    FeedsTo choice source out0 out (Err fault.Write)
-feed_unsettled choice source out0 out does = over_said ⊤ (HasLeft source) _ _ out0 out (feed_unstored choice) does
+pub feed_unsettled : (choice : Choice) (holds : List ℕ → Type 0) (source out0 out : Device) →
+    FeedsTo choice holds source out0 out (Ok tt) → FeedsTo choice holds source out0 out (Err fault.Write)
+feed_unsettled choice holds source out0 out does = over_said ⊤ (HasLeft source) _ _ out0 out
+    (λ input printed ends. feed_unstored choice holds holds input printed (λ told held. held) ends) does
 
-fed_unstored : (choice : Choice) (done : Done) (input printed : List ℕ) → FeedEnds choice (Ok done) input printed →
-    FeedEnds choice (Err (Tool fault.Write)) input printed
-fed_unstored choice done input printed ends = inl (feed_unstored choice input printed ends.1)
+-- a report that has its text is one that could not be emptied
+fed_unstored : (before after : List Step → Type 0) (asked : Feeding) (done : Done) (input printed : List ℕ) →
+    FeedEnds asked.options (GetsReport before after asked.report.now) (GetsNoReport before after asked.report.now) (Ok done)
+    input printed → FeedEnds asked.options (GetsReport before after asked.report.now)
+    (GetsNoReport before after asked.report.now) (Err (Tool fault.Write)) input printed
+fed_unstored before after asked done input printed ends = inl (feed_unstored asked.options _ _ input printed
+    (λ told has. goes_so (λ old new only. inr only) has) ends.1)
 
 list_unstored : (form : ListForm) (choice : Choice) (done : Done) (input printed : List ℕ) →
     ListEnds form choice (Ok done) input printed → ListEnds form choice (Err (Tool fault.Write)) input printed
@@ -408,16 +485,16 @@ replace_unstored asked printed done (inr ends) =
     IsWalk IsExchangeEntry IsExchangeEntryLine (exchange_summary asked.undo) text ends.walk.0 in
     record { entries = ends.walk.0; rest = []; walk = subst P (sym (append-nil printed)) ends.walk.1 }
 
-pub task_unsettled : (went : List Step → Type 0) (task : Task) (standard out0 out : Device) (done : Done) →
-    Does went task standard out0 out (Ok done) → Does went task standard out0 out (Err (Tool fault.Write))
-task_unsettled went (Repack asked) standard out0 out done does =
-    over_said ⊤ _ _ _ out0 out (repack_unstored asked.options done) does
-task_unsettled went (Listing asked) standard out0 out done does =
+pub task_unsettled : (before after : List Step → Type 0) (task : Task) (standard out0 out : Device) (done : Done) →
+    Does before after task standard out0 out (Ok done) → Does before after task standard out0 out (Err (Tool fault.Write))
+task_unsettled before after (Repack asked) standard out0 out done does =
+    over_said ⊤ _ _ _ out0 out (repack_unstored asked.options (GetsOutput before after asked.output) done) does
+task_unsettled before after (Listing asked) standard out0 out done does =
     over_said ⊤ _ _ _ out0 out (list_unstored asked.form asked.options done) does
-task_unsettled went (Check asked) standard out0 out done does = check_unsettled went asked out0 out done does
-task_unsettled went (Compare asked) standard out0 out done does =
-    compare_unsettled went asked.options asked standard out0 out done does
-task_unsettled went (Archive asked) standard out0 out done does =
+task_unsettled before after (Check asked) standard out0 out done does = check_unsettled before asked out0 out done does
+task_unsettled before after (Compare asked) standard out0 out done does =
+    compare_unsettled before asked.options asked standard out0 out done does
+task_unsettled before after (Archive asked) standard out0 out done does =
     let read = does.ends.walk.read in
     let ended = does.ends.walk.walk in
     let P : List ℕ → Type 0 = λ text. IsWalk (IsEntry read) (IsEntryLine read) (summary read) text ended.0 in
@@ -430,7 +507,7 @@ task_unsettled went (Archive asked) standard out0 out done does =
         walk = record { entries = ended.0; rest = []; walk = subst P (sym (append-nil does.printed)) ended.1 };
       });
     }
-task_unsettled went (Trial asked) standard out0 out done does =
+task_unsettled before after (Trial asked) standard out0 out done does =
     let P : List ℕ → Type 0 = λ text.
     IsWalk (IsTrialEntry asked.days) (IsTrialLine asked.days) (summary_by asked.days false) text does.ends.walk.0 in
     record {
@@ -442,7 +519,7 @@ task_unsettled went (Trial asked) standard out0 out done does =
         walk = subst P (sym (append-nil does.printed)) does.ends.walk.1;
       });
     }
-task_unsettled went (Verify asked) standard out0 out done does =
+task_unsettled before after (Verify asked) standard out0 out done does =
     let read = does.ends.walk.read in
     let ended = does.ends.walk.walk in
     let P : List ℕ → Type 0 = λ text. IsWalk (IsJudgedEntry read) (IsToldLine read) (judged_summary read) text ended.0 in
@@ -455,7 +532,7 @@ task_unsettled went (Verify asked) standard out0 out done does =
         walk = record { entries = ended.0; rest = []; walk = subst P (sym (append-nil does.printed)) ended.1 };
       });
     }
-task_unsettled went (Replace asked) standard out0 out done does = record {
+task_unsettled before after (Replace asked) standard out0 out done does = record {
   printed = does.printed;
   prints = does.prints;
   ends = inr (inl (record {
@@ -464,5 +541,5 @@ task_unsettled went (Replace asked) standard out0 out done does = record {
     walk = replace_unstored asked does.printed done does.ends;
   }));
 }
-task_unsettled went (Feed asked) standard out0 out done does =
-    over_said ⊤ _ _ _ out0 out (fed_unstored asked.options done) does
+task_unsettled before after (Feed asked) standard out0 out done does =
+    over_said ⊤ _ _ _ out0 out (fed_unstored before after asked done) does

@@ -37,7 +37,9 @@ use Rattle.msr_command.specs.declared.task_fault.TaskFault.TheVariants.{CannotOp
 use Rattle.msr_options.specs.declared.task.Comparing.{Comparing}
 use Rattle.msr_tree.specs.Steps.{Path, Step}
 use Rattle.msr_options.specs.declared.task.Checking.{Checking}
-use Rattle.msr_command.specs.Named.{Comes, LeadsTo}
+use Rattle.msr_options.specs.declared.task.Feeding.{Feeding}
+use Rattle.msr_options.specs.declared.task.Repacking.{Repacking}
+use Rattle.msr_command.specs.Named.{Comes, GetsNoReport, GetsOutput, GetsReport, LeadsTo}
 use Rattle.msr_command.specs.Comparing.{IsAnswered, IsAtFault, StopsComparison}
 use Rattle.msr_command.specs.Turns.{AreTurns}
 use Rattle.msr_options.specs.declared.hint.Unopened.{Unopened}
@@ -136,36 +138,45 @@ pub record Over (opened : Type 0) (comes : List ℕ → Type 0) (says : (input p
   pub prints : Takes out0 out printed
   pub ends : says input printed
 
--- The input was repacked into some records, and what was printed is the text of its report. It is told whether
--- channels seem to alternate.
-pub record WritesReport (choice : Choice) (input printed : List ℕ) (in_turns : Bool) : Type 0 where
+-- The input was repacked into these records, which some place holds, and what was printed is the text of its report. It is
+-- told whether channels seem to alternate.
+pub record WritesReport (choice : Choice) (holds : List ℕ → Type 0) (input printed : List ℕ) (in_turns : Bool) : Type 0 where
   pub written : List ℕ
+  pub output : holds written
   pub report : Report
   pub reported : IsReported choice input written printed report
   pub turns : IsTrue in_turns ↔ AreTurns report
 
--- The engine stopped at this fault, after some records.
-pub record StopsReport (choice : Choice) (input printed : List ℕ) (fault : ToolFault) : Type 0 where
+-- The engine stopped at this fault, after these records.
+pub record StopsReport (choice : Choice) (holds : List ℕ → Type 0) (input printed : List ℕ) (fault : ToolFault) : Type 0 where
   pub written : List ℕ
+  pub output : holds written
   pub answers : ReportAnswers choice input written printed (Err fault)
 
-abbrev pub RepackEnds : Choice → Result Done TaskFault → (input printed : List ℕ) → Type 0
-RepackEnds choice result input printed =
-    Ends (IsDoneBy Repacked (WritesReport choice input printed)) IsUncreated (StopsReport choice input printed) printed result
+abbrev pub RepackEnds : Choice → (holds : List ℕ → Type 0) → Result Done TaskFault → (input printed : List ℕ) → Type 0
+RepackEnds choice holds result input printed =
+    Ends (IsDoneBy Repacked (WritesReport choice holds input printed)) IsUncreated (StopsReport choice holds input printed)
+    printed result
 
 -- Repacking a source.
-abbrev pub Repacks : Choice → (source out0 out : Device) → Result Done TaskFault → Type 0
-Repacks choice source out0 out result = Over ⊤ (HasLeft source) (RepackEnds choice result) out0 out
+abbrev pub Repacks : Choice → (holds : List ℕ → Type 0) → (source out0 out : Device) → Result Done TaskFault → Type 0
+Repacks choice holds source out0 out result = Over ⊤ (HasLeft source) (RepackEnds choice holds result) out0 out
+
+-- what was written is stored if a task was done, and else it failed
+abbrev pub Settles : (done result : Result Done TaskFault) → Type 0
+Settles (Ok done) result = (result ≡ Ok done) ⊎ (result ≡ Err (Tool engine.Write))
+Settles (Err stop) result = result ≡ Err stop
 
 -- the input with a name, which is standard input for `-`
 abbrev pub ComesNamed : (went : List Step → Type 0) → (name : Path) → (standard : Device) → (input : List ℕ) → Type 0
 ComesNamed went name standard input = Comes (name ≡ codes "-") went name standard input
 
--- Repacking the file of a name, which is standard input for `-`.
-abbrev pub RepacksNamed : Choice → (went : List Step → Type 0) → (name : Path) → (standard out0 out : Device)
+-- Repacking the file of a name, which is standard input for `-`, to that of another, or to nowhere.
+abbrev pub RepacksNamed : (before after : List Step → Type 0) → Repacking → (standard out0 out : Device)
     → Result Done TaskFault → Type 0
-RepacksNamed choice went name standard out0 out result =
-    Over (HasOpened result) (ComesNamed went name standard) (RepackEnds choice result) out0 out
+RepacksNamed before after asked standard out0 out result =
+    Over (HasOpened result) (ComesNamed before asked.input.now standard)
+    (RepackEnds asked.options (GetsOutput before after asked.output) result) out0 out
 
 -- The input was listed with these counts.
 pub record WritesList (form : ListForm) (choice : Choice) (input printed : List ℕ) : Type 0 where
@@ -188,32 +199,40 @@ ListsNamed form choice went name standard out0 out result =
     Over (HasOpened result) (ComesNamed went name standard) (ListEnds form choice result) out0 out
 
 -- The input was repacked into what was printed, and this is the text of its report.
-pub record WritesRecords (choice : Choice) (input printed : List ℕ) : Type 0 where
+pub record WritesRecords (choice : Choice) (holds : List ℕ → Type 0) (input printed : List ℕ) : Type 0 where
   pub told : List ℕ
+  pub output : holds told
   pub report : Report
   pub reported : IsReported choice input printed told report
 
 -- The engine stopped at this fault, or what it wrote was not stored, after this part of the report.
-pub record StopsRecords (choice : Choice) (input printed : List ℕ) (fault : ToolFault) : Type 0 where
+pub record StopsRecords (choice : Choice) (holds : List ℕ → Type 0) (input printed : List ℕ) (fault : ToolFault) : Type 0 where
   pub told : List ℕ
+  pub output : holds told
   pub answers : ReportAnswers choice input printed told (Err fault)
 
-abbrev pub FeedAnswers : Choice → Result (Unit {0}) ToolFault → (input printed : List ℕ) → Type 0
-FeedAnswers choice (Ok fed) input printed = WritesRecords choice input printed
-FeedAnswers choice (Err fault) input printed = StopsRecords choice input printed fault
+abbrev pub FeedAnswers : Choice → (holds left : List ℕ → Type 0) → Result (Unit {0}) ToolFault → (input printed : List ℕ)
+    → Type 0
+FeedAnswers choice holds left (Ok fed) input printed = WritesRecords choice holds input printed
+FeedAnswers choice holds left (Err fault) input printed = StopsRecords choice left input printed fault
 
--- Repacking a source to standard output, and its report to a file.
-abbrev pub FeedsTo : Choice → (source out0 out : Device) → Result (Unit {0}) ToolFault → Type 0
-FeedsTo choice source out0 out result = Over ⊤ (HasLeft source) (FeedAnswers choice result) out0 out
+-- Repacking a source to standard output, and its report to some place.
+abbrev pub FeedsTo : Choice → (holds : List ℕ → Type 0) → (source out0 out : Device) → Result (Unit {0}) ToolFault → Type 0
+FeedsTo choice holds source out0 out result =
+    Over ⊤ (HasLeft source) (FeedAnswers choice holds holds result) out0 out
 
-abbrev pub FeedEnds : Choice → Result Done TaskFault → (input printed : List ℕ) → Type 0
-FeedEnds choice result input printed =
-    Ends (λ done. (done ≡ Written) × WritesRecords choice input printed) IsUncreated
-    (StopsRecords choice input printed) printed result
+-- The report is held, or else something of it is left.
+abbrev pub FeedEnds : Choice → (holds left : List ℕ → Type 0) → Result Done TaskFault → (input printed : List ℕ) → Type 0
+FeedEnds choice holds left result input printed =
+    Ends (λ done. (done ≡ Written) × WritesRecords choice holds input printed) IsUncreated
+    (StopsRecords choice left input printed) printed result
 
--- Repacking standard input to standard output, and how it ends.
-abbrev pub Feeds : Choice → (standard out0 out : Device) → Result Done TaskFault → Type 0
-Feeds choice standard out0 out result = Over ⊤ (HasLeft standard) (FeedEnds choice result) out0 out
+-- Repacking standard input to standard output, and its report to the file of a name.
+abbrev pub Feeds : (before after : List Step → Type 0) → Feeding → (standard out0 out : Device) → Result Done TaskFault
+    → Type 0
+Feeds before after asked standard out0 out result =
+    Over ⊤ (HasLeft standard) (FeedEnds asked.options (GetsReport before after asked.report.now)
+    (GetsNoReport before after asked.report.now) result) out0 out
 
 abbrev pub CheckEnds : (input text printed : List ℕ) → Result Done TaskFault → Type 0
 CheckEnds input text printed result =
@@ -423,24 +442,24 @@ abbrev pub EndsClosed : Task → TaskFault → Type 0
 EndsClosed (Feed asked) stop = IsUncreated stop ⊎ (stop ≡ Closed)
 EndsClosed _ stop = stop ≡ Closed
 
--- what doing a task reads and prints, and how it ends
-abbrev pub Does : (went : List Step → Type 0) → Task → (standard out0 out : Device) → Result Done TaskFault → Type 0
-Does went (Repack asked) standard out0 out result = RepacksNamed asked.options went asked.input.now standard out0 out result
-Does went (Listing asked) standard out0 out result =
-    ListsNamed asked.form asked.options went asked.input.now standard out0 out result
-Does went (Check asked) standard out0 out result = Checks went asked out0 out result
-Does went (Compare asked) standard out0 out result =
-    ComparesNamed went asked.options asked standard out0 out result
-Does went (Archive asked) standard out0 out result = WalksArchive asked out0 out result
-Does went (Trial asked) standard out0 out result = TriesArchive asked out0 out result
-Does went (Verify asked) standard out0 out result = VerifiesArchive asked out0 out result
-Does went (Replace asked) standard out0 out result = ReplacesArchive asked out0 out result
-Does went (Feed asked) standard out0 out result = Feeds asked.options standard out0 out result
+-- what doing a task reads, writes and prints, and how it ends
+abbrev pub Does : (before after : List Step → Type 0) → Task → (standard out0 out : Device) → Result Done TaskFault → Type 0
+Does before after (Repack asked) standard out0 out result = RepacksNamed before after asked standard out0 out result
+Does before after (Listing asked) standard out0 out result =
+    ListsNamed asked.form asked.options before asked.input.now standard out0 out result
+Does before after (Check asked) standard out0 out result = Checks before asked out0 out result
+Does before after (Compare asked) standard out0 out result =
+    ComparesNamed before asked.options asked standard out0 out result
+Does before after (Archive asked) standard out0 out result = WalksArchive asked out0 out result
+Does before after (Trial asked) standard out0 out result = TriesArchive asked out0 out result
+Does before after (Verify asked) standard out0 out result = VerifiesArchive asked out0 out result
+Does before after (Replace asked) standard out0 out result = ReplacesArchive asked out0 out result
+Does before after (Feed asked) standard out0 out result = Feeds before after asked standard out0 out result
 
 -- A task was done, and ended with this status.
-pub record EndsDone (went : List Step → Type 0) (task : Task) (standard out0 out : Device) (status : ℕ) : Type 0 where
+pub record EndsDone (before after : List Step → Type 0) (task : Task) (standard out0 out : Device) (status : ℕ) : Type 0 where
   pub outcome : Result Done TaskFault
-  pub does : Does went task standard out0 out outcome
+  pub does : Does before after task standard out0 out outcome
   pub ended : status ≡ status_of outcome
 
 -- A text was printed whole for status 0. Status 2 is for a text on standard error, and then nothing is printed; status
@@ -453,17 +472,17 @@ EndsText NotALength out0 out status = (status ≡ 2) × (out ≡ out0)
 EndsText Memory out0 out status = (status ≡ 1) × (out ≡ out0)
 
 -- what was asked for was done, or what there is in its place was told
-abbrev pub EndsAsked : (went : List Step → Type 0) → Result Task NoTask → (standard out0 out : Device) → (status : ℕ) → Type 0
-EndsAsked went (Ok task) standard out0 out status = EndsDone went task standard out0 out status
-EndsAsked went (Err why) standard out0 out status = EndsText why out0 out status
+abbrev pub EndsAsked : (before after : List Step → Type 0) → Result Task NoTask → (standard out0 out : Device) → (status : ℕ) → Type 0
+EndsAsked before after (Ok task) standard out0 out status = EndsDone before after task standard out0 out status
+EndsAsked before after (Err why) standard out0 out status = EndsText why out0 out status
 
 -- The words ask for a task, with none for the default, else by the word of a command, and it ended with this status.
-pub record EndsTask (went : List Step → Type 0) (words : List (Bor (List ℕ))) (standard out0 out : Device) (status : ℕ) : Type 0 where
+pub record EndsTask (before after : List Step → Type 0) (words : List (Bor (List ℕ))) (standard out0 out : Device) (status : ℕ) : Type 0 where
   pub task : Task
   pub outcome : Result Done TaskFault
   pub default : length words < 2 → IsDefault task
   pub command : 2 ≤ length words → IsSomeAnd (slice_get words 1) (λ word. word.now ≡ word_of (verb_of task))
-  pub does : Does went task standard out0 out outcome
+  pub does : Does before after task standard out0 out outcome
   pub ended : status ≡ status_of outcome
 
 -- The words ask for no task.

@@ -2,7 +2,8 @@
 ghost use Rattle.std.specs.Prelude.{◌≡◌, ◌↔◌, IfErr, IfOk, IfSome, None, Ok, codes};
 ghost use Rattle.msr_devices.specs.Device.{CanCountCall};
 ghost use Rattle.msr_command.specs.Ends.{IsUncreated, IsUnread};
-ghost use Rattle.msr_command.specs.Named.{IsReaderOf};
+ghost use Rattle.msr_command.specs.Named.{IsReaderOf, MakesOutput};
+ghost use Rattle.msr_tree.specs.Calls.{Goes};
 
 use crate::named::NamedFiles;
 use crate::task_fault::TaskFault;
@@ -118,35 +119,40 @@ pub(crate) fn make_folder<'a, R: Files>(
 
 /// Creates the file with this name, or opens it and cuts it to nothing, unless it is the input by some name, or what
 /// standard output is redirected to: then it is left as it is.
-pub(crate) fn create_output<'a, R: Files>(
-    rt: &R,
+pub(crate) fn create_output<'a, F: NamedFiles>(
+    files: &mut F,
     name: &'a str,
     input: Option<FileId>,
-) -> Result<R::File, TaskFault<'a>>
-    ensures { IfErr result IsUncreated }
+) -> Result<F::Writer, TaskFault<'a>>
+    ensures stop { IfErr result IsUncreated }
+    ensures went { Goes (F.went files.old) (F.went files.new)
+        (MakesOutput name.now (λ writer. F.Writer.device writer) result) }
+    ensures count { IfOk result (λ writer. CanCountCall (F.Writer.device writer)) }
 {
     // Asked before the file is opened: if standard output is closed, the file gets its descriptor.
-    let output = id_of_standard_output(rt);
-    let answer = OpenOptions::new().write(true).create(true).open(rt, name);
-    let file = opened(name, answer)?;
-    let Some(id) = FileId::of_regular(&opened(name, file.metadata())?) else {
-        return Ok(file);
-    };
-    if input == Some(id) {
+    let output = id_of_standard_output(files.system());
+    let (file, id) = opened(name, files.open_uncut(name))?;
+    if id.is_some() && input == id {
         return Err(TaskFault::SameFile);
     }
-    if output == Some(id) {
+    if id.is_some() && output == id {
         return Err(TaskFault::SameOutput);
     }
-    opened(name, file.set_len(0))?;
-    Ok(file)
+    opened(name, files.cut(name, file))
 }
 
 /// Creates the report of a feed, or cuts it to nothing, before anything is read.
-pub(crate) fn create_report<'a, R: Files>(rt: &R, name: &'a str) -> Result<R::File, TaskFault<'a>>
-    ensures { IfErr result IsUncreated }
+pub(crate) fn create_report<'a, F: NamedFiles>(
+    files: &mut F,
+    name: &'a str,
+) -> Result<F::Writer, TaskFault<'a>>
+    ensures stop { IfErr result IsUncreated }
+    ensures went { Goes (F.went files.old) (F.went files.new)
+        (MakesOutput name.now (λ writer. F.Writer.device writer) result) }
+    ensures count { IfOk result (λ writer. CanCountCall (F.Writer.device writer)) }
 {
-    create_output(rt, name, standard_input(rt)?)
+    let input = standard_input(files.system())?;
+    create_output(files, name, input)
 }
 
 /// Waits until what was printed is stored, if standard output is redirected to a regular file that opens once more.

@@ -69,7 +69,7 @@ fn end<O: Sink, E: Write>(output: &mut O, errors: &mut E, ending: &Ending) -> u8
 
 /// Does what was asked for, or tells what there is in place of a task, and gives the status.
 pub fn run<'a, F: NamedFiles, I: Source, O: Sink, E: Write>(
-    files: &F,
+    files: &mut F,
     alloc: Global,
     asked: Result<Task<'a>, NoTask>,
     input: &mut I,
@@ -80,7 +80,8 @@ where
     <F::System as Files>::File: LockFile,
     requires input { CanCountCall (I.device input.old) }
     requires output { CanCountCall (O.device output.old) }
-    ensures { EndsAsked (F.went files.now) asked.entry (I.device input.old) (O.device output.old) (O.device output.new) result }
+    ensures { EndsAsked (F.went files.old) (F.went files.new) asked.entry (I.device input.old)
+        (O.device output.old) (O.device output.new) result }
 {
     match asked {
         Ok(task) => {

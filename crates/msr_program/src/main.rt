@@ -29,7 +29,7 @@ fn borrowed(alloc: Global, words: &[String]) -> Result<Vec<&str>, AllocError> {
 
 /// Does what the words ask for, of which the first is the program's name, and gives the status.
 fn run_words<F: NamedFiles, I: Source, O: Sink, E: Write>(
-    files: &F,
+    files: &mut F,
     alloc: Global,
     words: &[&str],
     input: &mut I,
@@ -40,7 +40,7 @@ where
     <F::System as Files>::File: LockFile,
     requires input { CanCountCall (I.device input.old) }
     requires output { CanCountCall (O.device output.old) }
-    ensures { EndsTask (F.went files.now) words.now (I.device input.old) (O.device output.old) (O.device output.new) result
+    ensures { EndsTask (F.went files.old) (F.went files.new) words.now (I.device input.old) (O.device output.old) (O.device output.new) result
         ⊎ EndsWithoutTask words.now (O.device output.old) (O.device output.new) result }
 {
     run(
@@ -87,7 +87,7 @@ fn main(rt: HostRuntime) -> ExitCode {
                 let mut input = FromRead::new(given);
                 let mut output = FromWrite::new(rt.stdout());
                 run_words(
-                    &SystemFiles::new(&rt),
+                    &mut SystemFiles::new(&rt),
                     alloc,
                     words.as_slice(),
                     &mut input,

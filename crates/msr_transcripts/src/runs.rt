@@ -71,7 +71,7 @@ fn answer_with(stage: &mut Stage<'_>, settings: &Settings<'_>, words: &[&str]) -
     if !stage.has_failed {
         let words = read_words(alloc, words);
         status = run(
-            &SystemFiles::new(&settings.odd),
+            &mut SystemFiles::new(&settings.odd),
             alloc,
             words,
             &mut source,

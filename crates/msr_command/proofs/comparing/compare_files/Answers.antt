@@ -28,7 +28,8 @@ returns-in_ok-other-in-None g c =
 pub returns-in-Some : goal.returns-in-Some
 returns-in-Some g c =
     let no_one : c.args.asked.now.one.now ≡ codes "-" → ⊥ = search rules in
-    let reads : IsReaderOf (g.F.NamedFiles.went c.args.files.now) c.args.asked.now.one.now (g.F.Reader.Source.device c.in-Some.file) = search rules in
+    let reads : IsReaderOf (g.F.NamedFiles.went c.args.files.now) c.args.asked.now.one.now (g.F.Reader.Source.device c.in-Some.file) =
+    search rules in
     let does = c.compare_with.ensures in
     two_known does (λ opened. comes_file no_one reads (does.come_one opened))
     (λ opened. comes_other no_one (does.come_other opened))

@@ -20,7 +20,8 @@ returns-in-None g c =
 pub returns-in-Some : goal.returns-in-Some
 returns-in-Some g c =
     let no_other : c.args.asked.now.other.now ≡ codes "-" → ⊥ = search rules in
-    let reads : IsReaderOf (g.F.NamedFiles.went c.args.files.now) c.args.asked.now.other.now (g.F.Reader.Source.device c.in-Some.file) = search rules in
+    let reads : IsReaderOf (g.F.NamedFiles.went c.args.files.now) c.args.asked.now.other.now (g.F.Reader.Source.device c.in-Some.file) =
+    search rules in
     let does = c.compare_sources-in-Some.ensures in
     two_known does (λ opened. does.come_one tt)
     (λ opened. comes_file no_other reads (does.come_other tt))

@@ -19,6 +19,7 @@ returns-in-Ok-None-default g c =
 pub returns-in-Ok-Some-default : goal.returns-in-Ok-Some-default
 returns-in-Ok-Some-default g c =
     let no_name : c.args.asked.now.input.now ≡ codes "-" → ⊥ = search rules in
-    let reads : IsReaderOf (g.F.NamedFiles.went c.args.files.now) c.args.asked.now.input.now (g.F.Reader.Source.device c.in-Ok-Some-default.file) = search rules in
+    let reads : IsReaderOf (g.F.NamedFiles.went c.args.files.now) c.args.asked.now.input.now (g.F.Reader.Source.device c.in-Ok-Some-default.file) =
+    search rules in
     let does = c.list_from-in-Ok-Some-default.ensures in
     over_named does (λ opened. comes_file no_name reads (does.come tt))

@@ -6,7 +6,7 @@ use Rattle.msr_command.proofs.tasks.repack_file.Goals as goal
 
 pub returns-in-Err : goal.returns-in-Err
 returns-in-Err g c =
-    repack_unread c.args.asked.now.options (g.F.NamedFiles.went c.args.files.now) c.args.asked.now.input.now
+    repack_unread (g.F.NamedFiles.went c.args.files.now) (g.F.NamedFiles.went c.args.files.now) c.args.asked.now
     (g.I.Source.device c.args.input.now) (g.O.Sink.device c.args.output.now) c.in-Err.fault c.in-Err.ensures.stop
 
 pub returns-in-None : goal.returns-in-None
@@ -18,6 +18,7 @@ returns-in-None g c =
 pub returns-in-Some : goal.returns-in-Some
 returns-in-Some g c =
     let no_name : c.args.asked.now.input.now ≡ codes "-" → ⊥ = search rules in
-    let reads : IsReaderOf (g.F.NamedFiles.went c.args.files.now) c.args.asked.now.input.now (g.F.Reader.Source.device c.in-Some.file) = search rules in
+    let reads : IsReaderOf (g.F.NamedFiles.went c.args.files.now) c.args.asked.now.input.now (g.F.Reader.Source.device c.in-Some.file) =
+    search rules in
     let does = c.repack_from-in-Some.ensures in
     over_named does (λ opened. comes_file no_name reads (does.come tt))
