@@ -49,7 +49,7 @@ use Rattle.msr_options.specs.declared.task.Feeding.{Feeding}
 use Rattle.msr_options.specs.declared.task.Repacking.{Repacking}
 use Rattle.msr_command.specs.Named.{GetsNoReport, GetsOutput, GetsReport}
 use Rattle.msr_command.proofs.Inputs.{goes_so, unread_unopened}
-use Rattle.msr_command.specs.Ends.{Checks, ComesNamed, Does, EndsClosed, EndsReplacing, Feeds, FeedAnswers, FeedEnds, FeedsTo, HasOpened, IfTool, IsUncreated, IsUnbegun, IsUnread, ListEnds, ListsNamed, IsOverlapOrMemory, Over, RepackEnds, Repacks, RepacksNamed, ReplaceEnds, ReplacesArchive, Settles, StopsRecords, VerifiesArchive, WalksArchive, WritesRecords, done_of_archive, done_of_verifying, is_whole, TriesArchive, VerifiesKnown, WalksKnown, IsArchivingRead, IsUnwalked, IsVerifyingRead, done_of_trial, IsKnownRead, IsUnknown, NamesFile}
+use Rattle.msr_command.specs.Ends.{Checks, ComesNamed, Does, EndsClosed, EndsReplacing, Feeds, FeedAnswers, FeedEnds, FeedsTo, HasOpened, IfTool, IsUncreated, IsUnbegun, IsUnread, ListEnds, ListsNamed, IsOverlapOrMemory, Over, RepackEnds, Repacks, RepacksNamed, ReplaceEnds, ReplacesArchive, Settles, StopsRecords, VerifiesArchive, WalksArchive, WritesRecords, done_of_archive, done_of_verifying, is_whole, TriesArchive, VerifiesKnown, WalksKnown, IsArchivingRead, IsUnwalked, IsVerifyingRead, done_of_trial, IsKnownRead, IsUnknown}
 use denote.Ref.{Bor}
 
 -- nothing was printed
@@ -306,13 +306,8 @@ known_same (File name) other = absurd (other name refl)
 known_same (Lines lines) other = refl
 
 -- the lines of a file are known
-pub known_lines : (asked read : Known) → NamesFile asked → knows_any read ≡ true → IsKnownRead asked read
-known_lines Nothing read named knows = absurd named
-known_lines (File name) read named knows = knows
-known_lines (Lines lines) read named knows = absurd named
-
-pub names_file : (asked : Known) (name : Bor (List ℕ)) → asked ≡ File name → NamesFile asked
-names_file asked name is = rw is tt
+pub known_lines : (asked read : Known) (name : Bor (List ℕ)) → asked ≡ File name → knows_any read ≡ true → IsKnownRead asked read
+known_lines asked read name is knows = rw is knows
 
 -- which could not be read
 pub unread : (asked : Known) (name : Bor (List ℕ)) (stop : TaskFault) → asked ≡ File name → IsUnknown stop → IsUnwalked asked stop

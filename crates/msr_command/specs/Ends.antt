@@ -94,11 +94,6 @@ abbrev pub IsUnwalked : Known → TaskFault → Type 0
 IsUnwalked (File name) stop = IsOverlapOrMemory stop ⊎ IsUnknown stop
 IsUnwalked known stop = IsOverlapOrMemory stop
 
--- a file is named, whose lines are to be known
-abbrev pub NamesFile : Known → Type 0
-NamesFile (File name) = ⊤
-NamesFile known = ⊥
-
 -- what a walk knows of what is asked for: of a file the lines that were read
 abbrev pub IsKnownRead : (asked read : Known) → Type 0
 IsKnownRead (File name) read = knows_any read ≡ true

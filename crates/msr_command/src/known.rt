@@ -1,13 +1,12 @@
 //! The lines of earlier runs that a walk is asked to know.
-ghost use Rattle.std.specs.Prelude.{◌≡◌, IfErr, IfOk, true};
+ghost use Rattle.std.specs.Prelude.{IfErr};
 ghost use Rattle.msr_command.specs.Ends.{IsUnknown};
-ghost use Rattle.msr_options.specs.Known.{knows_any};
 
 use crate::files::open_beside;
 use crate::task_fault::TaskFault;
-use msr_options::{Archiving, Known, KnownLines, Verifying};
+use msr_options::KnownLines;
 use msr_tool::ToolFault;
-use std::alloc::{AllocError, Global};
+use std::alloc::Global;
 use std::io::{BufRead, BufReader, Read};
 use std::rt::Files;
 use std::{io, str};
@@ -41,33 +40,4 @@ pub(crate) fn read_known<'a, R: Files>(
         Ok(()) => Ok(known),
         Err(_) => Err(TaskFault::Input(name, ToolFault::Read)),
     }
-}
-
-/// The same walk, with these lines known.
-pub(crate) fn archiving_with<'a>(
-    asked: &Archiving<'a>,
-    lines: &'a KnownLines,
-) -> Result<Archiving<'a>, AllocError>
-    ensures { IfOk result (λ read. (read.days ≡ asked.now.days) × (read.folders ≡ asked.now.folders) × (knows_any read.known ≡ true)) }
-{
-    Ok(Archiving {
-        folders: asked.folders,
-        below: asked.below.clone()?,
-        days: asked.days,
-        known: Known::Lines(lines),
-    })
-}
-
-pub(crate) fn verifying_with<'a>(
-    asked: &Verifying<'a>,
-    lines: &'a KnownLines,
-) -> Result<Verifying<'a>, AllocError>
-    ensures { IfOk result (λ read. (read.telling ≡ asked.now.telling) × (knows_any read.known ≡ true)) }
-{
-    Ok(Verifying {
-        folders: asked.folders,
-        below: asked.below.clone()?,
-        telling: asked.telling,
-        known: Known::Lines(lines),
-    })
 }

@@ -1,7 +1,7 @@
 //! The tasks of the program, over the system's files, and any source and sink in place of standard input and output.
 ghost use Rattle.std.specs.Prelude.{IfErr};
 ghost use Rattle.msr_devices.specs.Device.{CanCountCall, Takes};
-ghost use Rattle.msr_command.specs.Ends.{Checks, Does, EndsClosed, Feeds, FeedsTo, IsOverlapOrMemory, Lists, ListsNamed, OpensOutput, Repacks, RepacksNamed, Settles, VerifiesArchive, WalksArchive, IsArchivingRead, IsVerifyingRead, NamesFile, VerifiesKnown, WalksKnown};
+ghost use Rattle.msr_command.specs.Ends.{Checks, Does, EndsClosed, Feeds, FeedsTo, IsOverlapOrMemory, Lists, ListsNamed, OpensOutput, Repacks, RepacksNamed, Settles, VerifiesArchive, WalksArchive, IsArchivingRead, IsVerifyingRead, VerifiesKnown, WalksKnown};
 ghost use Rattle.msr_command.specs.Named.{GetsOutput};
 ghost use Rattle.msr_options.specs.Tasks.{StandApart};
 
@@ -9,7 +9,7 @@ use crate::clock::time_of_now;
 use crate::comparing::compare_files;
 use crate::done::Done;
 use crate::files::{create_output, create_report, open_file, open_input, settle_standard_output};
-use crate::known::{archiving_with, read_known, verifying_with};
+use crate::known::read_known;
 use crate::named::NamedFiles;
 use crate::replacing::replace_archive;
 use crate::task_fault::TaskFault;
@@ -18,8 +18,8 @@ use crate::turns::is_in_turns;
 use msr_devices::{FromWrite, Sink, Source};
 use msr_folders::{FileId, LockFile, WalkFound, folders_overlap};
 use msr_options::{
-    Archiving, Checking, Feeding, Folders, Known, KnownLines, ListForm, Listing, Options,
-    Repacking, Task, Verifying,
+    Archiving, Checking, Feeding, Folders, Known, ListForm, Listing, Options, Repacking, Task,
+    Verifying,
 };
 use msr_system::SystemTree;
 use msr_tool::{ToolFault, check_and_tell, feed_and_report, list_segments, repack_and_report};
@@ -339,26 +339,6 @@ where
     Ok(walked)
 }
 
-/// Walks it with the lines of the file that it names, which were read.
-fn walk_lines<'a, 'l, R: Files + Clock, O: Sink>(
-    rt: &R,
-    alloc: Global,
-    asked: &Archiving<'l>,
-    lines: &'l KnownLines,
-    output: &mut O,
-) -> Result<Walked, TaskFault<'a>>
-where
-    R::File: LockFile,
-    requires apart { StandApart asked.now.folders }
-    requires output { CanCountCall (O.device output.old) }
-    ensures { NamesFile asked.now.known → WalksKnown asked.now (O.device output.old) (O.device output.new) result }
-{
-    match archiving_with(asked, lines) {
-        Ok(read) => walk_archive(rt, alloc, &read, output),
-        Err(_) => Err(TaskFault::Tool(ToolFault::Memory)),
-    }
-}
-
 /// Walks it with the lines that are known, which are read first if a file has them.
 fn walk_known<'a, R: Files + Clock, O: Sink>(
     rt: &R,
@@ -375,7 +355,16 @@ where
     match asked.known {
         Known::File(name) => {
             let lines = read_known(rt, alloc, name)?;
-            walk_lines(rt, alloc, asked, &lines, output)
+            let Ok(below) = asked.below.clone() else {
+                return Err(TaskFault::Tool(ToolFault::Memory));
+            };
+            let read = Archiving {
+                folders: asked.folders,
+                below,
+                days: asked.days,
+                known: Known::Lines(&lines),
+            };
+            walk_archive(rt, alloc, &read, output)
         }
         _ => walk_archive(rt, alloc, asked, output),
     }
@@ -416,23 +405,6 @@ fn verify_read<'a, R: Files, O: Sink>(
     Ok(found)
 }
 
-/// Verifies it with the lines of the file that it names, which were read.
-fn verify_lines<'a, 'l, R: Files, O: Sink>(
-    rt: &R,
-    alloc: Global,
-    asked: &Verifying<'l>,
-    lines: &'l KnownLines,
-    output: &mut O,
-) -> Result<WalkFound, TaskFault<'a>>
-    requires { CanCountCall (O.device output.old) }
-    ensures { NamesFile asked.now.known → VerifiesKnown asked.now (O.device output.old) (O.device output.new) result }
-{
-    match verifying_with(asked, lines) {
-        Ok(read) => verify_read(rt, alloc, &read, output),
-        Err(_) => Err(TaskFault::Tool(ToolFault::Memory)),
-    }
-}
-
 /// Verifies it with the lines that are known, which are read first if a file has them.
 fn verify_known<'a, R: Files, O: Sink>(
     rt: &R,
@@ -446,7 +418,16 @@ fn verify_known<'a, R: Files, O: Sink>(
     match asked.known {
         Known::File(name) => {
             let lines = read_known(rt, alloc, name)?;
-            verify_lines(rt, alloc, asked, &lines, output)
+            let Ok(below) = asked.below.clone() else {
+                return Err(TaskFault::Tool(ToolFault::Memory));
+            };
+            let read = Verifying {
+                folders: asked.folders,
+                below,
+                telling: asked.telling,
+                known: Known::Lines(&lines),
+            };
+            verify_read(rt, alloc, &read, output)
         }
         _ => verify_read(rt, alloc, asked, output),
     }
