@@ -305,10 +305,6 @@ known_same Nothing other = refl
 known_same (File name) other = absurd (other name refl)
 known_same (Lines lines) other = refl
 
--- the lines of a file are known
-pub known_lines : (asked read : Known) (name : Bor (List ℕ)) → asked ≡ File name → knows_any read ≡ true → IsKnownRead asked read
-known_lines asked read name is knows = rw is knows
-
 -- which could not be read
 pub unread : (asked : Known) (name : Bor (List ℕ)) (stop : TaskFault) → asked ≡ File name → IsUnknown stop → IsUnwalked asked stop
 unread asked name stop is unknown = rw is (inr unknown)

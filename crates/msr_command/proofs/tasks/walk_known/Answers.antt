@@ -1,6 +1,6 @@
 use Rattle.std.proofs.Common.{inl, inr, refl}
 use Rattle.std.proofs.lemmas.Result.{err_from_is_err_and}
-use Rattle.msr_command.proofs.Endings.{archive_unbegun, known_lines, known_same, unread, unwalked}
+use Rattle.msr_command.proofs.Endings.{archive_unbegun, known_same, unread, unwalked}
 use Rattle.msr_command.specs.declared.task_fault.TaskFault.TheVariants.{Tool}
 use Rattle.msr_tool.specs.declared.fault.ToolFault.TheVariants as fault
 use Rattle.msr_command.proofs.tasks.walk_known.Goals as goal
