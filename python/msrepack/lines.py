@@ -364,7 +364,7 @@ def _archive_totals(files: str, skipped: str, refused: str, *told: Optional[str]
 
 
 def _verify_totals(files: str, skipped: str, refused: str, known: Optional[str], *counts: str) -> Line:
-    return VerifyTotals(int(files), int(skipped), int(refused), *map(int, counts), *_numbers(known))  # type: ignore[arg-type]
+    return VerifyTotals(int(files), int(skipped), int(refused), *map(int, counts), *_numbers(known))
 
 
 def _refused(word: str, path: str, of: Optional[str], text: str) -> Line:
