@@ -16,7 +16,8 @@ import walks
 from reports import NotAReport, parsed, verdict
 
 OF_RECORDS = ("--length", "--no-int24", "--tolerance", "--strict")
-OF_DAYS = ("--resume", "--check", "--only-smaller", "--keep-old", "--bytes")
+OF_KEPT = ("--resume", "--check", "--only-smaller", "--keep-old")
+OF_DAYS = (*OF_KEPT, "--bytes")
 OF_ORIGINALS = ("--undo", "--below", "--only-smaller", "--older-than", "--touch", "--int24")
 COMMANDS = {
     "repack": (OF_RECORDS, (1, 2)),
@@ -24,18 +25,18 @@ COMMANDS = {
     "list": (("--tolerance", "--strict", "--json"), (1, 1)),
     "check": ((), (2, 2)),
     "compare": (("--tolerance",), (2, 2)),
-    "archive": ((*OF_RECORDS, "--below", *OF_DAYS, "--older-than", "--quiet", "--json"), (3, 3)),
-    "verify": (("--quiet", "--json", "--below"), (3, 3)),
+    "archive": ((*OF_RECORDS, "--below", *OF_DAYS, "--older-than", "--known", "--quiet", "--json", "--dry-run"), (3, 3)),
+    "verify": (("--known", "--quiet", "--json", "--below"), (3, 3)),
     "replace": (OF_ORIGINALS, (4, 4)),
 }
 # The options that have a value; of a number the least and the greatest.
-VALUED = {"--length": (0, 2**32 - 1), "--tolerance": (1, 1_000_000), "--older-than": (0, 2**32 - 1), "--below": None}
+VALUED = {"--length": (0, 2**32 - 1), "--tolerance": (1, 1_000_000), "--older-than": (0, 2**32 - 1), "--below": None, "--known": None}
 WALKS = ("archive", "verify", "replace")
 LENGTHS = [2**exponent for exponent in range(8, 17)]
 HINT_OF_LENGTHS = b"hint: msrepack writes records of %d, %d, %d, %d, %d, %d, %d, %d or %d bytes\n" % tuple(LENGTHS)
 
 OF_TASK = "command names length kinds tolerance strict json quiet below resume check only_smaller keep_old bytes"
-Task = namedtuple("Task", f"{OF_TASK} aside undo older_than touch int24")
+Task = namedtuple("Task", f"{OF_TASK} aside undo older_than touch int24 known dry_run")
 Device = namedtuple("Device", "most fails")
 # What a run is given beside its words.
 # The last is the file that tells what standard output had at each read, if one does.
@@ -76,6 +77,8 @@ def value_of(option, text):
     """The value of an option; a wrong tolerance is the parser's matter, but of a length only that it is a number."""
     if option == "--below":
         return text.removesuffix("/")
+    if option == "--known":
+        return text
     if (option, text) == ("--length", "same"):
         return text
     number = int(text) if re.fullmatch("-?[0-9]+", text) else -1
@@ -130,6 +133,11 @@ def read_words(words):
         raise Ends(2, None)
     options, (fewest, most) = COMMANDS[command]
     names, chosen = told_apart(rest, options)
+    if "--dry-run" in chosen:
+        # Nothing is kept: neither where nor how is to be said.
+        fewest = most = 1
+        if chosen.keys() & set(OF_KEPT):
+            raise Ends(2, None)
     if not fewest <= len(names) <= most:
         raise Ends(2, None)
     length, below = chosen.get("--length", 512), chosen["--below"]
@@ -154,7 +162,9 @@ def read_words(words):
     aside = names.pop() if command == "replace" else None
     older_than = chosen.get("--older-than", 7 if command == "replace" else 0)
     of_originals = "--undo" in chosen, older_than, "--touch" in chosen, "--int24" in chosen
-    return Task(command, names, length, kinds, tolerance, strict, json, quiet, below, *flags, aside, *of_originals)
+    dry_run = "--dry-run" in chosen
+    of_days = chosen.get("--known"), dry_run
+    return Task(command, names, length, kinds, tolerance, strict, json, quiet, below, *flags, aside, *of_originals, *of_days)
 
 
 # Files and streams.
@@ -338,10 +348,28 @@ def hint_of(walk, given):
     return b"hint: no folder of an archive below ROOT\n" if given.is_terminal and walk.has_no_day() else b""
 
 
+def known_of(task, given):
+    """The lines that tell of something refused in the file of `--known`, without their line feeds; None without that option."""
+    if task.known is None:
+        return None
+    try:
+        file = os.open(task.known, os.O_RDONLY)
+    except OSError as why:
+        hint = f"hint: {why.strerror} (os error {why.errno})\n".encode()
+        raise Ends(1, told(f"cannot open {walks.in_one_line(task.known)}"), hint) from None
+    if is_one(task.known, given.redirecting):
+        raise Ends(2, told("the output is the input"))
+    content = walks.read_to_end(file)
+    if content is None:
+        hint = b"hint: a folder: msrepack archive reads archives\n"
+        raise Ends(1, told(f"{walks.in_one_line(task.known)}: read fault"), hint)
+    return [line.decode() for line in content.split(b"\n") if line.startswith(b"refused ")]
+
+
 def archive(task, given):
     if walks.overlap(task.names):
         raise Ends(2, told("the folders overlap"))
-    walk = walks.Walk(task, given.odd)
+    walk = walks.Trial(task, given.odd) if task.dry_run else walks.Walk(task, given.odd, known_of(task, given))
     text = model.text(walk.lines()).encode()
     yield Outcome(int(walk.refused > 0), text, hint_of(walk, given), lines=True)
 
@@ -349,7 +377,7 @@ def archive(task, given):
 def verify(task, given):
     if walks.overlap(task.names):
         raise Ends(2, told("the folders overlap"))
-    found = walks.Verification(task, given.odd)
+    found = walks.Verification(task, given.odd, known_of(task, given))
     text = model.text(found.lines()).encode()
     yield Outcome(int(found.is_to_be_looked_at()), text, hint_of(found, given), lines=True)
 

@@ -175,13 +175,13 @@ class Player(transcript.Script):
 
     def ran(self, words, told, undo):
         """A run with what its settings make around it, which is taken away again."""
-        if "terminal" in told:
-            return self.at_terminal(words, self.input(told, undo))
         if "folder" in told:
             {"closed": self.close, "latin": self.name_oddly}[told["names"]](told["folder"], undo)
         if "held" in told:
             fcntl.flock(undo.enter_context(open(told["held"], "ab")), fcntl.LOCK_EX | fcntl.LOCK_NB)
         given = self.input(told, undo)
+        if "terminal" in told:
+            return self.at_terminal(words, given)
         redirecting, writing = told.get("redirecting"), transcript.device(told.get("writing", ""))
         if writing.fails is not None and writing.fails > 0:
             return self.to_an_end(words, given, self.taken(words, writing))

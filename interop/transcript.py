@@ -423,8 +423,9 @@ TOLERANCE = ["--tolerance", "1 to 1000000", "[default: 1000]"]
 REFUSES = ["--strict", "18 ReverseMismatch"]
 LINES = ["done PATH", "same PATH", "skipped PATH: not an SDS path", "not waveform data", "bad day", "notshown PATH", "differs PATH"]
 LINES += ["changed PATH", "larger PATH", "shrunk PATH samples N M", "young PATH", "refused PATH: TEXT", "refused PATH: listing"]
-LINES += ["cannot open", "another walk is at work"]
-LINES += ["channel NET.STA.LOC.CHAN files N read N written N", "files N skipped N refused N [larger N] [young N]"]
+OF_TRIAL = ["would PATH read N written M", "channel NET.STA.LOC.CHAN files N read N written N", "files N skipped N refused N [young N]"]
+LINES += ["cannot open", "another walk is at work", OF_TRIAL[0]]
+LINES += ["channel NET.STA.LOC.CHAN files N read N written N", "known PATH: TEXT", "files N skipped N refused N [known N] [larger N] [young N]"]
 SAID = ["same segments N samples N", "moved N N", "differ segment K key", "differ segment K start"]
 SAID += ["differ segment K sample N values V V", "differ segment K sample N only in ONE", "differ segment K only in ONE"]
 HELP = {
@@ -436,11 +437,13 @@ HELP = {
     "compare": [*STATUSES, "3", *TOLERANCE, *SAID, "ONE", "OTHER"],
     "archive": [*STATUSES, *LENGTH, *KINDS, *TOLERANCE, *REFUSES, *LINES, "--below", *commands.OF_DAYS, "same"],
 }
-HELP["archive"] += ["--older-than", "[default: 0]", "--quiet", "--json", "ROOT", "OUT", "REPORTS"]
+HELP["archive"] += ["--older-than", "[default: 0]", "--known", "FILE", "--quiet", "--json", "--dry-run", "ROOT", "OUT", "REPORTS"]
+HELP["--dry-run"] = [*STATUSES, *LENGTH, *KINDS, *TOLERANCE, *REFUSES, *OF_TRIAL, "--below", "--bytes", "same"]
+HELP["--dry-run"] += ["--older-than", "[default: 0]", "--quiet", "--json", "--dry-run", "ROOT"]
 FOUND = ["verified PATH", "inplace PATH", "missing PATH", "notshown PATH", "differs PATH", "orphan PATH"]
 FOUND += ["refused PATH: file: TEXT", "refused PATH: records: TEXT", "refused PATH: report: TEXT", "refused PATH: listing"]
-FOUND += ["skipped PATH: TEXT", "cannot open", "the file itself", "files N skipped N refused N missing N notshown N differs N orphan N"]
-HELP["verify"] = [*STATUSES, *FOUND, "--quiet", "--json", "--below", "ROOT", "OUT", "REPORTS"]
+FOUND += ["skipped PATH: TEXT", "cannot open", "the file itself", "known PATH: TEXT", "files N skipped N refused N [known N] missing N notshown N differs N orphan N"]
+HELP["verify"] = [*STATUSES, *FOUND, "--known", "FILE", "--quiet", "--json", "--below", "ROOT", "OUT", "REPORTS"]
 PLACED = ["replaced PATH bytes N M", "same PATH", "young PATH", "larger PATH bytes N M", "changed PATH", "refused PATH: TEXT"]
 PLACED += ["missing PATH", "notshown PATH", "differs PATH", "skipped PATH: TEXT", "orphan PATH", "restored PATH"]
 PLACED += ["total replaced N same N young N larger N changed N skipped N refused N missing N notshown N differs N orphan N"]
@@ -452,7 +455,7 @@ def is_told(words, text):
     """Whether a text of the product's own words says what it has to; help in short (`-h`) at least the names."""
     if words[0] in ("--version", "-V"):
         return re.fullmatch(rb"msrepack \d+\.\d+\.\d+\n", text) is not None
-    asked = HELP[next((word for word in words if word in HELP), None)]
+    asked = HELP["--dry-run" if "--dry-run" in words else next((word for word in words if word in HELP), None)]
     needed = [one for one in asked if one.isupper() or one.startswith("--")] if "-h" in words else asked
     said = " ".join(text.decode().split())
     return all(one in said for one in needed)

@@ -146,7 +146,7 @@ def reason_of(why):
 def json_line(word, path, why, reason, side=None):
     """The object of an entry. A refusal tells whose fault it is, and where it is, as far as its text says so."""
     members = [f'"what":"{word}"', f'"path":"{json_text(path)}"']
-    if word == "refused":
+    if word in ("refused", "known"):
         told = re.match(r"(file|records|report): ", why)
         side = side or (told and told[1])
         members += [f'"side":"{side}"'] if side else []
@@ -176,10 +176,11 @@ def channel_of(path):
 class Walk:
     """One walk: its lines come one by one, each when its file is done."""
 
-    def __init__(self, task, odd):
-        self.task, self.odd = task, odd
-        self.root, self.out, self.reports = task.names
-        self.done, self.skips, self.refused, self.larger, self.young, self.channels = 0, 0, 0, 0, 0, {}
+    def __init__(self, task, odd, known=None):
+        self.task, self.odd, self.lines_known = task, odd, known
+        self.root, *kept = task.names
+        self.out, self.reports = kept or (None, None)
+        self.done, self.skips, self.refused, self.known, self.larger, self.young, self.channels = 0, 0, 0, 0, 0, 0, {}
 
     def lines(self):
         for top in self.task.below or [""]:
@@ -191,6 +192,7 @@ class Walk:
                 yield f"channel {name} files {files}{self.told(*sums)}"
         sizes = [sum(sums[place] for sums in self.channels.values()) for place in (3, 4)]
         counts = [("files", self.done), ("skipped", self.skips), ("refused", self.refused)]
+        counts += [] if self.lines_known is None else [("known", self.known)]
         counts += [("larger", self.larger)] if self.task.only_smaller else []
         counts += [("young", self.young)] if self.task.older_than else []
         if self.task.json:
@@ -209,7 +211,7 @@ class Walk:
 
     def line(self, word, path, why=None, side=None, reason=None):
         """The line of an entry, or None if it is left out."""
-        if self.task.quiet and word in ("skipped", "young"):
+        if self.task.quiet and word in ("skipped", "young", "known"):
             return None
         if self.task.json:
             return json_line(word, path, why, reason, side)
@@ -271,9 +273,12 @@ class Walk:
                 yield self.refuse(below, "cannot open", "file")
 
     def has_no_day(self):
-        return not (self.task.below or self.done or self.refused or self.larger or self.young)
+        return not (self.task.below or self.done or self.refused or self.known or self.larger or self.young)
 
     def refuse(self, path, text, side=None, reason=None):
+        if f"refused {in_one_line(path)}: {text}" in (self.lines_known or ()):
+            self.known += 1
+            return self.line("known", path, text, side, reason)
         self.refused += 1
         return self.line("refused", path, text, side, reason)
 
@@ -447,20 +452,29 @@ class Walk:
             return length if 256 <= length <= 65536 else 512
         return 512
 
-    def repack(self, source, places, claim):
-        """Repacks a day: all is written beside its names, and then the report gets its name first."""
+    @staticmethod
+    def opened(source):
+        """A day's file, if it is a regular one."""
         try:
             if not stat.S_ISREG(os.stat(source).st_mode):
                 raise OSError
-            file = os.open(source, os.O_RDONLY)
+            return os.open(source, os.O_RDONLY)
         except OSError as why:
             raise NotDone("cannot open", "file", reason_of(why)) from None
-        stamp, parts = stamp_of(source), self.parts(places, claim.number)
-        content = read_to_end(file)
+
+    def packed(self, content):
+        """The records and the report of what was read of a day, or its fault."""
         length = self.length_for(content or b"")
         asked = self.task.tolerance, self.task.strict, self.task.kinds
         records, report, fault = model.repacked(content or b"", length, *asked)
-        fault = "read fault" if content is None else fault
+        return records, report, "read fault" if content is None else fault
+
+    def repack(self, source, places, claim):
+        """Repacks a day: all is written beside its names, and then the report gets its name first."""
+        file = self.opened(source)
+        stamp, parts = stamp_of(source), self.parts(places, claim.number)
+        content = read_to_end(file)
+        records, report, fault = self.packed(content)
         for path, text, side in zip(parts, (records, report.encode() if report else b""), ("records", "report")):
             self.write(path, text, side)
         if fault:
@@ -548,6 +562,18 @@ class Walk:
         os.rename(part, path)
 
 
+class Trial(Walk):
+    """A walk that only tells what repacking each day would give."""
+
+    def day(self, path):
+        content = read_to_end(self.opened(f"{self.root}/{path}"))
+        records, report, fault = self.packed(content)
+        if fault:
+            raise NotDone(fault, "file" if fault.startswith("offset") else None)
+        read = parsed(report.encode())
+        return "would", read.counts[0], sum(line.records for line in read.lines), len(content), len(records)
+
+
 class Verification:
     """What is found of each day of an archive, and then of the days of its records."""
 
@@ -555,10 +581,11 @@ class Verification:
     # The words of the days that the first number counts.
     GOOD = ("verified", "inplace")
 
-    def __init__(self, task, odd):
-        self.task, self.odd = task, odd
+    def __init__(self, task, odd, known=None):
+        self.task, self.odd, self.lines_known = task, odd, known
         self.root, self.out, self.reports = task.names
-        self.sums = dict.fromkeys(self.SUMS, 0)
+        sums = self.SUMS if known is None else [*self.SUMS[:3], "known", *self.SUMS[3:]]
+        self.sums = dict.fromkeys(sums, 0)
 
     def lines(self):
         yield from filter(None, self.entries_told())
@@ -580,16 +607,24 @@ class Verification:
                     yield self.told("orphan", path)
 
     def is_to_be_looked_at(self):
-        """What is not verified, in place or skipped; the whole archive has to have a day."""
-        return self.has_no_day() or any(count for word, count in self.sums.items() if word not in ("files", "skipped"))
+        """What is not verified, in place, skipped or known; the whole archive has to have a day."""
+        return self.has_no_day() or any(count for word, count in self.sums.items() if word not in ("files", "skipped", "known"))
 
     def has_no_day(self):
         return not self.task.below and all(word == "skipped" or not count for word, count in self.sums.items())
 
     def told(self, word, path, why=None, reason=None):
-        """The line of an entry, or None if it is left out."""
+        """The line of an entry, as known if it is, or None if it is left out."""
+        begin = f"refused {in_one_line(path)}: "
+        told_so = [line for line in self.lines_known or () if line.startswith(begin)]
+        if word == "missing" and told_so:
+            self.sums["known"] += 1
+            why = told_so[0].removeprefix(begin)
+            object_told = f'{{"what":"known","path":"{json_text(path)}","text":"{json_text(why)}"}}'
+            return None if self.task.quiet else object_told if self.task.json else f"known {in_one_line(path)}: {why}"
+        word = "known" if word == "refused" and f"{begin}{why}" in told_so else word
         self.sums["files" if word in self.GOOD else word] += 1
-        if self.task.quiet and word in (*self.GOOD, "skipped"):
+        if self.task.quiet and word in (*self.GOOD, "skipped", "known"):
             return None
         if self.task.json:
             return json_line(word, path, why, reason)

@@ -13,7 +13,7 @@ from msrepack.errors import BadCall, Error, Failed, NotAReport, NotFound, Refuse
 from msrepack.files import Counts, Difference, Listing, Packed, Same, Written, check, compare, listing, repack, segments
 from msrepack.program import find_program
 from msrepack.report import Flags, Report, Segment
-from msrepack.walks import archive, verify
+from msrepack.walks import archive, dry_run, verify
 
 # That of the program which this package was tested with.
 __version__ = "1.1.0"
@@ -42,6 +42,7 @@ __all__ = [
     "check",
     "compare",
     "daily",
+    "dry_run",
     "extents",
     "find_program",
     "gaps",

@@ -6,13 +6,17 @@ was asked for them.
 import json
 import re
 from dataclasses import dataclass
-from typing import Callable, ClassVar, Dict, Optional, Tuple, Union
+from typing import Callable, ClassVar, Dict, Optional, Tuple, Type, Union
 
 from msrepack.errors import FAULT, refusal
 
 
 def _bytes_told(read: Optional[int], written: Optional[int]) -> str:
     return "" if read is None else f" bytes {read} {written}"
+
+
+def _known_told(known: Optional[int]) -> str:
+    return "" if known is None else f" known {known}"
 
 
 @dataclass(frozen=True)
@@ -46,6 +50,16 @@ class Done(_Counted):
     """
 
     WORD = "done"
+
+
+class Would(_Counted):
+    """What repacking the file would give, of a dry run.
+
+    >>> parse("would 2020/XX/TEST/BHN.D/XX.TEST.00.BHN.D.2020.001 read 5 written 3").written
+    3
+    """
+
+    WORD = "would"
 
 
 class Same(_Counted):
@@ -180,23 +194,13 @@ class Skipped:
 
 
 @dataclass(frozen=True)
-class Refused:
-    """A file or a folder that was refused, and why.
-
-    `of` is `report`, `records` or `file` if `verify` tells of which the text is; `side` is the same of `archive` too, if it
-    tells which could not be opened or made, or has a fault. `offset`, `number`, `name` and `value` are those of a record that
-    is refused, else None. `reason` is that of the system, if it gave one. A line in words has no `side` and no `reason`.
-
-    >>> refused = parse("refused 2020/XX/TEST/BHN.D/XX.TEST.00.BHN.D.2020.001: records: offset 512: 15 OtherEncoding 4")
-    >>> refused.of, refused.offset, refused.number, refused.name, refused.value
-    ('records', 512, 15, 'OtherEncoding', 4)
-    """
-
+class _Refusal:
     path: str
     text: str
     of: Optional[str] = None
     reason: Optional[str] = None
     side: Optional[str] = None
+    WORD: ClassVar[str] = ""
 
     @property
     def offset(self) -> Optional[int]:
@@ -223,7 +227,33 @@ class Refused:
         return why.value if why else None
 
     def __str__(self) -> str:
-        return f"refused {self.path}: {f'{self.of}: ' if self.of else ''}{self.text}"
+        return f"{self.WORD} {self.path}: {f'{self.of}: ' if self.of else ''}{self.text}"
+
+
+class Refused(_Refusal):
+    """A file or a folder that was refused, and why.
+
+    `of` is `report`, `records` or `file` if `verify` tells of which the text is; `side` is the same of `archive` too, if it
+    tells which could not be opened or made, or has a fault. `offset`, `number`, `name` and `value` are those of a record that
+    is refused, else None. `reason` is that of the system, if it gave one. A line in words has no `side` and no `reason`.
+
+    >>> refused = parse("refused 2020/XX/TEST/BHN.D/XX.TEST.00.BHN.D.2020.001: records: offset 512: 15 OtherEncoding 4")
+    >>> refused.of, refused.offset, refused.number, refused.name, refused.value
+    ('records', 512, 15, 'OtherEncoding', 4)
+    """
+
+    WORD = "refused"
+
+
+class Known(_Refusal):
+    """The same of what lines of earlier runs tell as refused; of `verify` also a day that is missing, with the text of these.
+
+    >>> known = parse("known 2020/XX/TEST/BHN.D/XX.TEST.00.BHN.D.2020.001: offset 512: 1 Truncated")
+    >>> known.name
+    'Truncated'
+    """
+
+    WORD = "known"
 
 
 @dataclass(frozen=True)
@@ -248,10 +278,11 @@ class Channel:
 
 @dataclass(frozen=True)
 class ArchiveTotals:
-    """The last line of `archive`; `larger` is None unless only smaller files were asked for, `young` unless only older ones.
+    """The last line of `archive`; `larger` is None unless only smaller files were asked for, `young` unless only older ones,
+    `known` without lines of earlier runs.
 
     >>> parse("files 4 skipped 1 refused 0 larger 2 young 3")
-    ArchiveTotals(files=4, skipped=1, refused=0, larger=2, bytes_read=None, bytes_written=None, young=3)
+    ArchiveTotals(files=4, skipped=1, refused=0, larger=2, bytes_read=None, bytes_written=None, young=3, known=None)
     """
 
     files: int
@@ -261,17 +292,20 @@ class ArchiveTotals:
     bytes_read: Optional[int] = None
     bytes_written: Optional[int] = None
     young: Optional[int] = None
+    known: Optional[int] = None
 
     def __str__(self) -> str:
+        known = _known_told(self.known)
         larger = "" if self.larger is None else f" larger {self.larger}"
         young = "" if self.young is None else f" young {self.young}"
         bytes_told = _bytes_told(self.bytes_read, self.bytes_written)
-        return f"files {self.files} skipped {self.skipped} refused {self.refused}{larger}{young}{bytes_told}"
+        return f"files {self.files} skipped {self.skipped} refused {self.refused}{known}{larger}{young}{bytes_told}"
 
 
 @dataclass(frozen=True)
 class VerifyTotals:
-    """The last line of `verify`; `files` are those that are verified or in place.
+    """The last line of `verify`; `files` are those that are verified or in place, `known` is None without lines of earlier
+    runs.
 
     >>> parse("files 4 skipped 1 refused 0 missing 0 notshown 0 differs 2 orphan 0").differs
     2
@@ -284,16 +318,17 @@ class VerifyTotals:
     notshown: int
     differs: int
     orphan: int
+    known: Optional[int] = None
 
     def __str__(self) -> str:
         return (
-            f"files {self.files} skipped {self.skipped} refused {self.refused} missing {self.missing}"
-            f" notshown {self.notshown} differs {self.differs} orphan {self.orphan}"
+            f"files {self.files} skipped {self.skipped} refused {self.refused}{_known_told(self.known)}"
+            f" missing {self.missing} notshown {self.notshown} differs {self.differs} orphan {self.orphan}"
         )
 
 
-ArchiveLine = Union[Done, Same, Larger, Young, NotShown, Differs, Changed, Shrunk, Skipped, Refused, Channel, ArchiveTotals]
-VerifyLine = Union[Verified, InPlace, Missing, NotShown, Differs, Skipped, Refused, Orphan, VerifyTotals]
+ArchiveLine = Union[Done, Would, Same, Larger, Young, NotShown, Differs, Changed, Shrunk, Skipped, Refused, Known, Channel, ArchiveTotals]
+VerifyLine = Union[Verified, InPlace, Missing, NotShown, Differs, Skipped, Refused, Known, Orphan, VerifyTotals]
 Line = Union[ArchiveLine, VerifyLine]
 
 N = "([0-9]+)"
@@ -304,7 +339,9 @@ TEXTS = (
     "|offset [0-9]+: [0-9]+ [A-Za-z0-9]+(?: [0-9]+)?"
 )
 Maker = Callable[..., Line]
-COUNTED: Dict[str, Maker] = {"done": Done, "same": Same, "larger": Larger}
+COUNTED: Dict[str, Maker] = {"done": Done, "would": Would, "same": Same, "larger": Larger}
+RefusalKind = Union[Type[Refused], Type[Known]]
+REFUSED: Dict[str, RefusalKind] = {"refused": Refused, "known": Known}
 NAMED: Dict[str, Maker] = {
     "notshown": NotShown,
     "differs": Differs,
@@ -322,12 +359,16 @@ def _numbers(*texts: Optional[str]) -> Tuple[Optional[int], ...]:
 
 
 def _archive_totals(files: str, skipped: str, refused: str, *told: Optional[str]) -> Line:
-    larger, young, read, written = _numbers(*told)
-    return ArchiveTotals(int(files), int(skipped), int(refused), larger, read, written, young)
+    known, larger, young, read, written = _numbers(*told)
+    return ArchiveTotals(int(files), int(skipped), int(refused), larger, read, written, young, known)
 
 
-def _refused(path: str, of: Optional[str], text: str) -> Line:
-    return Refused(path, text, of)
+def _verify_totals(files: str, skipped: str, refused: str, known: Optional[str], *counts: str) -> Line:
+    return VerifyTotals(int(files), int(skipped), int(refused), *map(int, counts), *_numbers(known))
+
+
+def _refused(word: str, path: str, of: Optional[str], text: str) -> Line:
+    return REFUSED[word](path, text, of)
 
 
 FORMS: Tuple[Tuple["re.Pattern[str]", Maker], ...] = (
@@ -338,18 +379,18 @@ FORMS: Tuple[Tuple["re.Pattern[str]", Maker], ...] = (
     (re.compile(f"({'|'.join(NAMED)}) (.*)"), lambda word, path: NAMED[word](path)),
     (re.compile(f"shrunk (.*) samples {N} {N}"), lambda path, *counts: Shrunk(path, *map(int, counts))),
     (re.compile("skipped (.*?): (not an SDS path|not waveform data|bad day)"), Skipped),
-    (re.compile(f"refused (.*?): (?:(report|records|file): )?({TEXTS})"), _refused),
+    (re.compile(f"({'|'.join(REFUSED)}) (.*?): (?:(report|records|file): )?({TEXTS})"), _refused),
     (
         re.compile(rf"channel ([0-9A-Za-z.]+) files {N} read {N} written {N}{BYTES}"),
         lambda name, *counts: Channel(name, *_numbers(*counts)),  # type: ignore[arg-type]
     ),
     (
-        re.compile(f"files {N} skipped {N} refused {N}(?: larger {N})?(?: young {N})?{BYTES}"),
+        re.compile(f"files {N} skipped {N} refused {N}(?: known {N})?(?: larger {N})?(?: young {N})?{BYTES}"),
         _archive_totals,
     ),
     (
-        re.compile(f"files {N} skipped {N} refused {N} missing {N} notshown {N} differs {N} orphan {N}"),
-        lambda *counts: VerifyTotals(*map(int, counts)),
+        re.compile(f"files {N} skipped {N} refused {N}(?: known {N})? missing {N} notshown {N} differs {N} orphan {N}"),
+        _verify_totals,
     ),
 )
 
@@ -393,13 +434,13 @@ def parse_object(text: str) -> Line:
         return Skipped(path, members["text"])
     if what == "shrunk":
         return Shrunk(path, members["samples_was"], members["samples"])
-    if what == "refused":
-        return _refused_object(path, members["text"], members.get("side"), members.get("reason"))
+    if what in REFUSED:
+        return _refused_object(REFUSED[what], path, members["text"], members.get("side"), members.get("reason"))
     return COUNTED[what](path, **members) if what in COUNTED else NAMED[what](path)
 
 
-def _refused_object(path: str, text: str, side: Optional[str], reason: Optional[str]) -> Refused:
+def _refused_object(kind: RefusalKind, path: str, text: str, side: Optional[str], reason: Optional[str]) -> Line:
     """`verify` begins its texts with the side."""
     if side and text.startswith(f"{side}: "):
-        return Refused(path, text[len(f"{side}: ") :], side, reason, side)
-    return Refused(path, text, None, reason, side)
+        return kind(path, text[len(f"{side}: ") :], side, reason, side)
+    return kind(path, text, None, reason, side)

@@ -30,12 +30,13 @@ def archive(
     only_smaller: bool = False,
     keep_old: bool = False,
     older_than: int = 0,
+    known: Optional[Path] = None,
     bytes: bool = False,
     timeout: Optional[float] = None,
 ) -> Iterator[ArchiveLine]:
     """Repacks each day below `root` to `out`, its report to `reports`; gives each line as its file is done, the totals last.
 
-    The words are those of the program's options, `length` also `"same"`, `older_than` in days; 24-bit integers are not
+    The words are those of the program's options, `length` also `"same"`, `older_than` in days, `known` a file of lines in words; 24-bit integers are not
     written unless `int24` is set. Without `below` it is the whole archive; if no folder is in it, no day is. `timeout` is in seconds, of the
     whole walk, which goes on in a process of its own while a line is looked at. If the loop ends before the totals, by
     `break` or an exception, the walk ends once the file in hand is done. If that takes longer than a second it gets
@@ -61,15 +62,52 @@ def archive(
     }
     words = ["archive", "--json", f"--length={length}", f"--tolerance={tolerance}", *options(chosen)]
     words += [f"--older-than={older_than}"] if older_than else []
+    words += _known_word(known)
     none = (0 if bytes else None,) * 2
-    nothing = ArchiveTotals(0, 0, 0, 0 if only_smaller else None, *none, 0 if older_than else None)
+    young, of_known = 0 if older_than else None, None if known is None else 0
+    nothing = ArchiveTotals(0, 0, 0, 0 if only_smaller else None, *none, young, of_known)
     return cast(Iterator[ArchiveLine], _walk(words, below, (root, out, reports), nothing, timeout))
 
 
+def dry_run(
+    root: Path,
+    *,
+    length: Union[int, str] = 512,
+    int24: bool = False,
+    tolerance: int = 1000,
+    strict: bool = False,
+    below: Optional[Iterable[str]] = None,
+    older_than: int = 0,
+    bytes: bool = False,
+    timeout: Optional[float] = None,
+) -> Iterator[ArchiveLine]:
+    """Tells what `archive` with these words would give of each day below `root`, and writes nothing.
+
+    >>> import msrepack
+    >>> *_, totals = msrepack.dry_run("examples/sds", bytes=True)
+    >>> totals.files, totals.bytes_read, totals.bytes_written
+    (4, 9216, 6656)
+    """
+    chosen = {"--no-int24": not int24, "--strict": strict, "--bytes": bytes}
+    words = ["archive", "--dry-run", "--json", f"--length={length}", f"--tolerance={tolerance}", *options(chosen)]
+    words += [f"--older-than={older_than}"] if older_than else []
+    none = (0 if bytes else None,) * 2
+    nothing = ArchiveTotals(0, 0, 0, None, *none, 0 if older_than else None)
+    return cast(Iterator[ArchiveLine], _walk(words, below, (root,), nothing, timeout))
+
+
 def verify(
-    root: Path, out: Path, reports: Path, *, below: Optional[Iterable[str]] = None, timeout: Optional[float] = None
+    root: Path,
+    out: Path,
+    reports: Path,
+    *,
+    below: Optional[Iterable[str]] = None,
+    known: Optional[Path] = None,
+    timeout: Optional[float] = None,
 ) -> Iterator[VerifyLine]:
     """Says of each day below `root` whether its records below `out` and its report below `reports` hold, the totals last.
+
+    `known` is a file of lines that earlier walks printed in words.
 
     >>> import msrepack, tempfile
     >>> with tempfile.TemporaryDirectory() as there:
@@ -79,9 +117,13 @@ def verify(
     >>> totals.files, totals.missing, totals.differs
     (4, 0, 0)
     """
-    nothing = VerifyTotals(0, 0, 0, 0, 0, 0, 0)
-    words = ["verify", "--json"]
+    nothing = VerifyTotals(0, 0, 0, 0, 0, 0, 0, None if known is None else 0)
+    words = ["verify", "--json", *_known_word(known)]
     return cast(Iterator[VerifyLine], _walk(words, below, (root, out, reports), nothing, timeout))
+
+
+def _known_word(known: Optional[Path]) -> List[str]:
+    return [] if known is None else [f"--known={os.fspath(known)}"]
 
 
 def _walk(

@@ -9,9 +9,9 @@ _msrepack() {
         compare) words='--tolerance --help' ;;
         archive)
             words='--length --no-int24 --tolerance --strict --below --resume --check --only-smaller --keep-old'
-            words="$words --older-than --bytes --quiet --json --help"
+            words="$words --older-than --known --bytes --quiet --json --dry-run --help"
             ;;
-        verify) words='--quiet --json --below --help' ;;
+        verify) words='--known --quiet --json --below --help' ;;
         replace) words='--undo --below --only-smaller --older-than --touch --int24 --help' ;;
     esac
     if [ "$COMP_CWORD" -eq 1 ]; then
@@ -23,6 +23,9 @@ _msrepack() {
         if [ "${COMP_WORDS[1]}" = archive ]; then words="$words same"; fi
     elif [ "$before" = --tolerance ] || [ "$before" = --below ] || [ "$before" = --older-than ]; then
         return # a number, or a path that is counted from ROOT
+    elif [ "$before" = --known ]; then
+        compopt -o default
+        return
     elif [[ $word != -* ]]; then
         case ${COMP_WORDS[1]} in
             archive | verify | replace) compopt -o dirnames ;;

@@ -26,6 +26,8 @@ complete -c msrepack -n '__fish_seen_subcommand_from repack feed list compare ar
     -d 'Microseconds by which a record may be early or late'
 complete -c msrepack -n '__fish_seen_subcommand_from repack feed list archive' -l strict \
     -d 'Refuse a record whose last sample is not its reverse constant'
+complete -c msrepack -n '__fish_seen_subcommand_from archive verify' -r -F -l known \
+    -d 'Tell as known what lines of earlier runs tell as refused'
 complete -c msrepack -n '__fish_seen_subcommand_from archive verify' -l quiet \
     -d 'Print only what is to be looked at, and the counts'
 complete -c msrepack -n '__fish_seen_subcommand_from list archive verify' -l json -d 'Print each line as an object of JSON'
@@ -43,3 +45,4 @@ complete -c msrepack -n '__fish_seen_subcommand_from archive replace' -x -l olde
 complete -c msrepack -n '__fish_seen_subcommand_from replace' -l touch -d 'Give the records the time of now'
 complete -c msrepack -n '__fish_seen_subcommand_from replace' -l int24 -d 'Also days whose records have 24-bit integers'
 complete -c msrepack -n '__fish_seen_subcommand_from archive' -l bytes -d 'Tell bytes read and written too'
+complete -c msrepack -n '__fish_seen_subcommand_from archive' -l dry-run -d 'Tell what repacking would give, and write nothing'

@@ -31,7 +31,7 @@ use Rattle.msr_options.specs.declared.task.NoTask.TheVariants.{Ending, NotALengt
 use Rattle.msr_options.specs.declared.task.Verb.{Verb}
 use Rattle.msr_options.specs.declared.task.Verb.TheVariants as verb
 use Rattle.msr_arguments.specs.Found.{EndsFor, IsShown, IsToldByClap}
-use Rattle.msr_arguments.specs.Rules.{app_with, rules_of}
+use Rattle.msr_arguments.specs.Rules.{app_with, dry_run_rules, rules_of}
 use denote.Ref.{Bor}
 
 abbrev is_shown : ErrorKind → Bool
@@ -685,11 +685,13 @@ command_tame : (verb : Verb) → let rules = (built (command_app verb)).top.rule
 command_tame verb.Repack = refl
 command_tame _ = refl
 
--- a line of a command with no word that asks for help
-command_quiet : (verb : Verb) (words : List Text) → ask_help (drop 1 words) ≡ false → Quiet (fault_of (command_app verb) words)
-command_quiet verb words plain =
-    subst Quiet (sym (leaf_fault (built (command_app verb)) nothing_held (drop 1 words) refl))
-    (level_quiet (built (command_app verb)).top false (command_tame verb) refl (drop 1 words) plain)
+-- a line of these arguments with no word that asks for help
+line_quiet : (name : Text) (rules : List Rule) (words : List Text) →
+    (let all = (built (app_with name rules)).top.rules in list_all (is_tame all false) all ≡ true) →
+    ask_help (drop 1 words) ≡ false → Quiet (fault_of (app_with name rules) words)
+line_quiet name rules words tame plain =
+    subst Quiet (sym (leaf_fault (built (app_with name rules)) nothing_held (drop 1 words) refl))
+    (level_quiet (built (app_with name rules)).top false tame refl (drop 1 words) plain)
 
 shown_among : (kind : ErrorKind) (kinds : Kinds) → IsShown kind → IsAmong kind kinds → Quiet kinds → ⊥
 shown_among kind [] shown among quiet = among
@@ -722,13 +724,30 @@ command_simple : (verb : Verb) → is_simple_and_free (command_app verb) ≡ tru
 command_simple verb.Repack = refl
 command_simple _ = refl
 
+line_told : (name : Text) (rules : List Rule) (app : App) (words : List (Bor Text)) (error : Error) (why : NoTask) →
+    (let all = (built (app_with name rules)).top.rules in list_all (is_tame all false) all ≡ true) →
+    is_simple_and_free (app_with name rules) ≡ true → app ≡ app_with name rules →
+    (is_simple_and_free app ≡ true → HasKind (fault_of app (map (λ word. word.now) words)) error) →
+    EndsFor (kind_of error) why →
+    IsToldByClap (ask_help (drop 1 (map (λ word. word.now) words)) ≡ true) why
+line_told name rules app words error why tame simple is kinds ends =
+    let texts = map (λ (word : Bor Text). word.now) words in
+    told (ask_help (drop 1 texts)) (fault_of (app_with name rules) texts) error why (line_quiet name rules texts tame)
+    (subst (λ a. HasKind (fault_of a texts) error) is
+    (kinds (subst (λ a. is_simple_and_free a ≡ true) (sym is) simple))) ends
+
 pub command_told : (verb : Verb) (app : App) (words : List (Bor Text)) (error : Error) (why : NoTask) →
     app ≡ command_app verb →
     (is_simple_and_free app ≡ true → HasKind (fault_of app (map (λ word. word.now) words)) error) →
     EndsFor (kind_of error) why →
     IsToldByClap (ask_help (drop 1 (map (λ word. word.now) words)) ≡ true) why
 command_told verb app words error why is kinds ends =
-    let texts = map (λ (word : Bor Text). word.now) words in
-    told (ask_help (drop 1 texts)) (fault_of (command_app verb) texts) error why (command_quiet verb texts)
-    (subst (λ a. HasKind (fault_of a texts) error) is
-    (kinds (subst (λ a. is_simple_and_free a ≡ true) (sym is) (command_simple verb)))) ends
+    line_told (word_of verb) (rules_of verb) app words error why (command_tame verb) (command_simple verb) is kinds ends
+
+-- a line of a dry run
+pub trial_told : (app : App) (words : List (Bor Text)) (error : Error) (why : NoTask) →
+    app ≡ app_with (codes "archive") dry_run_rules →
+    (is_simple_and_free app ≡ true → HasKind (fault_of app (map (λ word. word.now) words)) error) →
+    EndsFor (kind_of error) why →
+    IsToldByClap (ask_help (drop 1 (map (λ word. word.now) words)) ≡ true) why
+trial_told app words error why is kinds ends = line_told (codes "archive") dry_run_rules app words error why refl refl is kinds ends

@@ -5,3 +5,4 @@ pub mod Named
 pub mod Parsed
 pub mod Refused
 pub mod Slash
+pub mod Trial

@@ -38,7 +38,7 @@ use Rattle.msr_options.specs.Tasks.{IsTolerance, word_of}
 use Rattle.msr_options.specs.declared.task.Verb.{Verb}
 use Rattle.msr_options.specs.declared.task.Verb.TheVariants as verb
 use Rattle.msr_arguments.specs.Found.{IsNumberOf}
-use Rattle.msr_arguments.specs.Rules.{HasNeeded, HoldsDays, HoldsTolerance, IsFoundFor, rules_of, app_with, days_rule, option_rule, tolerance_rule}
+use Rattle.msr_arguments.specs.Rules.{HasNeeded, IsFoundBy, IsFoundFor, dry_run_rules, rules_of, app_with, days_rule, option_rule, tolerance_rule}
 use Rattle.msr_arguments.proofs.Adding.{plain_fields}
 use denote.Ref.{Bor}
 
@@ -320,18 +320,33 @@ has_needed (rule ∷ rules) found each = (
   has_needed rules found (λ k next within at. each (suc k) next (omega (arith, within)) at),
 )
 
+-- a line of these arguments
+has_by : (name : List ℕ) (rules : List Rule) (default : List ℕ) (command : Command) (m : ArgMatches) → app_of command ≡ app_with name rules →
+    list_all suits rules ≡ true →
+    (let names = map (λ (rule : Rule). rule.id) rules in distinct_count bytes_eq names ≡ length names) →
+    (list_any (λ rule. bytes_eq rule.id (codes "tolerance")) rules ≡ true → Any (λ rule. rule ≡ tolerance_rule) rules) →
+    (list_any (λ rule. bytes_eq rule.id (codes "older-than")) rules ≡ true → Any (λ rule. rule ≡ days_rule default) rules) →
+    IsParsedFrom command m → IsFoundBy rules (found_of m)
+has_by name rules default command m is suit once tolerance_in days_in p =
+    let apart = AllPairs-from_IsDistinct bytes_eq-Decides _
+    (IsDistinct-from_count (decided bytes_eq bytes_eq-Decides) _ once) in
+    record {
+      files = has_needed rules (found_of m) (file_there name rules command m is suit apart p);
+      tolerance = λ has number reads. holds_tolerance number
+          (number_there name rules command m is suit apart p 1 1_000_000 (codes "tolerance")
+          (codes "1000") (lit< tt) (tolerance_in has) number reads);
+      days = λ has number reads. holds_days number
+          (number_there name rules command m is suit apart p 0 4_294_967_295
+          (codes "older-than") default (lit< tt) (days_in has) number reads);
+    }
+
 pub has_all : (verb : Verb) (command : Command) (m : ArgMatches) →
     app_of command ≡ app_with (word_of verb) (rules_of verb) → IsParsedFrom command m → IsFoundFor verb (found_of m)
-has_all verb command m is p =
-    let apart = AllPairs-from_IsDistinct bytes_eq-Decides _
-    (IsDistinct-from_count (decided bytes_eq bytes_eq-Decides) _ (counted_once verb)) in
-    record {
-      files = has_needed (rules_of verb) (found_of m)
-          (file_there (word_of verb) (rules_of verb) command m is (rules_suit verb) apart p);
-      tolerance = λ has number reads. holds_tolerance number
-          (number_there (word_of verb) (rules_of verb) command m is (rules_suit verb) apart p 1 1_000_000 (codes "tolerance")
-          (codes "1000") (lit< tt) (tolerance_at verb has) number reads);
-      days = λ has number reads. holds_days number
-          (number_there (word_of verb) (rules_of verb) command m is (rules_suit verb) apart p 0 4_294_967_295
-          (codes "older-than") (days_by verb) (lit< tt) (days_at verb has) number reads);
-    }
+has_all verb command m is p = has_by (word_of verb) (rules_of verb) (days_by verb) command m is (rules_suit verb)
+    (counted_once verb) (tolerance_at verb) (days_at verb) p
+
+-- the line of a dry run
+pub has_tried : (command : Command) (m : ArgMatches) → app_of command ≡ app_with (codes "archive") dry_run_rules →
+    IsParsedFrom command m → IsFoundBy dry_run_rules (found_of m)
+has_tried command m is p = has_by (codes "archive") dry_run_rules (codes "0") command m is refl refl
+    (λ has. (2, tolerance_rule, lit< tt, refl, refl)) (λ has. (5, days_rule (codes "0"), lit< tt, refl, refl)) p

@@ -11,6 +11,8 @@ use Rattle.msr_arguments.specs.declared.words.LineFault.TheVariants.{SameFile, O
 use Rattle.msr_options.specs.declared.days.DayOptions.{DayOptions}
 use Rattle.msr_kinds.specs.declared.kinds.Kinds.{Kinds}
 use Rattle.msr_kinds.specs.declared.kinds.Kinds.TheVariants.{All, WithoutInt24}
+use Rattle.msr_options.specs.declared.known.Known.{Known}
+use Rattle.msr_options.specs.declared.known.Known.TheVariants.{Nothing, File}
 use Rattle.msr_options.specs.declared.task.Archiving.{Archiving}
 use Rattle.msr_options.specs.declared.task.Checking.{Checking}
 use Rattle.msr_options.specs.declared.task.Folders.{Folders}
@@ -20,7 +22,8 @@ use Rattle.msr_options.specs.declared.task.NoTask.{NoTask}
 use Rattle.msr_options.specs.declared.task.NoTask.TheVariants.{Ending, NotALength, Memory}
 use Rattle.msr_options.specs.declared.task.Replacing.{Replacing}
 use Rattle.msr_options.specs.declared.task.Task.{Task}
-use Rattle.msr_options.specs.declared.task.Task.TheVariants.{Repack, List as Listing, Check, Compare, Archive, Verify, Replace, Feed}
+use Rattle.msr_options.specs.declared.task.Task.TheVariants.{Repack, List as Listing, Check, Compare, Archive, Trial, Verify, Replace, Feed}
+use Rattle.msr_options.specs.declared.task.Trying.{Trying}
 use Rattle.msr_options.specs.declared.task.Verifying.{Verifying}
 use Rattle.msr_options.specs.declared.telling.Telling.{Telling}
 
@@ -108,9 +111,29 @@ pub record AsksDays (found : Found) (days : DayOptions) : Type 0 where
   pub own : IsTrue days.same_length → AsksOptions found None days.options
   pub one : ¬ (IsTrue days.same_length) → AsksOptions found (length_in found) days.options
 
+-- the file of that name is to be read
+abbrev pub IsFileOf : (name : List ℕ) → Known → Type 0
+IsFileOf name (File file) = file.now ≡ name
+IsFileOf name _ = ⊥
+
+-- what is known is what a file tells, if one was found
+abbrev pub IsKnownOf : (name : Option (List ℕ)) → Known → Type 0
+IsKnownOf None known = known ≡ Nothing
+IsKnownOf (Some name) known = IsFileOf name known
+
+abbrev pub AsksKnown : Found → Known → Type 0
+AsksKnown found known = IsKnownOf (first_value found (codes "known")) known
+
 -- an archive is to be repacked as was found
 pub record AsksArchive (found : Found) (asked : Archiving) : Type 0 where
   pub folders : AsksFolders found asked.folders
+  pub below : AsksBelow found (map (λ folder. folder.now) asked.below.items)
+  pub days : AsksDays found asked.days
+  pub known : AsksKnown found asked.known
+
+-- the days of an archive are to be tried as was found
+pub record AsksTrial (found : Found) (asked : Trying) : Type 0 where
+  pub root : first_value found (codes "ROOT") ≡ Some asked.root.now
   pub below : AsksBelow found (map (λ folder. folder.now) asked.below.items)
   pub days : AsksDays found asked.days
 
@@ -119,6 +142,7 @@ pub record AsksVerify (found : Found) (asked : Verifying) : Type 0 where
   pub folders : AsksFolders found asked.folders
   pub below : AsksBelow found (map (λ folder. folder.now) asked.below.items)
   pub telling : AsksTelling found asked.telling
+  pub known : AsksKnown found asked.known
 
 -- the flags for originals are those that were found
 pub record AsksPlaces (found : Found) (asked : Replacing) : Type 0 where
@@ -151,6 +175,7 @@ AsksTask found (Check asked) = AsksCheck found asked
 AsksTask found (Compare asked) = AsksOptions found (length_in found) asked.options
     × (first_value found (codes "ONE") ≡ Some asked.one.now) × (first_value found (codes "OTHER") ≡ Some asked.other.now)
 AsksTask found (Archive asked) = AsksArchive found asked
+AsksTask found (Trial asked) = AsksTrial found asked
 AsksTask found (Verify asked) = AsksVerify found asked
 AsksTask found (Replace asked) = AsksReplace found asked
 AsksTask found (Feed asked) =
@@ -190,6 +215,12 @@ abbrev pub IsToldByClap : (asked : Type 0) → NoTask → Type 0
 IsToldByClap asked (Ending ending) = ((ending.status ≡ 0) × asked) ⊎ (ending.status ≡ 2)
 IsToldByClap asked NotALength = ⊥
 IsToldByClap asked Memory = ⊤
+
+-- in place of a task there is a text with status 0 only if the words ask for that, and else with 2; or there is none
+abbrev pub IsToldIf : (asked : Type 0) → NoTask → Type 0
+IsToldIf asked (Ending ending) = ((ending.status ≡ 0) × asked) ⊎ (ending.status ≡ 2)
+IsToldIf asked NotALength = ⊤
+IsToldIf asked Memory = ⊤
 
 -- what is said of a line that asks for what is not done
 abbrev pub line_fault_text : LineFault → Option (List ℕ)

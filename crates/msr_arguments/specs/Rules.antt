@@ -13,7 +13,7 @@ use Rattle.msr_options.specs.declared.task.Verb.{Verb}
 use Rattle.msr_options.specs.declared.task.Verb.TheVariants as verb
 use Rattle.msr_arguments.specs.Found.{IsNumberOf}
 use Rattle.msr_arguments.specs.declared.commands.Argument.{Argument}
-use Rattle.msr_arguments.specs.declared.commands.Argument.TheVariants.{File, FileIfAny, Flag, Below, Tolerance, Days, Length, DayLength}
+use Rattle.msr_arguments.specs.declared.commands.Argument.TheVariants.{File, FileIfAny, Flag, Below, Known, Tolerance, Days, Length, DayLength}
 
 -- the rule of an argument, as clap's clauses see it: of a file or folder that has to be given
 abbrev pub file_rule : (name : List ℕ) → Rule
@@ -37,6 +37,10 @@ abbrev pub below_rule : Rule
 below_rule =
     record (new_rule (codes "below")) { long = Some (codes "below"); action = Some Append; value_names = 1 }
 
+abbrev pub known_rule : Rule
+known_rule =
+    record (new_rule (codes "known")) { long = Some (codes "known"); action = Some Set; value_names = 1 }
+
 abbrev pub tolerance_rule : Rule
 tolerance_rule = option_rule (codes "tolerance") (codes "1000") (Signed (pos 1) (pos 1_000_000))
 
@@ -55,6 +59,7 @@ rule_for (File name help) = file_rule name.now
 rule_for (FileIfAny name help) = new_rule name.now
 rule_for (Flag name help long_help) = flag_rule name.now
 rule_for (Below help long_help) = below_rule
+rule_for (Known help long_help) = known_rule
 rule_for (Tolerance help long_help) = tolerance_rule
 rule_for (Days default help long_help) = days_rule default.now
 rule_for (Length help) = length_rule
@@ -72,13 +77,19 @@ rules_of verb.Check = file_rule (codes "PACKED") ∷ file_rule (codes "REPORT") 
 rules_of verb.Compare = tolerance_rule ∷ file_rule (codes "ONE") ∷ file_rule (codes "OTHER") ∷ []
 rules_of verb.Archive = day_length_rule ∷ flag_rule (codes "no-int24") ∷ tolerance_rule ∷ flag_rule (codes "strict")
     ∷ below_rule ∷ flag_rule (codes "resume") ∷ flag_rule (codes "check") ∷ flag_rule (codes "only-smaller")
-    ∷ flag_rule (codes "keep-old") ∷ days_rule (codes "0") ∷ flag_rule (codes "bytes") ∷ flag_rule (codes "quiet") ∷ flag_rule (codes "json") ∷ folder_rules
-rules_of verb.Verify = flag_rule (codes "quiet") ∷ flag_rule (codes "json") ∷ below_rule ∷ folder_rules
+    ∷ flag_rule (codes "keep-old") ∷ days_rule (codes "0") ∷ known_rule ∷ flag_rule (codes "bytes") ∷ flag_rule (codes "quiet") ∷ flag_rule (codes "json") ∷ flag_rule (codes "dry-run") ∷ folder_rules
+rules_of verb.Verify = known_rule ∷ flag_rule (codes "quiet") ∷ flag_rule (codes "json") ∷ below_rule ∷ folder_rules
 rules_of verb.Replace = flag_rule (codes "undo") ∷ below_rule ∷ flag_rule (codes "only-smaller") ∷ days_rule (codes "7")
     ∷ flag_rule (codes "touch") ∷ flag_rule (codes "int24") ∷ file_rule (codes "ROOT") ∷ file_rule (codes "OUT")
     ∷ file_rule (codes "REPORTS") ∷ file_rule (codes "ASIDE") ∷ []
 rules_of verb.Feed = length_rule ∷ flag_rule (codes "no-int24") ∷ tolerance_rule ∷ flag_rule (codes "strict")
     ∷ file_rule (codes "REPORT") ∷ []
+
+-- what `archive` takes as a dry run: nothing that speaks of what is kept
+abbrev pub dry_run_rules : List Rule
+dry_run_rules = day_length_rule ∷ flag_rule (codes "no-int24") ∷ tolerance_rule ∷ flag_rule (codes "strict")
+    ∷ below_rule ∷ days_rule (codes "0") ∷ flag_rule (codes "bytes") ∷ flag_rule (codes "quiet") ∷ flag_rule (codes "json")
+    ∷ flag_rule (codes "dry-run") ∷ file_rule (codes "ROOT") ∷ []
 
 -- a command of that name with these arguments, and no other
 abbrev pub app_with : (name : List ℕ) → List Rule → App
@@ -109,8 +120,12 @@ HoldsTolerance found =
 abbrev pub HoldsDays : Found → Type 0
 HoldsDays found = (number : Option ℕ) → IsNumberOf (one_text found (codes "older-than")) number → IsSome number
 
--- what clap has found in a line of the command that it lets through
-pub record IsFoundFor (verb : Verb) (found : Found) : Type 0 where
-  pub files : HasNeeded (rules_of verb) found
-  pub tolerance : list_any (λ rule. bytes_eq rule.id (codes "tolerance")) (rules_of verb) ≡ true → HoldsTolerance found
-  pub days : list_any (λ rule. bytes_eq rule.id (codes "older-than")) (rules_of verb) ≡ true → HoldsDays found
+-- what clap has found in a line of these arguments that it lets through
+pub record IsFoundBy (rules : List Rule) (found : Found) : Type 0 where
+  pub files : HasNeeded rules found
+  pub tolerance : list_any (λ rule. bytes_eq rule.id (codes "tolerance")) rules ≡ true → HoldsTolerance found
+  pub days : list_any (λ rule. bytes_eq rule.id (codes "older-than")) rules ≡ true → HoldsDays found
+
+-- the same in a line of the command
+abbrev pub IsFoundFor : Verb → Found → Type 0
+IsFoundFor verb found = IsFoundBy (rules_of verb) found

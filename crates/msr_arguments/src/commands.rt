@@ -1,9 +1,9 @@
 //! The commands and options that the program knows.
 //!
 //! Each step at a `Command` that may fail costs the check of its function seconds, so there are few.
-ghost use Rattle.std.specs.Prelude.{◌≡◌, IfOk, Some, false, map};
+ghost use Rattle.std.specs.Prelude.{◌≡◌, IfOk, Some, codes, false, map};
 ghost use Rattle.clap.specs.Words.{app_of, new_rule, rule_of};
-ghost use Rattle.msr_arguments.specs.Rules.{app_with, flag_rule, option_rule, program_app, rule_for, rules_of};
+ghost use Rattle.msr_arguments.specs.Rules.{app_with, dry_run_rules, flag_rule, option_rule, program_app, rule_for, rules_of};
 ghost use Rattle.msr_options.specs.Tasks.{word_of};
 
 use crate::texts;
@@ -22,6 +22,8 @@ pub(crate) enum Argument<'a> {
     /// An option without a value, by its name, its help and its long help.
     Flag(&'a str, &'a str, &'a str),
     Below(&'a str, &'a str),
+    /// The file with lines of earlier runs, by its help and its long help.
+    Known(&'a str, &'a str),
     Tolerance(&'a str, &'a str),
     Length(&'a str),
     /// A number of days, by what it is without a value, its help and its long help.
@@ -105,6 +107,9 @@ fn arg_of<'a>(alloc: Global, argument: Argument<'a>) -> Arg<'a>
         Argument::Below(help, long_help) => option(alloc, "below", help, long_help)
             .value_name("FOLDER")
             .action(ArgAction::Append),
+        Argument::Known(help, long_help) => option(alloc, "known", help, long_help)
+            .value_name("FILE")
+            .action(ArgAction::Set),
         Argument::Tolerance(help, long_help) => {
             let parser = value_parser!(u32).range(1..=1_000_000);
             valued(alloc, "tolerance", "T", parser, "1000", help).long_help(long_help)
@@ -154,6 +159,20 @@ pub(crate) fn command_line<'a>(alloc: Global, verb: Verb) -> Result<Command<'a>,
 {
     let name = format!(in alloc; "msrepack {}", verb.word())?;
     described(alloc, verb.word(), about_of(verb))?.bin_name(name.as_str())
+}
+
+/// The line of `archive` as a dry run, with the command's own word first.
+pub(crate) fn dry_run_line<'a>(alloc: Global) -> Result<Command<'a>, AllocError>
+    ensures { IfOk result (λ command. app_of command ≡ app_with (codes "archive") dry_run_rules) }
+{
+    described(alloc, "archive", dry_run())?.bin_name("msrepack archive")
+}
+
+/// What the help of a dry run says, and what it takes.
+fn dry_run<'a>() -> About<'a>
+    ensures { map rule_for result.arguments.now ≡ dry_run_rules }
+{
+    texts::DRY_RUN
 }
 
 /// The line of the program, with all its commands.

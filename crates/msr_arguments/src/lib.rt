@@ -2,6 +2,7 @@
 #![tactic(auto)]
 
 mod commands;
+mod dry_run;
 mod texts;
 mod words;
 

@@ -181,6 +181,7 @@ refused PATH: TEXT                    a fault, as repack tells it, or `cannot op
                                       `another walk is at work`: then it is left alone
 refused PATH: listing                 a folder that cannot be listed, or has a name that
                                       is not UTF-8: nothing in it is handled
+known PATH: TEXT                      the same as refused, by a line of FILE, with --known
 notshown PATH                         its report did not show it, with --check: not kept
 differs PATH                          not the data of the file, with --check: not kept
 changed PATH                          the same, and the file was changed meanwhile
@@ -193,7 +194,7 @@ young PATH                            the file was changed in the last DAYS days
 and at the end, of the files that are done, one line for each channel, and the counts:
 
 channel NET.STA.LOC.CHAN files N read N written N
-files N skipped N refused N [larger N] [young N]
+files N skipped N refused N [known N] [larger N] [young N]
 
 Records and report appear under their names whole or not at all: they are written beside
 them, as PATH.N.part, and then renamed, the report first. Those of a refused file are
@@ -218,9 +219,11 @@ Status 0 if all was walked and nothing refused, else 1; 2 if the command line is
         ONLY_SMALLER,
         KEEP_OLD,
         DAYS_OLDER_THAN,
+        DAYS_KNOWN,
         BYTES,
         DAYS_QUIET,
         DAYS_JSON,
+        DRY_RUN_ASKED,
         ROOT,
         Argument::File(
             "OUT",
@@ -230,6 +233,40 @@ Status 0 if all was walked and nothing refused, else 1; 2 if the command line is
             "REPORTS",
             "The folder of the reports. It is made if it is missing",
         ),
+    ],
+};
+
+pub(crate) const DRY_RUN: About = About {
+    about: "Tells what repacking every day file of an SDS archive would give",
+    long_about: "Tells what repacking every day file of an archive would give. Nothing is opened for writing,
+made, changed or locked.
+
+Walks the folders below ROOT, packs each day as `msrepack archive` does with these options,
+and counts what that gives. Prints one line for each entry:
+
+would PATH read N written M           N records would become M
+
+and of what is skipped, refused or young the lines that `msrepack archive` prints; at the
+end the sums over what would be repacked, as there:
+
+channel NET.STA.LOC.CHAN files N read N written N
+files N skipped N refused N [young N]
+
+Status 0 if all was walked and nothing refused, else 1; 2 if the command line is wrong.",
+    after: "Example:
+  msrepack archive --dry-run --bytes --quiet --length 4096 sds",
+    arguments: &[
+        DAY_LENGTH,
+        NO_INT24,
+        TOLERANCE,
+        STRICT,
+        BELOW,
+        DAYS_OLDER_THAN,
+        BYTES,
+        DAYS_QUIET,
+        DAYS_JSON,
+        DRY_RUN_ASKED,
+        ROOT,
     ],
 };
 
@@ -257,20 +294,23 @@ refused PATH: records: TEXT           one of the records, also `the file itself`
 refused PATH: report: TEXT            one of the report, as `line 7`
 refused PATH: listing                 a folder that cannot be listed; of OUT `records:
                                       listing`
+known PATH: TEXT                      the same as refused, or missing and refused before, by
+                                      a line of FILE, with --known
 skipped PATH: TEXT                    no day of waveform data, as `archive` tells it
 orphan PATH                           after all others: a day of OUT, where ROOT has
                                       nothing
 
 and last the counts, of days that are verified or in place first:
 
-files N skipped N refused N missing N notshown N differs N orphan N
+files N skipped N refused N [known N] missing N notshown N differs N orphan N
 
-Status 0 if all is verified, in place or skipped, else 1, also if all of ROOT is walked
+Status 0 if all is verified, in place, skipped or known, else 1, also if all of ROOT is walked
 and has no day of waveform data; 2 if the command line is wrong.",
     after: "Examples:
   msrepack verify sds packed reports > log.txt
   msrepack verify --quiet --below 2020/XX sds packed reports",
     arguments: &[
+        KNOWN,
         QUIET,
         LINES_JSON,
         BELOW,
@@ -419,6 +459,14 @@ it stays. With more than 0 days the last line counts them: `files N skipped N re
 young N`",
 );
 
+const DRY_RUN_ASKED: Argument = Argument::Flag(
+    "dry-run",
+    "Tell what repacking would give, and write nothing; without OUT and REPORTS",
+    "Tell what repacking would give, and write nothing: each file is packed, and
+`would PATH read N written M` printed in place of `done`. OUT and REPORTS are not given,
+nor --resume, --check, --only-smaller or --keep-old",
+);
+
 const UNDO: Argument = Argument::Flag(
     "undo",
     "Put the originals back",
@@ -455,11 +503,28 @@ const INT24: Argument = Argument::Flag(
 built on it cannot read. Without it they are refused",
 );
 
+const DAYS_KNOWN: Argument = Argument::Known(
+    "Tell as known what FILE, lines of earlier runs, tells as refused",
+    "Tell as known what FILE, lines of earlier runs, tells as refused: of what is refused by
+a line `refused PATH: TEXT` that FILE has, as it was printed, the line is `known PATH:
+TEXT`. It does not count as refused, nor for the status. FILE may be a whole log: its
+other lines are passed over. It is no fault if something in FILE is not refused any more",
+);
+
+const KNOWN: Argument = Argument::Known(
+    "Tell as known what FILE, lines of earlier runs, tells as refused",
+    "Tell as known what FILE, lines of earlier runs, tells as refused: of what is refused by
+a line `refused PATH: TEXT` that FILE has, as it was printed, the line is `known PATH:
+TEXT`, and so it is of a day that is missing, if FILE has such a line of it. It does not
+count as refused or missing, nor for the status. FILE may be a whole log: its other lines
+are passed over. It is no fault if something in FILE is not refused any more",
+);
+
 const BYTES: Argument = Argument::Flag(
     "bytes",
     "Tell bytes read and written too",
-    "Tell bytes too: the lines `done`, `same`, `larger`, `channel` and `files` go on with
-` bytes N M`, those read and those written; the last line sums up what is done or same",
+    "Tell bytes too: the lines `done`, `would`, `same`, `larger`, `channel` and `files` go on
+with ` bytes N M`, those read and those written; the last line sums up what is done or same",
 );
 
 const NO_INT24: Argument = Argument::Flag(
@@ -481,15 +546,15 @@ name, how many microseconds after that one's next sample it begins",
 const QUIET: Argument = Argument::Flag(
     "quiet",
     "Print only what is to be looked at, and the counts",
-    "Print only what is to be looked at, and the counts: the lines `verified`, `inplace`
-and `skipped` are left out. Counts and status are as without it",
+    "Print only what is to be looked at, and the counts: the lines `verified`, `inplace`,
+`skipped` and `known` are left out. Counts and status are as without it",
 );
 
 const LINES_JSON: Argument = Argument::Flag(
     "json",
     "Print each line as an object of JSON",
     "Print each line as an object of JSON (JSON Lines): `what`, its first word, and `path`,
-which is the name itself. A refusal and what is skipped have `text` too, what stands
+which is the name itself. What is refused, known or skipped has `text` too, what stands
 after the path in words, and before it `side`, that is file, records or report, with
 `offset`, `number`, `name` and `value` of a fault of a record, or `line` of one of the
 report, as far as there are these; last `reason`, if one is known. The last
@@ -499,8 +564,8 @@ object has the counts",
 const DAYS_QUIET: Argument = Argument::Flag(
     "quiet",
     "Print only what is to be looked at, the channels and the counts",
-    "Print only what is to be looked at, the channels and the counts: the lines `done`, `same`,
-`young` and `skipped` are left out. Counts and status are as without it",
+    "Print only what is to be looked at, the channels and the counts: the lines `done`, `would`,
+`same`, `young`, `skipped` and `known` are left out. Counts and status are as without it",
 );
 
 const DAYS_JSON: Argument = Argument::Flag(
@@ -508,11 +573,11 @@ const DAYS_JSON: Argument = Argument::Flag(
     "Print each line as an object of JSON",
     "Print each line as an object of JSON (JSON Lines): `what`, its first word, and `path`,
 which is the name itself; then its numbers by their names, `read` and `written`, with
---bytes `bytes_read` and `bytes_written`, of `shrunk` `samples_was` and `samples`. A
-refusal and what is skipped have `text`, what stands after the path in words, and a
-refusal before it `side`, that is file, records or report, and `offset`, `number`, `name`
-and `value` of a fault of a record, as far as there are these; last `reason`, if one is
-known. A channel has `id`, and no `path`; the last object has the counts",
+--bytes `bytes_read` and `bytes_written`, of `shrunk` `samples_was` and `samples`. What
+is refused, known or skipped has `text`, what stands after the path in words, and the
+first two before it `side`, that is file, records or report, and `offset`, `number`,
+`name` and `value` of a fault of a record, as far as there are these; last `reason`, if
+the system gave one. A channel has `id`, and no `path`; the last object has the counts",
 );
 
 const STRICT: Argument = Argument::Flag(

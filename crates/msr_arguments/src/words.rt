@@ -2,17 +2,18 @@
 ghost use Rattle.std.specs.Prelude.{◌≡◌, ◌≢◌, ◌<◌, ◌≤◌, ◌↔◌, ℕ, length, codes, false, slice_get, Some, IfOk, IfErr, IfSome, IsSome, IsSomeAnd, IsOk, IsOkAnd, IsErrAnd, IsTrue, Ok, Err, Any, drop, map, option_map, true};
 ghost use Rattle.msr_kinds.specs.RecordLength.{IsRecordLength};
 ghost use Rattle.clap.specs.Words.{first_value, found_of, kind_of, one_text};
-ghost use Rattle.msr_arguments.specs.Found.{AsksArchive, AsksBelow, AsksCheck, AsksDays, AsksFolders, AsksOptions, AsksPlaces, AsksReplace, AsksTask, AsksTelling, AsksVerify, EndsFor, EndsWith, IsBadLine, IsFlagOf, IsFormOf, IsKindsOf, IsLengthOf, IsNumberOf, IsToldByClap, IsWrong, length_in, line_fault_text, without_slash};
+ghost use Rattle.msr_arguments.specs.Found.{AsksArchive, AsksBelow, AsksCheck, AsksDays, AsksFolders, AsksKnown, AsksOptions, AsksPlaces, AsksReplace, AsksTask, AsksTelling, AsksVerify, EndsFor, EndsWith, IsBadLine, IsFlagOf, IsFormOf, IsKindsOf, IsLengthOf, IsNumberOf, IsToldByClap, IsWrong, length_in, line_fault_text, without_slash};
 ghost use Rattle.msr_arguments.specs.Rules.{IsFoundFor, HasNeeded, HoldsDays, HoldsTolerance, folder_rules};
-ghost use Rattle.msr_options.specs.Asked.{AsksAlone, HasStatus, ask_help};
-ghost use Rattle.msr_options.specs.Tasks.{AreApart, AreBothStandard, HasTolerance, IsDefault, IsTolerance, KeepsInput, KeepsOriginals, Overlap, StandApart, verb_of, word_of};
+ghost use Rattle.msr_options.specs.Asked.{AsksAlone, AsksDryRun, HasStatus, ask_help};
+ghost use Rattle.msr_options.specs.Tasks.{AreApart, AreBothStandard, HasTolerance, IsDefault, IsTolerance, IsTrial, KeepsInput, KeepsOriginals, Overlap, StandApart, verb_of, word_of};
 
 use crate::commands::{command_line, length_alone, program_line};
+use crate::dry_run::read_command;
 use clap::ArgMatches;
 use clap::error::ErrorKind;
 use msr_kinds::{Kinds, Length};
 use msr_options::{
-    Archiving, Checking, Comparing, DayOptions, Ending, Feeding, Folders, ListForm, Listing,
+    Archiving, Checking, Comparing, DayOptions, Ending, Feeding, Folders, Known, ListForm, Listing,
     NoTask, Options, Repacking, Replacing, Task, Telling, Verb, Verifying, overlap,
 };
 use msr_sds::levels_below;
@@ -40,7 +41,7 @@ fn default_task<'a>() -> Task<'a>
 
 /// What is wrong with a command line that clap lets through.
 #[derive(Clone, Copy)]
-enum LineFault<'a> {
+pub(crate) enum LineFault<'a> {
     /// A length's text that is no number.
     NoNumber(&'a str),
     NotALength,
@@ -54,7 +55,7 @@ enum LineFault<'a> {
 }
 
 /// The answer to a command that has that fault.
-fn refused(alloc: Global, fault: LineFault<'_>) -> NoTask
+pub(crate) fn refused(alloc: Global, fault: LineFault<'_>) -> NoTask
     ensures text { IfSome (line_fault_text fault.entry) (λ text. IsWrong text result) }
     ensures other { fault.entry ≡ LineFault.NotALength → result ≡ NoTask.NotALength }
     ensures status { IsBadLine result }
@@ -89,7 +90,7 @@ fn no_number(alloc: Global, text: &str) -> NoTask
 }
 
 /// The answer to a line that clap does not let through: help, the version, or what is wrong.
-fn ending_of(alloc: Global, error: &clap::Error) -> NoTask
+pub(crate) fn ending_of(alloc: Global, error: &clap::Error) -> NoTask
     ensures { EndsFor (kind_of error.now) result }
 {
     ending_with(alloc, error, if error.use_stderr() { 2 } else { 0 })
@@ -109,7 +110,7 @@ fn ending_with(alloc: Global, error: &clap::Error, status: u8) -> NoTask
 }
 
 /// The name of a file or folder.
-fn file_in<'a>(found: &ArgMatches<'a>, name: &str) -> &'a str
+pub(crate) fn file_in<'a>(found: &ArgMatches<'a>, name: &str) -> &'a str
     requires { IsSome (first_value (found_of found.now) name.now) }
     ensures { first_value (found_of found.now) name.now ≡ Some result.now }
 {
@@ -190,7 +191,10 @@ fn folders_named<'a>(alloc: Global, given: &[&'a str]) -> Result<Vec<&'a str>, A
 }
 
 /// The folders of an archive that are to be walked: paths of names, of which no two overlap.
-fn below_in<'a>(alloc: Global, found: &ArgMatches<'a>) -> Result<Vec<&'a str>, LineFault<'a>>
+pub(crate) fn below_in<'a>(
+    alloc: Global,
+    found: &ArgMatches<'a>,
+) -> Result<Vec<&'a str>, LineFault<'a>>
     ensures asked { IfOk result (λ below. AsksBelow (found_of found.now) (map (λ folder. folder.now) below.items)) }
     ensures apart { IfOk result (λ below. AreApart (map (λ folder. folder.now) below.items)) }
 {
@@ -222,9 +226,19 @@ fn telling_in(found: &ArgMatches<'_>) -> Telling
     }
 }
 
+/// The file with lines of earlier runs that clap found, if there is one.
+fn known_in<'a>(found: &ArgMatches<'a>) -> Known<'a>
+    ensures { AsksKnown (found_of found.now) result }
+{
+    match found.get_str("known") {
+        Some(name) => Known::File(name),
+        None => Known::Nothing,
+    }
+}
+
 /// What is asked of the days of an archive. If each is to have the length of its first record, that of the options is
 /// the one without a text.
-fn days_in<'a>(found: &ArgMatches<'a>) -> Result<DayOptions, LineFault<'a>>
+pub(crate) fn days_in<'a>(found: &ArgMatches<'a>) -> Result<DayOptions, LineFault<'a>>
     requires tolerance { HoldsTolerance (found_of found.now) }
     requires days { HoldsDays (found_of found.now) }
     ensures asked { IfOk result (AsksDays (found_of found.now)) }
@@ -250,14 +264,21 @@ fn days_in<'a>(found: &ArgMatches<'a>) -> Result<DayOptions, LineFault<'a>>
 fn archiving_in<'a>(alloc: Global, found: &ArgMatches<'a>) -> Result<Task<'a>, LineFault<'a>>
     requires { IsFoundFor Verb.Archive (found_of found.now) }
     ensures asked { IfOk result (λ task. (verb_of task ≡ Verb.Archive) × AsksTask (found_of found.now) task) }
+    ensures kept_days { IfOk result (λ task. ¬ (IsTrial task)) }
     ensures kept { IfOk result (λ task. HasTolerance task × KeepsInput task) }
 {
     let days = days_in(found)?;
-    let Verifying { folders, below, .. } = verifying_in(alloc, found)?;
+    let Verifying {
+        folders,
+        below,
+        known,
+        ..
+    } = verifying_in(alloc, found)?;
     Ok(Task::Archive(Archiving {
         folders,
         below,
         days,
+        known,
     }))
 }
 
@@ -279,6 +300,7 @@ fn verifying_in<'a>(alloc: Global, found: &ArgMatches<'a>) -> Result<Verifying<'
         folders,
         below,
         telling: telling_in(found),
+        known: known_in(found),
     })
 }
 
@@ -397,6 +419,7 @@ fn task_in<'a>(alloc: Global, verb: Verb, found: &ArgMatches<'a>) -> Result<Task
     ensures asked { IfOk result (AsksTask (found_of found.now)) }
     ensures kept { IfOk result (λ task. HasTolerance task × KeepsInput task) }
     ensures check { verb ≡ Verb.Check → IsOk result }
+    ensures no_trial { IfOk result (λ task. ¬ (IsTrial task)) }
 {
     match verb {
         Verb::Repack => repacking_in(found),
@@ -415,7 +438,11 @@ fn task_in<'a>(alloc: Global, verb: Verb, found: &ArgMatches<'a>) -> Result<Task
 }
 
 /// What clap finds in these words, which begin with that of the command.
-fn read_line<'a>(alloc: Global, verb: Verb, words: &'a [&'a str]) -> Result<ArgMatches<'a>, NoTask>
+pub(crate) fn read_line<'a>(
+    alloc: Global,
+    verb: Verb,
+    words: &'a [&'a str],
+) -> Result<ArgMatches<'a>, NoTask>
     ensures found { IfOk result (λ found. IsFoundFor verb (found_of found)) }
     ensures told { IfErr result (IsToldByClap (ask_help (drop 1 (map (λ word. word.now) words.now)) ≡ true)) }
 {
@@ -426,11 +453,16 @@ fn read_line<'a>(alloc: Global, verb: Verb, words: &'a [&'a str]) -> Result<ArgM
 }
 
 /// The task of a command, or what is said if it has a fault that clap lets through.
-fn task_of<'a>(alloc: Global, verb: Verb, found: &ArgMatches<'a>) -> Result<Task<'a>, NoTask>
+pub(crate) fn task_of<'a>(
+    alloc: Global,
+    verb: Verb,
+    found: &ArgMatches<'a>,
+) -> Result<Task<'a>, NoTask>
     requires { IsFoundFor verb (found_of found.now) }
     ensures command { IfOk result (λ task. verb_of task ≡ verb) }
     ensures kept { IfOk result (λ task. HasTolerance task × KeepsInput task) }
     ensures status { IfErr result IsBadLine }
+    ensures no_trial { IfOk result (λ task. ¬ (IsTrial task)) }
 {
     task_in(alloc, verb, found).map_err(|fault| refused(alloc, fault))
 }
@@ -455,12 +487,15 @@ pub fn read_words<'a>(alloc: Global, words: &'a [&'a str]) -> Result<Task<'a>, N
     ensures tolerance { IfOk result HasTolerance }
     ensures keeps_input { IfOk result KeepsInput }
     ensures status { IfErr result (HasStatus (map (λ word. word.now) words.now)) }
+
+    // Nothing is written exactly if the words ask for that.
+    ensures trial { IfOk result (λ task. IsTrial task ↔ AsksDryRun (map (λ word. word.now) words.now)) }
 {
     if words.len() < 2 {
         return Ok(default_task());
     }
     match Verb::named(words[1]) {
-        Some(verb) => task_of(alloc, verb, &read_line(alloc, verb, &words[1..])?),
+        Some(verb) => read_command(alloc, verb, &words[1..]),
         None => no_command(alloc, words),
     }
 }

@@ -2,7 +2,7 @@
 use Rattle.std.proofs.Common.{◌≡◌, ℕ, List, [], take, drop, refl, subst, inl, inr, append-nil, Result, Ok, Err}
 use Rattle.std.proofs.lemmas.List.{take-append-drop}
 use Rattle.msr_devices.specs.Device.{Device, HasLeft, Takes}
-use Rattle.msr_devices.proofs.Chaining.{left_of, takes_append, takes_none}
+use Rattle.msr_devices.proofs.Chaining.{takes_append, takes_none}
 use Rattle.msr_compare.specs.Answers.{CompareAnswers}
 use Rattle.msr_compare.specs.declared.comparison.Comparison.{Comparison}
 use Rattle.msr_compare.specs.declared.fault.CompareFault.{CompareFault}
@@ -14,56 +14,58 @@ use Rattle.msr_options.specs.declared.task.Comparing.{Comparing}
 use Rattle.msr_command.specs.declared.done.Done.{Done}
 use Rattle.msr_command.specs.declared.task_fault.TaskFault.{TaskFault}
 use Rattle.msr_command.specs.declared.task_fault.TaskFault.TheVariants.{Tool}
+use Rattle.msr_tree.specs.Steps.{Step}
+use Rattle.msr_command.proofs.Inputs.{unread_unopened}
 use Rattle.msr_command.specs.Comparing.{TellsComparison, compare_settings, comparison_lines, stop_of}
-use Rattle.msr_command.specs.Ends.{Compares, ComparesNamed, CompareEnds, IsUnread, OverTwo}
+use Rattle.msr_command.specs.Ends.{Compares, ComparesNamed, CompareEnds, HasOpened, IsUnread, OverTwo}
 
 -- what was tried before prints nothing
-pub two_after : (known_one known_other : Type 0) (says : (first second printed : List ℕ) → Type 0)
-    (one other out0 out1 out : Device) → Takes out0 out1 [] → OverTwo known_one known_other says one other out1 out
-    → OverTwo known_one known_other says one other out0 out
-two_after known_one known_other says one other out0 out1 out none does = record {
+pub two_after : (opened : Type 0) (comes_one comes_other : List ℕ → Type 0)
+    (says : (first second printed : List ℕ) → Type 0) (out0 out1 out : Device) → Takes out0 out1 []
+    → OverTwo opened comes_one comes_other says out1 out → OverTwo opened comes_one comes_other says out0 out
+two_after opened comes_one comes_other says out0 out1 out none does = record {
   first = does.first;
   second = does.second;
   printed = does.printed;
-  left_one = does.left_one;
-  left_other = does.left_other;
+  come_one = does.come_one;
+  come_other = does.come_other;
   prints = takes_append out0 out1 out [] does.printed none does.prints;
   ends = does.ends;
 }
 
--- nothing was printed
-pub two_none : (known_one known_other : Type 0) (says : (first second printed : List ℕ) → Type 0)
-    (one other out0 out : Device) → Takes out0 out [] → ((first second : List ℕ) → says first second [])
-    → OverTwo known_one known_other says one other out0 out
-two_none known_one known_other says one other out0 out none ends = record {
-  first = (left_of one).0;
-  second = (left_of other).0;
+-- nothing was opened or printed
+pub two_none : (opened : Type 0) (comes_one comes_other : List ℕ → Type 0)
+    (says : (first second printed : List ℕ) → Type 0) (out0 out : Device) → (opened → ⊥) → Takes out0 out []
+    → says [] [] [] → OverTwo opened comes_one comes_other says out0 out
+two_none opened comes_one comes_other says out0 out unopened none ends = record {
+  first = [];
+  second = [];
   printed = [];
-  left_one = λ is. (left_of one).1;
-  left_other = λ is. (left_of other).1;
+  come_one = λ is. absurd (unopened is);
+  come_other = λ is. absurd (unopened is);
   prints = none;
-  ends = ends (left_of one).0 (left_of other).0;
+  ends = ends;
 }
 
 -- an input cannot be opened, or is the output
-pub compare_unread : (known_one known_other : Type 0) (choice : Choice) (asked : Comparing) (one other out : Device)
+pub compare_unread : (comes_one comes_other : List ℕ → Type 0) (choice : Choice) (asked : Comparing) (out : Device)
     (stop : TaskFault) → IsUnread stop
-    → OverTwo known_one known_other (CompareEnds choice asked (Err stop)) one other out out
-compare_unread known_one known_other choice asked one other out stop is =
-    two_none known_one known_other (CompareEnds choice asked (Err stop)) one other out out
-    (takes_none out) (λ first second. inr (inl (inl is), refl))
+    → OverTwo (HasOpened (Err stop)) comes_one comes_other (CompareEnds choice asked (Err stop)) out out
+compare_unread comes_one comes_other choice asked out stop is =
+    two_none (HasOpened (Err stop)) comes_one comes_other (CompareEnds choice asked (Err stop)) out out
+    (unread_unopened stop is) (takes_none out) (inr (inl (inl is), refl))
 
--- what was done over two sources, where less is known of them
-pub two_known : {known_one known_other known_first known_second : Type 0}
-    {says : (first second printed : List ℕ) → Type 0} {one other source input out0 out : Device}
-    (does : OverTwo known_one known_other says one other out0 out) → (known_first → HasLeft source does.first)
-    → (known_second → HasLeft input does.second) → OverTwo known_first known_second says source input out0 out
-two_known does left_one left_other = record {
+-- what was done over two inputs that come from names
+pub two_known : {opened named : Type 0} {comes_one comes_other others_one others_other : List ℕ → Type 0}
+    {says : (first second printed : List ℕ) → Type 0} {out0 out : Device}
+    (does : OverTwo opened comes_one comes_other says out0 out) → (named → others_one does.first)
+    → (named → others_other does.second) → OverTwo named others_one others_other says out0 out
+two_known does come_one come_other = record {
   first = does.first;
   second = does.second;
   printed = does.printed;
-  left_one = left_one;
-  left_other = left_other;
+  come_one = come_one;
+  come_other = come_other;
   prints = does.prints;
   ends = does.ends;
 }
@@ -84,8 +86,8 @@ compare_stops choice asked one other out first second why left_one left_other an
   first = first;
   second = second;
   printed = [];
-  left_one = λ is. left_one;
-  left_other = λ is. left_other;
+  come_one = λ opened. left_one;
+  come_other = λ opened. left_other;
   prints = takes_none out;
   ends = inr (inl (inr (record { fault = why; answer = answer; stops = refl })), refl);
 }
@@ -105,8 +107,8 @@ compare_untold choice asked one other out0 out first second comparison fault.Wri
   first = first;
   second = second;
   printed = take tells.0 (comparison_lines comparison);
-  left_one = λ is. left_one;
-  left_other = λ is. left_other;
+  come_one = λ opened. left_one;
+  come_other = λ opened. left_other;
   prints = tells.1;
   ends = inl (record {
     rest = drop tells.0 (comparison_lines comparison);
@@ -118,21 +120,22 @@ compare_untold choice asked one other out0 out first second comparison fault.Mem
   first = first;
   second = second;
   printed = [];
-  left_one = λ is. left_one;
-  left_other = λ is. left_other;
+  come_one = λ opened. left_one;
+  come_other = λ opened. left_other;
   prints = tells;
   ends = inl refl;
 }
 
 -- what was printed is not stored
-pub compare_unsettled : (choice : Choice) (asked : Comparing) (standard out0 out : Device) (done : Done) →
-    ComparesNamed choice asked standard out0 out (Ok done) → ComparesNamed choice asked standard out0 out (Err (Tool fault.Write))
-compare_unsettled choice asked standard out0 out done does = record {
+pub compare_unsettled : (went : List Step → Type 0) (choice : Choice) (asked : Comparing) (standard out0 out : Device)
+    (done : Done) → ComparesNamed went choice asked standard out0 out (Ok done)
+    → ComparesNamed went choice asked standard out0 out (Err (Tool fault.Write))
+compare_unsettled went choice asked standard out0 out done does = record {
   first = does.first;
   second = does.second;
   printed = does.printed;
-  left_one = does.left_one;
-  left_other = does.left_other;
+  come_one = does.come_one;
+  come_other = does.come_other;
   prints = does.prints;
   ends = inl (record { rest = []; comparison = does.ends.0; answered = rw append-nil does.ends.2 });
 }

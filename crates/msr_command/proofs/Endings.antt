@@ -1,6 +1,6 @@
 -- How tasks end: done, stopped, or before they begin.
 use Rattle.std.specs.Prelude.{◌↔◌, ⊤, IsSomeAnd, IsTrue, Option, None, Some, String, string_bytes, vec_len}
-use Rattle.std.proofs.Common.{◌≡◌, ◌∙◌, ℕ, Bool, List, [], codes, refl, subst, sym, inl, inr, append-nil, Result, Ok, Err}
+use Rattle.std.proofs.Common.{◌≡◌, ◌∙◌, ℕ, Bool, List, [], refl, subst, sym, inl, inr, append-nil, Result, Ok, Err, ◌≢◌, true, false, codes}
 use Rattle.msr_devices.specs.Device.{Device, HasLeft, Takes}
 use Rattle.msr_devices.proofs.Chaining.{left_of, takes_append, takes_none}
 use Rattle.msr_report.specs.declared.report.Report.{Report}
@@ -10,253 +10,327 @@ use Rattle.msr_options.specs.Choice.{Choice}
 use Rattle.msr_tool.specs.Tasks.{Reports}
 use Rattle.msr_tool.specs.declared.fault.ToolFault.{ToolFault}
 use Rattle.msr_tool.specs.declared.fault.ToolFault.TheVariants as fault
+use Rattle.msr_options.specs.Known.{knows_any}
+use Rattle.msr_options.specs.declared.known.Known.{Known}
+use Rattle.msr_options.specs.declared.known.Known.TheVariants.{Nothing, File, Lines}
 use Rattle.msr_options.specs.declared.task.Archiving.{Archiving}
 use Rattle.msr_options.specs.declared.task.Replacing.{Replacing}
+use Rattle.msr_options.specs.declared.task.Trying.{Trying}
 use Rattle.msr_options.specs.declared.task.Verifying.{Verifying}
 use Rattle.msr_folders.specs.declared.found.WalkFound.{WalkFound}
 use Rattle.msr_folders.specs.Visits.{IsWalk}
-use Rattle.msr_outcomes.specs.Entries.{IsEntry}
+use Rattle.msr_outcomes.specs.Known.{IsEntry}
 use Rattle.msr_outcomes.specs.Lines.{IsEntryLine}
-use Rattle.msr_outcomes.specs.Summary.{summary}
+use Rattle.msr_outcomes.specs.Summary.{summary, summary_by}
 use Rattle.msr_walk.specs.Walk.{Walks}
 use Rattle.msr_walk.specs.declared.folders.Walked.{Walked}
-use Rattle.msr_walk.proofs.EntriesTold.{none_told, stops_entries, walk_stops}
-use Rattle.msr_verify.specs.Entries.{IsJudgedEntry}
+use Rattle.msr_trial.specs.Entries.{IsTrialEntry}
+use Rattle.msr_trial.specs.Lines.{IsTrialLine}
+use Rattle.msr_trial.specs.Walk.{Tries}
+use Rattle.msr_trial.specs.declared.walk.Tried.{Tried}
+use Rattle.msr_verify.specs.Known.{IsJudgedEntry}
 use Rattle.msr_verify.specs.Lines.{IsToldLine}
 use Rattle.msr_verify.specs.Walk.{Verifies, judged_summary}
-use Rattle.msr_verify.proofs.EntriesFound.{none_told as none_found, stops_entries as stops_found, walk_stops as verifying_stops}
 use Rattle.msr_replace.specs.Entries.{IsExchangeEntry, IsExchangeEntryLine}
 use Rattle.msr_replace.specs.Sums.{exchange_summary}
 use Rattle.msr_replace.specs.Walk.{ReplacesDays, ReplacingEnds, TellsFailed}
 use Rattle.msr_command.specs.declared.done.Done.{Done}
 use Rattle.msr_command.specs.declared.done.Done.TheVariants.{Written, Repacked}
 use Rattle.msr_command.specs.declared.task_fault.TaskFault.{TaskFault}
-use Rattle.msr_command.specs.declared.task_fault.TaskFault.TheVariants.{Failed, Tool}
+use Rattle.msr_command.specs.declared.task_fault.TaskFault.TheVariants.{CannotOpen, Closed, Failed, Input, Overlap, SameFile, SameOutput, Tool}
 use Rattle.msr_options.specs.declared.task.ListForm.{ListForm}
 use Rattle.msr_options.specs.declared.task.Task.{Task}
-use Rattle.msr_options.specs.declared.task.Task.TheVariants.{Repack, List as Listing, Check, Compare, Archive, Verify, Replace, Feed}
+use Rattle.msr_options.specs.declared.task.Task.TheVariants.{Repack, List as Listing, Check, Compare, Archive, Trial, Verify, Replace, Feed}
 use Rattle.msr_command.specs.Turns.{AreTurns}
+use Rattle.msr_tree.specs.Steps.{Path, Step}
+use Rattle.msr_options.specs.declared.task.Checking.{Checking}
 use Rattle.msr_command.proofs.Comparisons.{compare_unsettled, two_after, two_none}
-use Rattle.msr_command.specs.Ends.{Checks, Does, EndsClosed, EndsReplacing, Feeds, FeedAnswers, FeedEnds, FeedsTo, IsUncreated, IsUnbegun, IsUnread, ListEnds, ListsNamed, IsOverlapOrMemory, Over, RepackEnds, Repacks, RepacksNamed, ReplaceEnds, ReplacesArchive, VerifiesArchive, WalksArchive, done_of_archive, done_of_verifying, is_whole}
+use Rattle.msr_options.specs.declared.task.Feeding.{Feeding}
+use Rattle.msr_options.specs.declared.task.Repacking.{Repacking}
+use Rattle.msr_command.specs.Named.{GetsNoReport, GetsOutput, GetsReport}
+use Rattle.msr_command.proofs.Inputs.{goes_so, unread_unopened}
+use Rattle.msr_command.specs.Ends.{Checks, ComesNamed, Does, EndsClosed, EndsReplacing, Feeds, FeedAnswers, FeedEnds, FeedsTo, HasOpened, IfTool, IsUncreated, IsUnbegun, IsUnread, ListEnds, ListsNamed, IsOverlapOrMemory, Over, RepackEnds, Repacks, RepacksNamed, ReplaceEnds, ReplacesArchive, Settles, StopsRecords, VerifiesArchive, WalksArchive, WritesRecords, done_of_archive, done_of_verifying, is_whole, TriesArchive, VerifiesKnown, WalksKnown, IsArchivingRead, IsUnwalked, IsVerifyingRead, done_of_trial, IsKnownRead, IsUnknown}
+use denote.Ref.{Bor}
 
--- nothing was read or printed
-over_none : (known : Type 0) (says : (input printed : List ℕ) → Type 0) (source out0 out : Device) → Takes out0 out [] →
-    ((input : List ℕ) → says input []) → Over known says source out0 out
-over_none known says source out0 out none ends = record {
-  input = (left_of source).0;
-  printed = [];
-  left = λ is. (left_of source).1;
-  prints = none;
-  ends = ends (left_of source).0;
-}
+-- nothing was printed
+over_none : (opened : Type 0) (comes : List ℕ → Type 0) (says : (input printed : List ℕ) → Type 0) (out0 out : Device)
+    (input : List ℕ) → (opened → comes input) → Takes out0 out [] → says input [] → Over opened comes says out0 out
+over_none opened comes says out0 out input come none ends =
+    record { input = input; printed = []; come = come; prints = none; ends = ends }
 
 -- what was tried before prints nothing
-over_after : (known : Type 0) (says : (input printed : List ℕ) → Type 0) (source out0 out1 out : Device) →
-    Takes out0 out1 [] → Over known says source out1 out → Over known says source out0 out
-over_after known says source out0 out1 out none does = record {
+over_after : (opened : Type 0) (comes : List ℕ → Type 0) (says : (input printed : List ℕ) → Type 0)
+    (out0 out1 out : Device) → Takes out0 out1 [] → Over opened comes says out1 out → Over opened comes says out0 out
+over_after opened comes says out0 out1 out none does = record {
   input = does.input;
   printed = does.printed;
-  left = does.left;
+  come = does.come;
   prints = takes_append out0 out1 out [] does.printed none does.prints;
   ends = does.ends;
 }
 
--- what was done over a source, where less is known of it
-pub over_named : {known named : Type 0} {says : (input printed : List ℕ) → Type 0} {source standard out0 out : Device}
-    (does : Over known says source out0 out) → (named → HasLeft standard does.input) → Over named says standard out0 out
-over_named does left =
-    record { input = does.input; printed = does.printed; left = left; prints = does.prints; ends = does.ends }
+-- what was done over an input that comes from a name
+pub over_named : {opened named : Type 0} {comes others : List ℕ → Type 0} {says : (input printed : List ℕ) → Type 0}
+    {out0 out : Device} (does : Over opened comes says out0 out) → (named → others does.input)
+    → Over named others says out0 out
+over_named does come =
+    record { input = does.input; printed = does.printed; come = come; prints = does.prints; ends = does.ends }
 
 -- the same is said otherwise
-over_said : (known : Type 0) (says others : (input printed : List ℕ) → Type 0) (source out0 out : Device) →
-    ((input printed : List ℕ) → says input printed → others input printed) → Over known says source out0 out
-    → Over known others source out0 out
-over_said known says others source out0 out then does = record {
+over_said : (opened : Type 0) (comes : List ℕ → Type 0) (says others : (input printed : List ℕ) → Type 0)
+    (out0 out : Device) → ((input printed : List ℕ) → says input printed → others input printed)
+    → Over opened comes says out0 out → Over opened comes others out0 out
+over_said opened comes says others out0 out then does = record {
   input = does.input;
   printed = does.printed;
-  left = does.left;
+  come = does.come;
   prints = does.prints;
   ends = then does.input does.printed does.ends;
 }
 
 -- a file cannot be opened or made, or is another one
 
-pub repack_uncreated : (choice : Choice) (known : Type 0) (source out : Device) (stop : TaskFault) → IsUncreated stop →
-    Over known (RepackEnds choice (Err stop)) source out out
-repack_uncreated choice known source out stop is =
-    over_none known (RepackEnds choice (Err stop)) source out out (takes_none out)
-    (λ input. inr (inl is, refl))
+pub repack_uncreated : (choice : Choice) (holds : List ℕ → Type 0) (source out : Device) (stop : TaskFault) → IsUncreated stop →
+    Repacks choice holds source out out (Err stop)
+repack_uncreated choice holds source out stop is =
+    let left = left_of source in
+    over_none ⊤ (HasLeft source) (RepackEnds choice holds (Err stop)) out out left.0 (λ opened. left.1) (takes_none out)
+    (inr (inl is, refl))
 
-pub repack_unread : (choice : Choice) (name : List ℕ) (standard out : Device) (stop : TaskFault) → IsUnread stop →
-    RepacksNamed choice name standard out out (Err stop)
-repack_unread choice name standard out stop is =
-    repack_uncreated choice (name ≡ codes "-") standard out stop (inl is)
+pub repack_unread : (before after : List Step → Type 0) (asked : Repacking) (standard out : Device) (stop : TaskFault) →
+    IsUnread stop → RepacksNamed before after asked standard out out (Err stop)
+repack_unread before after asked standard out stop is =
+    over_none (HasOpened (Err stop)) (ComesNamed before asked.input.now standard)
+    (RepackEnds asked.options (GetsOutput before after asked.output) (Err stop)) out out []
+    (λ opened. absurd (unread_unopened stop is opened)) (takes_none out) (inr (inl (inl is), refl))
 
-pub feed_uncreated : (choice : Choice) (source out : Device) (stop : TaskFault) → IsUncreated stop →
-    Feeds choice source out out (Err stop)
-feed_uncreated choice source out stop is =
-    over_none ⊤ (FeedEnds choice (Err stop)) source out out (takes_none out)
-    (λ input. inr (inl is, refl))
+pub feed_uncreated : (before after : List Step → Type 0) (asked : Feeding) (source out : Device) (stop : TaskFault) →
+    IsUncreated stop → Feeds before after asked source out out (Err stop)
+feed_uncreated before after asked source out stop is =
+    let left = left_of source in
+    over_none ⊤ (HasLeft source) _ out out left.0 (λ opened. left.1) (takes_none out) (inr (inl is, refl))
 
-pub list_unread : (form : ListForm) (choice : Choice) (name : List ℕ) (standard out : Device) (stop : TaskFault) → IsUnread stop →
-    ListsNamed form choice name standard out out (Err stop)
-list_unread form choice name standard out stop is =
-    over_none (name ≡ codes "-") (ListEnds form choice (Err stop)) standard out out (takes_none out)
-    (λ input. inr (inl is, refl))
+pub list_unread : (form : ListForm) (choice : Choice) (went : List Step → Type 0) (name : Path) (standard out : Device)
+    (stop : TaskFault) → IsUnread stop → ListsNamed form choice went name standard out out (Err stop)
+list_unread form choice went name standard out stop is =
+    over_none (HasOpened (Err stop)) (ComesNamed went name standard) (ListEnds form choice (Err stop)) out out []
+    (λ opened. absurd (unread_unopened stop is opened)) (takes_none out) (inr (inl is, refl))
 
 -- nothing can be printed
 
-pub task_closed : (task : Task) (standard out0 out : Device) (stop : TaskFault) → Takes out0 out [] →
-    EndsClosed task stop → Does task standard out0 out (Err stop)
-task_closed (Repack asked) standard out0 out stop none ends =
-    rw ends (over_none _ _ standard out0 out none (λ input. inr (inr refl, refl)))
-task_closed (Listing asked) standard out0 out stop none ends =
-    rw ends (over_none _ _ standard out0 out none (λ input. inr (inr refl, refl)))
-task_closed (Check asked) standard out0 out stop none ends =
-    rw ends (record { input = []; text = []; printed = []; prints = none; ends = inr (inr refl, refl) })
-task_closed (Compare asked) standard out0 out stop none ends =
-    rw ends (two_none _ _ _ standard standard out0 out none (λ first second. inr (inr refl, refl)))
-task_closed (Archive asked) standard out0 out stop none ends =
+pub task_closed : (before after : List Step → Type 0) (task : Task) (standard out0 out : Device) (stop : TaskFault) →
+    Takes out0 out [] → EndsClosed task stop → Does before after task standard out0 out (Err stop)
+task_closed before after (Repack asked) standard out0 out stop none ends =
+    rw ends (over_none _ _ _ out0 out [] (λ opened. absurd opened) none (inr (inr refl, refl)))
+task_closed before after (Listing asked) standard out0 out stop none ends =
+    rw ends (over_none _ _ _ out0 out [] (λ opened. absurd opened) none (inr (inr refl, refl)))
+task_closed before after (Check asked) standard out0 out stop none ends = rw ends (record {
+  input = [];
+  text = [];
+  printed = [];
+  packed = λ opened. absurd opened;
+  report = λ opened. absurd opened;
+  prints = none;
+  ends = inr (inr refl, refl);
+})
+task_closed before after (Compare asked) standard out0 out stop none ends =
+    rw ends (two_none _ _ _ _ out0 out (λ opened. opened) none (inr (inr refl, refl)))
+task_closed before after (Archive asked) standard out0 out stop none ends =
     rw ends (record { printed = []; prints = none; ends = inr (inr refl, refl) })
-task_closed (Verify asked) standard out0 out stop none ends =
+task_closed before after (Trial asked) standard out0 out stop none ends =
     rw ends (record { printed = []; prints = none; ends = inr (inr refl, refl) })
-task_closed (Replace asked) standard out0 out stop none ends =
+task_closed before after (Verify asked) standard out0 out stop none ends =
+    rw ends (record { printed = []; prints = none; ends = inr (inr refl, refl) })
+task_closed before after (Replace asked) standard out0 out stop none ends =
     rw ends (record { printed = []; prints = none; ends = inr (inr (inr refl, refl)) })
-task_closed (Feed asked) standard out0 out stop none ends =
-    over_none _ _ standard out0 out none (λ input. inr (ends, refl))
+task_closed before after (Feed asked) standard out0 out stop none ends =
+    let left = left_of standard in
+    over_none ⊤ (HasLeft standard) _ out0 out left.0 (λ opened. left.1) none (inr (ends, refl))
 
-pub then_does : (task : Task) (standard out0 out1 out : Device) (result : Result Done TaskFault) → Takes out0 out1 [] →
-    Does task standard out1 out result → Does task standard out0 out result
-then_does (Repack asked) standard out0 out1 out result none does = over_after _ _ standard out0 out1 out none does
-then_does (Listing asked) standard out0 out1 out result none does = over_after _ _ standard out0 out1 out none does
-then_does (Check asked) standard out0 out1 out result none does = record {
+pub then_does : (before after : List Step → Type 0) (task : Task) (standard out0 out1 out : Device) (result : Result Done TaskFault) →
+    Takes out0 out1 [] → Does before after task standard out1 out result → Does before after task standard out0 out result
+then_does before after (Repack asked) standard out0 out1 out result none does = over_after _ _ _ out0 out1 out none does
+then_does before after (Listing asked) standard out0 out1 out result none does = over_after _ _ _ out0 out1 out none does
+then_does before after (Check asked) standard out0 out1 out result none does = record {
   input = does.input;
   text = does.text;
   printed = does.printed;
+  packed = does.packed;
+  report = does.report;
   ends = does.ends;
   prints = takes_append out0 out1 out [] does.printed none does.prints;
 }
-then_does (Compare asked) standard out0 out1 out result none does =
-    two_after _ _ _ standard standard out0 out1 out none does
-then_does (Archive asked) standard out0 out1 out result none does = record {
+then_does before after (Compare asked) standard out0 out1 out result none does = two_after _ _ _ _ out0 out1 out none does
+then_does before after (Archive asked) standard out0 out1 out result none does = record {
   printed = does.printed;
   ends = does.ends;
   prints = takes_append out0 out1 out [] does.printed none does.prints;
 }
-then_does (Verify asked) standard out0 out1 out result none does = record {
+then_does before after (Trial asked) standard out0 out1 out result none does = record {
   printed = does.printed;
   ends = does.ends;
   prints = takes_append out0 out1 out [] does.printed none does.prints;
 }
-then_does (Replace asked) standard out0 out1 out result none does = record {
+then_does before after (Verify asked) standard out0 out1 out result none does = record {
   printed = does.printed;
   ends = does.ends;
   prints = takes_append out0 out1 out [] does.printed none does.prints;
 }
-then_does (Feed asked) standard out0 out1 out result none does = over_after _ _ standard out0 out1 out none does
+then_does before after (Replace asked) standard out0 out1 out result none does = record {
+  printed = does.printed;
+  ends = does.ends;
+  prints = takes_append out0 out1 out [] does.printed none does.prints;
+}
+then_does before after (Feed asked) standard out0 out1 out result none does = over_after _ _ _ out0 out1 out none does
 
 -- the engine succeeds, or stops
 
 pub repack_done : (choice : Choice) (source records0 records out0 out : Device) (report : Report) (in_turns : Bool) →
     Reports choice source records0 records out0 out (Ok report) → (IsTrue in_turns ↔ AreTurns report) →
-    Repacks choice source out0 out (Ok (Repacked in_turns))
+    Repacks choice (Takes records0 records) source out0 out (Ok (Repacked in_turns))
 repack_done choice source records0 records out0 out report in_turns does turns = record {
   input = does.input;
   printed = does.told;
-  left = λ is. does.left;
+  come = λ opened. does.left;
   prints = does.told_all;
-  ends = (in_turns, refl, record { written = does.written; report = report; reported = does.answers; turns = turns });
+  ends = (
+    in_turns,
+    refl,
+    record {
+      written = does.written;
+      output = does.wrote;
+      report = report;
+      reported = does.answers;
+      turns = turns;
+    },
+  );
 }
 
 pub repack_stops : (choice : Choice) (source records0 records out0 out : Device) (why : ToolFault) →
-    Reports choice source records0 records out0 out (Err why) → Repacks choice source out0 out (Err (Tool why))
+    Reports choice source records0 records out0 out (Err why) → Repacks choice (Takes records0 records) source out0 out (Err (Tool why))
 repack_stops choice source records0 records out0 out why does = record {
   input = does.input;
   printed = does.told;
-  left = λ is. does.left;
+  come = λ opened. does.left;
   prints = does.told_all;
-  ends = inl (record { written = does.written; answers = does.answers });
+  ends = inl (record { written = does.written; output = does.wrote; answers = does.answers });
 }
 
 -- what was fed is a repack whose records are printed, and whose text goes to a file
 
 pub feed_done : (choice : Choice) (source out0 out text0 text : Device) (report : Report) →
-    Reports choice source out0 out text0 text (Ok report) → FeedsTo choice source out0 out (Ok tt)
+    Reports choice source out0 out text0 text (Ok report) → FeedsTo choice (Takes text0 text) source out0 out (Ok tt)
 feed_done choice source out0 out text0 text report does = record {
   input = does.input;
   printed = does.written;
-  left = λ is. does.left;
+  come = λ opened. does.left;
   prints = does.wrote;
-  ends = record { told = does.told; report = report; reported = does.answers };
+  ends = record { told = does.told; output = does.told_all; report = report; reported = does.answers };
 }
 
 pub feed_stops : (choice : Choice) (source out0 out text0 text : Device) (why : ToolFault) →
-    Reports choice source out0 out text0 text (Err why) → FeedsTo choice source out0 out (Err why)
+    Reports choice source out0 out text0 text (Err why) → FeedsTo choice (Takes text0 text) source out0 out (Err why)
 feed_stops choice source out0 out text0 text why does = record {
   input = does.input;
   printed = does.written;
-  left = λ is. does.left;
+  come = λ opened. does.left;
   prints = does.wrote;
-  ends = record { told = does.told; answers = does.answers };
+  ends = record { told = does.told; output = does.told_all; answers = does.answers };
 }
 
-pub fed : (choice : Choice) (source out0 out : Device) → FeedsTo choice source out0 out (Ok tt) →
-    Feeds choice source out0 out (Ok Written)
-fed choice source out0 out does = over_said _ _ _ source out0 out (λ input printed ends. (refl, ends)) does
+pub fed : (before after : List Step → Type 0) (asked : Feeding) (holds : List ℕ → Type 0) (source out0 out : Device) →
+    ((told : List ℕ) → holds told → GetsReport before after asked.report.now told) →
+    FeedsTo asked.options holds source out0 out (Ok tt) → Feeds before after asked source out0 out (Ok Written)
+fed before after asked holds source out0 out so does = over_said ⊤ (HasLeft source) _ _ out0 out
+    (λ input printed ends. (
+      refl,
+      record {
+        told = ends.told;
+        output = so ends.told ends.output;
+        report = ends.report;
+        reported = ends.reported;
+      },
+    )) does
 
-pub unfed : (choice : Choice) (source out0 out : Device) (why : ToolFault) →
-    FeedsTo choice source out0 out (Err why) → Feeds choice source out0 out (Err (Tool why))
-unfed choice source out0 out why does = over_said _ _ _ source out0 out (λ input printed ends. inl ends) does
+pub unfed : (before after : List Step → Type 0) (asked : Feeding) (holds : List ℕ → Type 0) (source out0 out : Device)
+    (why : ToolFault) → ((told : List ℕ) → holds told → GetsNoReport before after asked.report.now told) →
+    FeedsTo asked.options holds source out0 out (Err why) → Feeds before after asked source out0 out (Err (Tool why))
+unfed before after asked holds source out0 out why so does = over_said ⊤ (HasLeft source) _ _ out0 out
+    (λ input printed ends. inl (record { told = ends.told; output = so ends.told ends.output; answers = ends.answers })) does
 
-pub check_unread : (out : Device) (stop : TaskFault) → IsUnread stop → Checks out out (Err stop)
-check_unread out stop is = record {
+pub check_unread : (went : List Step → Type 0) (asked : Checking) (out : Device) (stop : TaskFault) → IsUnread stop →
+    Checks went asked out out (Err stop)
+check_unread went asked out stop is = record {
   input = [];
   text = [];
   printed = [];
+  packed = λ opened. absurd (unread_unopened stop is opened);
+  report = λ opened. absurd (unread_unopened stop is opened);
   prints = takes_none out;
   ends = inr (inl is, refl);
 }
 
-pub archive_done : (asked : Archiving) (out0 out : Device) (walked : Walked) → Walks asked.days out0 out (Ok walked) →
+pub archive_done : (asked read : Archiving) (out0 out : Device) (walked : Walked) → IsArchivingRead asked read → Walks read out0 out (Ok walked) →
     WalksArchive asked out0 out (Ok (done_of_archive (is_whole (vec_len asked.below)) walked))
-archive_done asked out0 out walked does = record {
+archive_done asked read out0 out walked is does = record {
   printed = does.printed;
   prints = does.prints;
-  ends = record { found = walked; walk = does.ends; is = refl };
+  ends = record { found = walked; walk = record { read = read; is = is; walk = does.ends }; is = refl };
 }
 
-pub archive_stops : (asked : Archiving) (out0 out : Device) (why : ToolFault) → Walks asked.days out0 out (Err why) →
+pub archive_stops : (asked read : Archiving) (out0 out : Device) (why : ToolFault) → IsArchivingRead asked read → Walks read out0 out (Err why) →
     WalksArchive asked out0 out (Err (Tool why))
-archive_stops asked out0 out why does = record { printed = does.printed; prints = does.prints; ends = inl does.ends }
+archive_stops asked read out0 out why is does =
+    record { printed = does.printed; prints = does.prints; ends = inl (record { read = read; is = is; walk = does.ends }) }
 
--- folders overlap, or memory was refused before the walk began
-pub archive_unbegun : (asked : Archiving) (out : Device) (stop : TaskFault) → IsOverlapOrMemory stop
+pub archive_unbegun : (asked : Archiving) (out : Device) (stop : TaskFault) → IsUnwalked asked.known stop
     → WalksArchive asked out out (Err stop)
-archive_unbegun asked out stop (inl overlap) = rw overlap
-    (record { printed = []; prints = takes_none out; ends = inr (inl refl, refl) })
-archive_unbegun asked out stop (inr refused) = rw refused (archive_stops asked out out fault.Memory
-    (walk_stops asked.days out out device_fault.Memory
-    (stops_entries asked.days out out device_fault.Memory (none_told asked.days out))))
+archive_unbegun asked out stop is = record { printed = []; prints = takes_none out; ends = inr (inl is, refl) }
 
-pub verify_done : (asked : Verifying) (out0 out : Device) (found : WalkFound) → Verifies asked.telling out0 out (Ok found) →
-    VerifiesArchive asked out0 out (Ok (done_of_verifying (is_whole (vec_len asked.below)) found))
-verify_done asked out0 out found does = record {
+pub trial_done : (asked : Trying) (out0 out : Device) (tried : Tried) → Tries asked.days out0 out (Ok tried) →
+    TriesArchive asked out0 out (Ok (done_of_trial (is_whole (vec_len asked.below)) tried))
+trial_done asked out0 out tried does = record {
   printed = does.printed;
   prints = does.prints;
-  ends = record { found = found; walk = does.ends; is = refl };
+  ends = record { found = tried; walk = does.ends; is = refl };
 }
 
-pub verify_stops : (asked : Verifying) (out0 out : Device) (why : ToolFault) → Verifies asked.telling out0 out (Err why) →
-    VerifiesArchive asked out0 out (Err (Tool why))
-verify_stops asked out0 out why does = record { printed = does.printed; prints = does.prints; ends = inl does.ends }
+pub trial_stops : (asked : Trying) (out0 out : Device) (why : ToolFault) → Tries asked.days out0 out (Err why) →
+    TriesArchive asked out0 out (Err (Tool why))
+trial_stops asked out0 out why does = record { printed = does.printed; prints = does.prints; ends = inl does.ends }
 
-pub verify_unbegun : (asked : Verifying) (out : Device) (stop : TaskFault) → IsOverlapOrMemory stop →
+-- if no file is to be read, what is asked for is known
+pub known_same : (known : Known) → ((name : Bor (List ℕ)) → known ≢ File name) → IsKnownRead known known
+known_same Nothing other = refl
+known_same (File name) other = absurd (other name refl)
+known_same (Lines lines) other = refl
+
+-- which could not be read
+pub unread : (asked : Known) (name : Bor (List ℕ)) (stop : TaskFault) → asked ≡ File name → IsUnknown stop → IsUnwalked asked stop
+unread asked name stop is unknown = rw is (inr unknown)
+
+-- before any file is read
+pub unwalked : (known : Known) (stop : TaskFault) → IsOverlapOrMemory stop → IsUnwalked known stop
+unwalked (File name) stop is = inl is
+unwalked Nothing stop is = is
+unwalked (Lines lines) stop is = is
+
+pub verify_done : (asked read : Verifying) (out0 out : Device) (found : WalkFound) → IsVerifyingRead asked read → Verifies read out0 out (Ok found) →
+    VerifiesArchive asked out0 out (Ok (done_of_verifying (is_whole (vec_len asked.below)) found))
+verify_done asked read out0 out found is does = record {
+  printed = does.printed;
+  prints = does.prints;
+  ends = record { found = found; walk = record { read = read; is = is; walk = does.ends }; is = refl };
+}
+
+pub verify_stops : (asked read : Verifying) (out0 out : Device) (why : ToolFault) → IsVerifyingRead asked read → Verifies read out0 out (Err why) →
+    VerifiesArchive asked out0 out (Err (Tool why))
+verify_stops asked read out0 out why is does =
+    record { printed = does.printed; prints = does.prints; ends = inl (record { read = read; is = is; walk = does.ends }) }
+
+pub verify_unbegun : (asked : Verifying) (out : Device) (stop : TaskFault) → IsUnwalked asked.known stop →
     VerifiesArchive asked out out (Err stop)
-verify_unbegun asked out stop (inl overlap) = rw overlap
-    (record { printed = []; prints = takes_none out; ends = inr (inl refl, refl) })
-verify_unbegun asked out stop (inr refused) = rw refused (verify_stops asked out out fault.Memory
-    (verifying_stops asked.telling out out device_fault.Memory
-    (stops_found asked.telling out out device_fault.Memory (none_found asked.telling out))))
+verify_unbegun asked out stop is = record { printed = []; prints = takes_none out; ends = inr (inl is, refl) }
 
 -- the days of an archive were not replaced, nor was anything printed
 
@@ -294,43 +368,97 @@ replace_ended asked out0 out failed (Err fault) _ does ends = absurd ends
 
 -- what was printed is not stored
 
-repack_unstored : (choice : Choice) (done : Done) (input printed : List ℕ) → RepackEnds choice (Ok done) input printed →
-    RepackEnds choice (Err (Tool fault.Write)) input printed
-repack_unstored choice done input printed ends = inl (record {
+repack_unstored : (choice : Choice) (holds : List ℕ → Type 0) (done : Done) (input printed : List ℕ) →
+    RepackEnds choice holds (Ok done) input printed → RepackEnds choice holds (Err (Tool fault.Write)) input printed
+repack_unstored choice holds done input printed ends = inl (record {
   written = ends.2.written;
+  output = ends.2.output;
   answers = inr (record { report = ends.2.report; rest = []; reported = rw append-nil ends.2.reported });
 })
 
-pub repack_unsettled : (choice : Choice) (source out0 out : Device) (done : Done) → Repacks choice source out0 out (Ok done) →
-    Repacks choice source out0 out (Err (Tool fault.Write))
-repack_unsettled choice source out0 out done does = over_said _ _ _ source out0 out (repack_unstored choice done) does
+repack_unsettled : (choice : Choice) (holds : List ℕ → Type 0) (source out0 out : Device) (done : Done) →
+    Repacks choice holds source out0 out (Ok done) → Repacks choice holds source out0 out (Err (Tool fault.Write))
+repack_unsettled choice holds source out0 out done does =
+    over_said ⊤ (HasLeft source) _ _ out0 out (repack_unstored choice holds done) does
 
-feed_unstored : (choice : Choice) (input printed : List ℕ) → FeedAnswers choice (Ok tt) input printed →
-    FeedAnswers choice (Err fault.Write) input printed
-feed_unstored choice input printed ends = record {
+pub repack_settled : (choice : Choice) (holds : List ℕ → Type 0) (source out0 out : Device) (done result : Result Done TaskFault) →
+    Settles done result → Repacks choice holds source out0 out done → Repacks choice holds source out0 out result
+repack_settled choice holds source out0 out (Ok done) result (inl same) does = rw same does
+repack_settled choice holds source out0 out (Ok done) result (inr failed) does =
+    rw failed (repack_unsettled choice holds source out0 out done does)
+repack_settled choice holds source out0 out (Err stop) result same does = rw same does
+
+-- what one place holds another does
+
+if_tool : {P Q : ToolFault → Type 0} (stop : TaskFault) → ((why : ToolFault) → P why → Q why) → IfTool P stop → IfTool Q stop
+if_tool (Tool why) so is = so why is
+if_tool (CannotOpen name why) so is = is
+if_tool (Input name why) so is = is
+if_tool (Failed path why) so is = is
+if_tool SameFile so is = is
+if_tool SameOutput so is = is
+if_tool Overlap so is = is
+if_tool Closed so is = is
+
+repack_elsewhere : (choice : Choice) {holds others : List ℕ → Type 0} (result : Result Done TaskFault) (input printed : List ℕ) →
+    ((written : List ℕ) → holds written → others written) → RepackEnds choice holds result input printed →
+    RepackEnds choice others result input printed
+repack_elsewhere choice (Ok done) input printed so ends = (
+  ends.0,
+  ends.1,
+  record {
+    written = ends.2.written;
+    output = so ends.2.written ends.2.output;
+    report = ends.2.report;
+    reported = ends.2.reported;
+    turns = ends.2.turns;
+  },
+)
+repack_elsewhere choice (Err stop) input printed so (inl stops) = inl (if_tool stop
+    (λ why it. record { written = it.written; output = so it.written it.output; answers = it.answers }) stops)
+repack_elsewhere choice (Err stop) input printed so (inr unread) = inr unread
+
+pub repack_held : (choice : Choice) {holds others : List ℕ → Type 0} (source out0 out : Device) (result : Result Done TaskFault) →
+    ((written : List ℕ) → holds written → others written) → Repacks choice holds source out0 out result →
+    Repacks choice others source out0 out result
+repack_held choice {holds} {others} source out0 out result so does =
+    over_said ⊤ (HasLeft source) _ _ out0 out (λ input printed ends. repack_elsewhere choice result input printed so ends) does
+
+feed_unstored : (choice : Choice) (holds left : List ℕ → Type 0) (input printed : List ℕ) →
+    ((told : List ℕ) → holds told → left told) → WritesRecords choice holds input printed →
+    StopsRecords choice left input printed fault.Write
+feed_unstored choice holds left input printed so ends = record {
   told = ends.told;
+  output = so ends.told ends.output;
   answers = inr (record { report = ends.report; rest = []; reported = rw append-nil ends.reported });
 }
 
-pub feed_unsettled : (choice : Choice) (source out0 out : Device) → FeedsTo choice source out0 out (Ok tt) →
-    FeedsTo choice source out0 out (Err fault.Write)
-feed_unsettled choice source out0 out does = over_said _ _ _ source out0 out (feed_unstored choice) does
+pub feed_unsettled : (choice : Choice) (holds : List ℕ → Type 0) (source out0 out : Device) →
+    FeedsTo choice holds source out0 out (Ok tt) → FeedsTo choice holds source out0 out (Err fault.Write)
+feed_unsettled choice holds source out0 out does = over_said ⊤ (HasLeft source) _ _ out0 out
+    (λ input printed ends. feed_unstored choice holds holds input printed (λ told held. held) ends) does
 
-fed_unstored : (choice : Choice) (done : Done) (input printed : List ℕ) → FeedEnds choice (Ok done) input printed →
-    FeedEnds choice (Err (Tool fault.Write)) input printed
-fed_unstored choice done input printed ends = inl (feed_unstored choice input printed ends.1)
+-- a report that has its text is one that could not be emptied
+fed_unstored : (before after : List Step → Type 0) (asked : Feeding) (done : Done) (input printed : List ℕ) →
+    FeedEnds asked.options (GetsReport before after asked.report.now) (GetsNoReport before after asked.report.now) (Ok done)
+    input printed → FeedEnds asked.options (GetsReport before after asked.report.now)
+    (GetsNoReport before after asked.report.now) (Err (Tool fault.Write)) input printed
+fed_unstored before after asked done input printed ends = inl (feed_unstored asked.options _ _ input printed
+    (λ told has. goes_so (λ old new only. inr only) has) ends.1)
 
 list_unstored : (form : ListForm) (choice : Choice) (done : Done) (input printed : List ℕ) →
     ListEnds form choice (Ok done) input printed → ListEnds form choice (Err (Tool fault.Write)) input printed
 list_unstored form choice done input printed ends = inl (inr
     (record { counts = ends.1.counts; tail = []; listed = rw append-nil ends.1.listed }))
 
-check_unsettled : (out0 out : Device) (done : Done) → Checks out0 out (Ok done) →
-    Checks out0 out (Err (Tool fault.Write))
-check_unsettled out0 out done does = record {
+check_unsettled : (went : List Step → Type 0) (asked : Checking) (out0 out : Device) (done : Done) →
+    Checks went asked out0 out (Ok done) → Checks went asked out0 out (Err (Tool fault.Write))
+check_unsettled went asked out0 out done does = record {
   input = does.input;
   text = does.text;
   printed = does.printed;
+  packed = does.packed;
+  report = does.report;
   prints = does.prints;
   ends = inl (record {
     verdict = does.ends.0;
@@ -348,18 +476,31 @@ replace_unstored asked printed done (inr ends) =
     IsWalk IsExchangeEntry IsExchangeEntryLine (exchange_summary asked.undo) text ends.walk.0 in
     record { entries = ends.walk.0; rest = []; walk = subst P (sym (append-nil printed)) ends.walk.1 }
 
-pub task_unsettled : (task : Task) (standard out0 out : Device) (done : Done) → Does task standard out0 out (Ok done) →
-    Does task standard out0 out (Err (Tool fault.Write))
-task_unsettled (Repack asked) standard out0 out done does =
-    over_said _ _ _ standard out0 out (repack_unstored asked.options done) does
-task_unsettled (Listing asked) standard out0 out done does =
-    over_said _ _ _ standard out0 out (list_unstored asked.form asked.options done) does
-task_unsettled (Check asked) standard out0 out done does = check_unsettled out0 out done does
-task_unsettled (Compare asked) standard out0 out done does =
-    compare_unsettled asked.options asked standard out0 out done does
-task_unsettled (Archive asked) standard out0 out done does =
+pub task_unsettled : (before after : List Step → Type 0) (task : Task) (standard out0 out : Device) (done : Done) →
+    Does before after task standard out0 out (Ok done) → Does before after task standard out0 out (Err (Tool fault.Write))
+task_unsettled before after (Repack asked) standard out0 out done does =
+    over_said ⊤ _ _ _ out0 out (repack_unstored asked.options (GetsOutput before after asked.output) done) does
+task_unsettled before after (Listing asked) standard out0 out done does =
+    over_said ⊤ _ _ _ out0 out (list_unstored asked.form asked.options done) does
+task_unsettled before after (Check asked) standard out0 out done does = check_unsettled before asked out0 out done does
+task_unsettled before after (Compare asked) standard out0 out done does =
+    compare_unsettled before asked.options asked standard out0 out done does
+task_unsettled before after (Archive asked) standard out0 out done does =
+    let read = does.ends.walk.read in
+    let ended = does.ends.walk.walk in
+    let P : List ℕ → Type 0 = λ text. IsWalk (IsEntry read) (IsEntryLine read) (summary read) text ended.0 in
+    record {
+      printed = does.printed;
+      prints = does.prints;
+      ends = inl (record {
+        read = read;
+        is = does.ends.walk.is;
+        walk = record { entries = ended.0; rest = []; walk = subst P (sym (append-nil does.printed)) ended.1 };
+      });
+    }
+task_unsettled before after (Trial asked) standard out0 out done does =
     let P : List ℕ → Type 0 = λ text.
-    IsWalk (IsEntry asked.days) (IsEntryLine asked.days) (summary asked.days) text does.ends.walk.0 in
+    IsWalk (IsTrialEntry asked.days) (IsTrialLine asked.days) (summary_by asked.days false) text does.ends.walk.0 in
     record {
       printed = does.printed;
       prints = does.prints;
@@ -369,19 +510,20 @@ task_unsettled (Archive asked) standard out0 out done does =
         walk = subst P (sym (append-nil does.printed)) does.ends.walk.1;
       });
     }
-task_unsettled (Verify asked) standard out0 out done does =
-    let P : List ℕ → Type 0 = λ text.
-    IsWalk IsJudgedEntry (IsToldLine asked.telling) (judged_summary asked.telling.form) text does.ends.walk.0 in
+task_unsettled before after (Verify asked) standard out0 out done does =
+    let read = does.ends.walk.read in
+    let ended = does.ends.walk.walk in
+    let P : List ℕ → Type 0 = λ text. IsWalk (IsJudgedEntry read) (IsToldLine read) (judged_summary read) text ended.0 in
     record {
       printed = does.printed;
       prints = does.prints;
       ends = inl (record {
-        entries = does.ends.walk.0;
-        rest = [];
-        walk = subst P (sym (append-nil does.printed)) does.ends.walk.1;
+        read = read;
+        is = does.ends.walk.is;
+        walk = record { entries = ended.0; rest = []; walk = subst P (sym (append-nil does.printed)) ended.1 };
       });
     }
-task_unsettled (Replace asked) standard out0 out done does = record {
+task_unsettled before after (Replace asked) standard out0 out done does = record {
   printed = does.printed;
   prints = does.prints;
   ends = inr (inl (record {
@@ -390,5 +532,5 @@ task_unsettled (Replace asked) standard out0 out done does = record {
     walk = replace_unstored asked does.printed done does.ends;
   }));
 }
-task_unsettled (Feed asked) standard out0 out done does =
-    over_said _ _ _ standard out0 out (fed_unstored asked.options done) does
+task_unsettled before after (Feed asked) standard out0 out done does =
+    over_said ⊤ _ _ _ out0 out (fed_unstored before after asked done) does

@@ -1,3 +1,4 @@
 pub mod Comparisons
 pub mod Endings
+pub mod Inputs
 pub mod Words

@@ -6,18 +6,19 @@ use Rattle.msr_options.specs.Asked.{HasStatus}
 use Rattle.msr_options.specs.Tasks.{IsDefault, verb_of, word_of}
 use Rattle.msr_options.specs.declared.task.NoTask.{NoTask}
 use Rattle.msr_options.specs.declared.task.Task.{Task}
+use Rattle.msr_tree.specs.Steps.{Step}
 use Rattle.msr_command.specs.Ends.{EndsAsked, EndsTask, EndsWithoutTask}
 use denote.Ref.{Bor}
 
 some_words : (words : ℕ) → (words < 2 → ⊥) → 2 ≤ words
 some_words words none = grind (arith, none)
 
-pub words_end : (words : List (Bor (List ℕ))) (asked : Result Task NoTask) (standard out0 out : Device) (status : ℕ) →
+pub words_end : (before after : List Step → Type 0) (words : List (Bor (List ℕ))) (asked : Result Task NoTask) (standard out0 out : Device) (status : ℕ) →
     (length words < 2 → IsOkAnd asked IsDefault) →
     (2 ≤ length words → IfOk asked (λ task. IsSomeAnd (slice_get words 1) (λ word. word.now ≡ word_of (verb_of task)))) →
-    IfErr asked (HasStatus (map (λ word. word.now) words)) → EndsAsked asked standard out0 out status →
-    EndsTask words standard out0 out status ⊎ EndsWithoutTask words out0 out status
-words_end words (Ok task) standard out0 out status default command has ends = inl (record {
+    IfErr asked (HasStatus (map (λ word. word.now) words)) → EndsAsked before after asked standard out0 out status →
+    EndsTask before after words standard out0 out status ⊎ EndsWithoutTask words out0 out status
+words_end before after words (Ok task) standard out0 out status default command has ends = inl (record {
   task = task;
   outcome = ends.outcome;
   default = default;
@@ -25,5 +26,5 @@ words_end words (Ok task) standard out0 out status default command has ends = in
   does = ends.does;
   ended = ends.ended;
 })
-words_end words (Err why) standard out0 out status default command has ends =
+words_end before after words (Err why) standard out0 out status default command has ends =
     inr (record { why = why; some = some_words (length words) default; has_status = has; ends = ends })

@@ -6,8 +6,12 @@ use Rattle.msr_devices.specs.Device.{Device, CountsError, HasFailed, HasLeft, Ta
 use Rattle.msr_base.specs.declared.counts.Counts.{Counts}
 use Rattle.msr_report.specs.declared.report.Report.{Report}
 use Rattle.msr_options.specs.Choice.{Choice}
+use Rattle.msr_options.specs.Known.{knows_any}
+use Rattle.msr_options.specs.declared.known.Known.{Known}
+use Rattle.msr_options.specs.declared.known.Known.TheVariants.{File}
 use Rattle.msr_options.specs.declared.task.Archiving.{Archiving}
 use Rattle.msr_options.specs.declared.task.Replacing.{Replacing}
+use Rattle.msr_options.specs.declared.task.Trying.{Trying}
 use Rattle.msr_options.specs.declared.task.Verifying.{Verifying}
 use Rattle.msr_tool.specs.Settings.{settings_of}
 use Rattle.msr_tool.specs.Fault.{fault_of_writing}
@@ -19,6 +23,8 @@ use Rattle.msr_folders.specs.declared.found.WalkFound.{WalkFound}
 use Rattle.msr_folders.specs.declared.found.WalkFound.TheVariants.{Well, Unwell, NoDay}
 use Rattle.msr_walk.specs.Walk.{WalkEnds}
 use Rattle.msr_walk.specs.declared.folders.Walked.{Walked as ArchiveWalked}
+use Rattle.msr_trial.specs.Walk.{TrialEnds}
+use Rattle.msr_trial.specs.declared.walk.Tried.{Tried}
 use Rattle.msr_verify.specs.Walk.{VerifyingEnds}
 use Rattle.msr_replace.specs.Walk.{ReplacingEnds, TellsFailed}
 use Rattle.msr_devices.specs.declared.fault.DeviceFault.{DeviceFault}
@@ -27,8 +33,13 @@ use Rattle.msr_compare.specs.declared.comparison.Comparison.TheVariants.{Differ}
 use Rattle.msr_command.specs.declared.done.Done.{Done}
 use Rattle.msr_command.specs.declared.done.Done.TheVariants.{Written, Repacked, Checked, Compared, Walked}
 use Rattle.msr_command.specs.declared.task_fault.TaskFault.{TaskFault}
-use Rattle.msr_command.specs.declared.task_fault.TaskFault.TheVariants.{CannotOpen, Failed, SameFile, SameOutput, Overlap, Closed, Tool}
+use Rattle.msr_command.specs.declared.task_fault.TaskFault.TheVariants.{CannotOpen, Failed, Input, SameFile, SameOutput, Overlap, Closed, Tool}
 use Rattle.msr_options.specs.declared.task.Comparing.{Comparing}
+use Rattle.msr_tree.specs.Steps.{Path, Step}
+use Rattle.msr_options.specs.declared.task.Checking.{Checking}
+use Rattle.msr_options.specs.declared.task.Feeding.{Feeding}
+use Rattle.msr_options.specs.declared.task.Repacking.{Repacking}
+use Rattle.msr_command.specs.Named.{Comes, GetsNoReport, GetsOutput, GetsReport, LeadsTo}
 use Rattle.msr_command.specs.Comparing.{IsAnswered, IsAtFault, StopsComparison}
 use Rattle.msr_command.specs.Turns.{AreTurns}
 use Rattle.msr_options.specs.declared.hint.Unopened.{Unopened}
@@ -36,7 +47,7 @@ use Rattle.msr_options.specs.declared.task.ListForm.{ListForm}
 use Rattle.msr_options.specs.declared.task.NoTask.{NoTask}
 use Rattle.msr_options.specs.declared.task.NoTask.TheVariants.{Ending, NotALength, Memory}
 use Rattle.msr_options.specs.declared.task.Task.{Task}
-use Rattle.msr_options.specs.declared.task.Task.TheVariants.{Repack, List as Listing, Check, Compare, Archive, Verify, Replace, Feed}
+use Rattle.msr_options.specs.declared.task.Task.TheVariants.{Repack, List as Listing, Check, Compare, Archive, Trial, Verify, Replace, Feed}
 use Rattle.msr_options.specs.Asked.{HasStatus}
 use Rattle.msr_options.specs.Tasks.{IsDefault, verb_of, word_of}
 
@@ -73,6 +84,21 @@ IsUncreated stop = IsUnread stop ⊎ (stop ≡ SameOutput)
 abbrev pub IsOverlapOrMemory : TaskFault → Type 0
 IsOverlapOrMemory stop = (stop ≡ Overlap) ⊎ (stop ≡ Tool engine.Memory)
 
+-- the file with the lines that are known was not read: it could not be opened, or standard output goes to it, or a read failed
+abbrev pub IsUnknown : TaskFault → Type 0
+IsUnknown (Input name engine.Read) = ⊤
+IsUnknown stop = IsUnread stop
+
+-- folders overlap, memory was refused before the walk began, or lines that are to be known were not read
+abbrev pub IsUnwalked : Known → TaskFault → Type 0
+IsUnwalked (File name) stop = IsOverlapOrMemory stop ⊎ IsUnknown stop
+IsUnwalked known stop = IsOverlapOrMemory stop
+
+-- what a walk knows of what is asked for: of a file the lines that were read
+abbrev pub IsKnownRead : (asked read : Known) → Type 0
+IsKnownRead (File name) read = knows_any read ≡ true
+IsKnownRead asked read = read ≡ asked
+
 -- a task was done with something of which this is said: a repack, a verdict or an answer
 abbrev pub IsDoneBy : {A : Type 0} → (A → Done) → (A → Type 0) → Done → Type 0
 IsDoneBy of says done = (it : _) × (done ≡ of it) × says it
@@ -90,39 +116,62 @@ Ends done file stopped printed (Ok what) = done what
 Ends done file stopped printed (Err stop) =
     IfTool stopped stop ⊎ ((file stop ⊎ (stop ≡ Closed)) × (printed ≡ []))
 
--- What a task over one input read and printed, and what these say. The input is what the source has left, if the
--- source is known to be that of the task.
-pub record Over (known : Type 0) (says : (input printed : List ℕ) → Type 0) (source out0 out : Device) : Type 0 where
+-- no file stopped a task, and no closed standard output, before anything was read
+abbrev pub HasOpened : Result Done TaskFault → Type 0
+HasOpened (Err (CannotOpen name why)) = ⊥
+HasOpened (Err SameFile) = ⊥
+HasOpened (Err SameOutput) = ⊥
+HasOpened (Err Closed) = ⊥
+HasOpened _ = ⊤
+
+-- What a task over one input read and printed, and what these say. Where the input comes from is known if it was opened.
+pub record Over (opened : Type 0) (comes : List ℕ → Type 0) (says : (input printed : List ℕ) → Type 0) (out0 out : Device) :
+    Type 0 where
   pub input : List ℕ
   pub printed : List ℕ
-  pub left : known → HasLeft source input
+  pub come : opened → comes input
   pub prints : Takes out0 out printed
   pub ends : says input printed
 
--- The input was repacked into some records, and what was printed is the text of its report. It is told whether
--- channels seem to alternate.
-pub record WritesReport (choice : Choice) (input printed : List ℕ) (in_turns : Bool) : Type 0 where
+-- The input was repacked into these records, which some place holds, and what was printed is the text of its report. It is
+-- told whether channels seem to alternate.
+pub record WritesReport (choice : Choice) (holds : List ℕ → Type 0) (input printed : List ℕ) (in_turns : Bool) : Type 0 where
   pub written : List ℕ
+  pub output : holds written
   pub report : Report
   pub reported : IsReported choice input written printed report
   pub turns : IsTrue in_turns ↔ AreTurns report
 
--- The engine stopped at this fault, after some records.
-pub record StopsReport (choice : Choice) (input printed : List ℕ) (fault : ToolFault) : Type 0 where
+-- The engine stopped at this fault, after these records.
+pub record StopsReport (choice : Choice) (holds : List ℕ → Type 0) (input printed : List ℕ) (fault : ToolFault) : Type 0 where
   pub written : List ℕ
+  pub output : holds written
   pub answers : ReportAnswers choice input written printed (Err fault)
 
-abbrev pub RepackEnds : Choice → Result Done TaskFault → (input printed : List ℕ) → Type 0
-RepackEnds choice result input printed =
-    Ends (IsDoneBy Repacked (WritesReport choice input printed)) IsUncreated (StopsReport choice input printed) printed result
+abbrev pub RepackEnds : Choice → (holds : List ℕ → Type 0) → Result Done TaskFault → (input printed : List ℕ) → Type 0
+RepackEnds choice holds result input printed =
+    Ends (IsDoneBy Repacked (WritesReport choice holds input printed)) IsUncreated (StopsReport choice holds input printed)
+    printed result
 
 -- Repacking a source.
-abbrev pub Repacks : Choice → (source out0 out : Device) → Result Done TaskFault → Type 0
-Repacks choice source out0 out result = Over ⊤ (RepackEnds choice result) source out0 out
+abbrev pub Repacks : Choice → (holds : List ℕ → Type 0) → (source out0 out : Device) → Result Done TaskFault → Type 0
+Repacks choice holds source out0 out result = Over ⊤ (HasLeft source) (RepackEnds choice holds result) out0 out
 
--- Repacking the file of a name, which is standard input for `-`. What another name's file holds is not known.
-abbrev pub RepacksNamed : Choice → (name : List ℕ) → (standard out0 out : Device) → Result Done TaskFault → Type 0
-RepacksNamed choice name standard out0 out result = Over (name ≡ codes "-") (RepackEnds choice result) standard out0 out
+-- what was written is stored if a task was done, and else it failed
+abbrev pub Settles : (done result : Result Done TaskFault) → Type 0
+Settles (Ok done) result = (result ≡ Ok done) ⊎ (result ≡ Err (Tool engine.Write))
+Settles (Err stop) result = result ≡ Err stop
+
+-- the input with a name, which is standard input for `-`
+abbrev pub ComesNamed : (went : List Step → Type 0) → (name : Path) → (standard : Device) → (input : List ℕ) → Type 0
+ComesNamed went name standard input = Comes (name ≡ codes "-") went name standard input
+
+-- Repacking the file of a name, which is standard input for `-`, to that of another, or to nowhere.
+abbrev pub RepacksNamed : (before after : List Step → Type 0) → Repacking → (standard out0 out : Device)
+    → Result Done TaskFault → Type 0
+RepacksNamed before after asked standard out0 out result =
+    Over (HasOpened result) (ComesNamed before asked.input.now standard)
+    (RepackEnds asked.options (GetsOutput before after asked.output) result) out0 out
 
 -- The input was listed with these counts.
 pub record WritesList (form : ListForm) (choice : Choice) (input printed : List ℕ) : Type 0 where
@@ -136,64 +185,74 @@ ListEnds form choice result input printed =
 
 -- Listing a source.
 abbrev pub Lists : ListForm → Choice → (source out0 out : Device) → Result Done TaskFault → Type 0
-Lists form choice source out0 out result = Over ⊤ (ListEnds form choice result) source out0 out
+Lists form choice source out0 out result = Over ⊤ (HasLeft source) (ListEnds form choice result) out0 out
 
 -- Listing the file of a name.
-abbrev pub ListsNamed : ListForm → Choice → (name : List ℕ) → (standard out0 out : Device) → Result Done TaskFault
-    → Type 0
-ListsNamed form choice name standard out0 out result =
-    Over (name ≡ codes "-") (ListEnds form choice result) standard out0 out
+abbrev pub ListsNamed : ListForm → Choice → (went : List Step → Type 0) → (name : Path) → (standard out0 out : Device)
+    → Result Done TaskFault → Type 0
+ListsNamed form choice went name standard out0 out result =
+    Over (HasOpened result) (ComesNamed went name standard) (ListEnds form choice result) out0 out
 
 -- The input was repacked into what was printed, and this is the text of its report.
-pub record WritesRecords (choice : Choice) (input printed : List ℕ) : Type 0 where
+pub record WritesRecords (choice : Choice) (holds : List ℕ → Type 0) (input printed : List ℕ) : Type 0 where
   pub told : List ℕ
+  pub output : holds told
   pub report : Report
   pub reported : IsReported choice input printed told report
 
 -- The engine stopped at this fault, or what it wrote was not stored, after this part of the report.
-pub record StopsRecords (choice : Choice) (input printed : List ℕ) (fault : ToolFault) : Type 0 where
+pub record StopsRecords (choice : Choice) (holds : List ℕ → Type 0) (input printed : List ℕ) (fault : ToolFault) : Type 0 where
   pub told : List ℕ
+  pub output : holds told
   pub answers : ReportAnswers choice input printed told (Err fault)
 
-abbrev pub FeedAnswers : Choice → Result (Unit {0}) ToolFault → (input printed : List ℕ) → Type 0
-FeedAnswers choice (Ok fed) input printed = WritesRecords choice input printed
-FeedAnswers choice (Err fault) input printed = StopsRecords choice input printed fault
+abbrev pub FeedAnswers : Choice → (holds left : List ℕ → Type 0) → Result (Unit {0}) ToolFault → (input printed : List ℕ)
+    → Type 0
+FeedAnswers choice holds left (Ok fed) input printed = WritesRecords choice holds input printed
+FeedAnswers choice holds left (Err fault) input printed = StopsRecords choice left input printed fault
 
--- Repacking a source to standard output, and its report to a file.
-abbrev pub FeedsTo : Choice → (source out0 out : Device) → Result (Unit {0}) ToolFault → Type 0
-FeedsTo choice source out0 out result = Over ⊤ (FeedAnswers choice result) source out0 out
+-- Repacking a source to standard output, and its report to some place.
+abbrev pub FeedsTo : Choice → (holds : List ℕ → Type 0) → (source out0 out : Device) → Result (Unit {0}) ToolFault → Type 0
+FeedsTo choice holds source out0 out result =
+    Over ⊤ (HasLeft source) (FeedAnswers choice holds holds result) out0 out
 
-abbrev pub FeedEnds : Choice → Result Done TaskFault → (input printed : List ℕ) → Type 0
-FeedEnds choice result input printed =
-    Ends (λ done. (done ≡ Written) × WritesRecords choice input printed) IsUncreated
-    (StopsRecords choice input printed) printed result
+-- The report is held, or else something of it is left.
+abbrev pub FeedEnds : Choice → (holds left : List ℕ → Type 0) → Result Done TaskFault → (input printed : List ℕ) → Type 0
+FeedEnds choice holds left result input printed =
+    Ends (λ done. (done ≡ Written) × WritesRecords choice holds input printed) IsUncreated
+    (StopsRecords choice left input printed) printed result
 
--- Repacking standard input to standard output, and how it ends.
-abbrev pub Feeds : Choice → (standard out0 out : Device) → Result Done TaskFault → Type 0
-Feeds choice standard out0 out result = Over ⊤ (FeedEnds choice result) standard out0 out
+-- Repacking standard input to standard output, and its report to the file of a name.
+abbrev pub Feeds : (before after : List Step → Type 0) → Feeding → (standard out0 out : Device) → Result Done TaskFault
+    → Type 0
+Feeds before after asked standard out0 out result =
+    Over ⊤ (HasLeft standard) (FeedEnds asked.options (GetsReport before after asked.report.now)
+    (GetsNoReport before after asked.report.now) result) out0 out
 
 abbrev pub CheckEnds : (input text printed : List ℕ) → Result Done TaskFault → Type 0
 CheckEnds input text printed result =
     Ends (IsDoneBy Checked (λ verdict. VerdictAnswers input text printed (Ok verdict))) IsUnread
     (λ fault. VerdictAnswers input text printed (Err fault)) printed result
 
--- Checking some records with some report, and what was printed.
-pub record Checks (out0 out : Device) (result : Result Done TaskFault) : Type 0 where
-  pub input : List ℕ
-  pub text : List ℕ
-  pub printed : List ℕ
-  pub prints : Takes out0 out printed
-  pub ends : CheckEnds input text printed result
+-- Checking the records that one name leads to with the report that the other does, and what was printed.
+pub record Checks (went : List Step → Type 0) (asked : Checking) (out0 out : Device) (result : Result Done TaskFault) : Type 0
+  where
+    pub input : List ℕ
+    pub text : List ℕ
+    pub printed : List ℕ
+    pub packed : HasOpened result → LeadsTo went asked.packed.now input
+    pub report : HasOpened result → LeadsTo went asked.report.now text
+    pub prints : Takes out0 out printed
+    pub ends : CheckEnds input text printed result
 
--- What a task over two inputs read and printed, and what these say. Each input is what its source has left, if the source
--- is known to be that of the task.
-pub record OverTwo (known_one known_other : Type 0) (says : (first second printed : List ℕ) → Type 0)
-    (one other out0 out : Device) : Type 0 where
+-- What a task over two inputs read and printed, and what these say. Where each comes from is known if both were opened.
+pub record OverTwo (opened : Type 0) (comes_one comes_other : List ℕ → Type 0)
+    (says : (first second printed : List ℕ) → Type 0) (out0 out : Device) : Type 0 where
   pub first : List ℕ
   pub second : List ℕ
   pub printed : List ℕ
-  pub left_one : known_one → HasLeft one first
-  pub left_other : known_other → HasLeft other second
+  pub come_one : opened → comes_one first
+  pub come_other : opened → comes_other second
   pub prints : Takes out0 out printed
   pub ends : says first second printed
 
@@ -205,7 +264,8 @@ CompareEnds choice asked result first second printed =
 
 -- Comparing two sources.
 abbrev pub Compares : Choice → Comparing → (one other out0 out : Device) → Result Done TaskFault → Type 0
-Compares choice asked one other out0 out result = OverTwo ⊤ ⊤ (CompareEnds choice asked result) one other out0 out
+Compares choice asked one other out0 out result =
+    OverTwo ⊤ (HasLeft one) (HasLeft other) (CompareEnds choice asked result) out0 out
 
 -- the first name is that of standard input
 abbrev pub IsOneStandard : Comparing → Type 0
@@ -216,14 +276,18 @@ abbrev pub IsOtherStandard : Comparing → Type 0
 IsOtherStandard asked = ¬ (IsOneStandard asked) × (asked.other.now ≡ codes "-")
 
 -- Comparing a source with the file of the other name, which may be standard input.
-abbrev pub ComparesWith : Choice → Comparing → (one standard out0 out : Device) → Result Done TaskFault → Type 0
-ComparesWith choice asked one standard out0 out result =
-    OverTwo ⊤ (asked.other.now ≡ codes "-") (CompareEnds choice asked result) one standard out0 out
+abbrev pub ComparesWith : (went : List Step → Type 0) → Choice → Comparing → (one standard out0 out : Device)
+    → Result Done TaskFault → Type 0
+ComparesWith went choice asked one standard out0 out result =
+    OverTwo (HasOpened result) (HasLeft one) (ComesNamed went asked.other.now standard) (CompareEnds choice asked result)
+    out0 out
 
 -- Comparing the files of two names, of which one may be standard input.
-abbrev pub ComparesNamed : Choice → Comparing → (standard out0 out : Device) → Result Done TaskFault → Type 0
-ComparesNamed choice asked standard out0 out result =
-    OverTwo (IsOneStandard asked) (IsOtherStandard asked) (CompareEnds choice asked result) standard standard out0 out
+abbrev pub ComparesNamed : (went : List Step → Type 0) → Choice → Comparing → (standard out0 out : Device)
+    → Result Done TaskFault → Type 0
+ComparesNamed went choice asked standard out0 out result =
+    OverTwo (HasOpened result) (Comes (IsOneStandard asked) went asked.one.now standard)
+    (Comes (IsOtherStandard asked) went asked.other.now standard) (CompareEnds choice asked result) out0 out
 
 -- what a walk through an archive ends with, or through a part of it, and whether the whole has to have a day
 abbrev pub done_of_walk : Option Unopened → (is_whole wants_day : Bool) → WalkFound → Done
@@ -231,9 +295,12 @@ done_of_walk unopened is_whole wants_day Well = Walked false false unopened
 done_of_walk unopened is_whole wants_day Unwell = Walked true false unopened
 done_of_walk unopened is_whole wants_day NoDay = Walked (wants_day && is_whole) is_whole unopened
 
--- what repacking an archive ends with, and verifying it
+-- what repacking an archive ends with, a dry run of that, and verifying it
 abbrev pub done_of_archive : (is_whole : Bool) → ArchiveWalked → Done
 done_of_archive is_whole walked = done_of_walk walked.unopened is_whole false walked.found
+
+abbrev pub done_of_trial : (is_whole : Bool) → Tried → Done
+done_of_trial is_whole tried = done_of_walk tried.unopened is_whole false tried.found
 
 abbrev pub done_of_verifying : (is_whole : Bool) → WalkFound → Done
 done_of_verifying is_whole found = done_of_walk None is_whole true found
@@ -248,10 +315,21 @@ pub record IsEndOf {W : Type 0} (done_of : W → Done) (ends : W → Type 0) (do
 abbrev pub is_whole : (folders : ℕ) → Bool
 is_whole folders = folders == 0
 
+-- A walk with what is known: what is asked for, or the lines of the file that was read.
+pub record IsArchivingRead (asked read : Archiving) : Type 0 where
+  pub days : read.days ≡ asked.days
+  pub known : IsKnownRead asked.known read.known
+
+-- What is said of that walk.
+pub record OfArchiving (asked : Archiving) (says : Archiving → Type 0) : Type 0 where
+  pub read : Archiving
+  pub is : IsArchivingRead asked read
+  pub walk : says read
+
 abbrev pub ArchiveEnds : Archiving → (printed : List ℕ) → Result Done TaskFault → Type 0
 ArchiveEnds asked printed result =
-    Ends (IsEndOf (done_of_archive (is_whole (vec_len asked.below))) (λ found. WalkEnds asked.days printed (Ok found)))
-    (λ stop. stop ≡ Overlap) (λ fault. WalkEnds asked.days printed (Err fault)) printed result
+    Ends (IsEndOf (done_of_archive (is_whole (vec_len asked.below))) (λ found. OfArchiving asked (λ read. WalkEnds read printed (Ok found))))
+    (IsUnwalked asked.known) (λ fault. OfArchiving asked (λ read. WalkEnds read printed (Err fault))) printed result
 
 -- Walking an archive, and what was printed.
 pub record WalksArchive (asked : Archiving) (out0 out : Device) (result : Result Done TaskFault) : Type 0 where
@@ -259,16 +337,45 @@ pub record WalksArchive (asked : Archiving) (out0 out : Device) (result : Result
   pub prints : Takes out0 out printed
   pub ends : ArchiveEnds asked printed result
 
+abbrev pub TryingEnds : Trying → (printed : List ℕ) → Result Done TaskFault → Type 0
+TryingEnds asked printed result =
+    Ends (IsEndOf (done_of_trial (is_whole (vec_len asked.below))) (λ tried. TrialEnds asked.days printed (Ok tried)))
+    (λ stop. ⊥) (λ fault. TrialEnds asked.days printed (Err fault)) printed result
+
+-- A dry run of walking an archive, and what was printed.
+pub record TriesArchive (asked : Trying) (out0 out : Device) (result : Result Done TaskFault) : Type 0 where
+  pub printed : List ℕ
+  pub prints : Takes out0 out printed
+  pub ends : TryingEnds asked printed result
+
+-- the same with the answer of the walk
+abbrev pub WalksKnown : Archiving → (out0 out : Device) → Result ArchiveWalked TaskFault → Type 0
+WalksKnown asked out0 out (Ok walked) = WalksArchive asked out0 out (Ok (done_of_archive (is_whole (vec_len asked.below)) walked))
+WalksKnown asked out0 out (Err stop) = WalksArchive asked out0 out (Err stop)
+
+pub record IsVerifyingRead (asked read : Verifying) : Type 0 where
+  pub telling : read.telling ≡ asked.telling
+  pub known : IsKnownRead asked.known read.known
+
+pub record OfVerifying (asked : Verifying) (says : Verifying → Type 0) : Type 0 where
+  pub read : Verifying
+  pub is : IsVerifyingRead asked read
+  pub walk : says read
+
 abbrev pub VerifyEnds : Verifying → (printed : List ℕ) → Result Done TaskFault → Type 0
 VerifyEnds asked printed result =
-    Ends (IsEndOf (done_of_verifying (is_whole (vec_len asked.below))) (λ found. VerifyingEnds asked.telling printed (Ok found)))
-    (λ stop. stop ≡ Overlap) (λ fault. VerifyingEnds asked.telling printed (Err fault)) printed result
+    Ends (IsEndOf (done_of_verifying (is_whole (vec_len asked.below))) (λ found. OfVerifying asked (λ read. VerifyingEnds read printed (Ok found))))
+    (IsUnwalked asked.known) (λ fault. OfVerifying asked (λ read. VerifyingEnds read printed (Err fault))) printed result
 
 -- Verifying the repack of an archive, and what was printed.
 pub record VerifiesArchive (asked : Verifying) (out0 out : Device) (result : Result Done TaskFault) : Type 0 where
   pub printed : List ℕ
   pub prints : Takes out0 out printed
   pub ends : VerifyEnds asked printed result
+
+abbrev pub VerifiesKnown : Verifying → (out0 out : Device) → Result WalkFound TaskFault → Type 0
+VerifiesKnown asked out0 out (Ok found) = VerifiesArchive asked out0 out (Ok (done_of_verifying (is_whole (vec_len asked.below)) found))
+VerifiesKnown asked out0 out (Err stop) = VerifiesArchive asked out0 out (Err stop)
 
 -- the whole archive has to have a day, unless its originals are put back
 abbrev pub wants_replaced : Replacing → Bool
@@ -330,23 +437,24 @@ abbrev pub EndsClosed : Task → TaskFault → Type 0
 EndsClosed (Feed asked) stop = IsUncreated stop ⊎ (stop ≡ Closed)
 EndsClosed _ stop = stop ≡ Closed
 
--- what doing a task reads and prints, and how it ends
-abbrev pub Does : Task → (standard out0 out : Device) → Result Done TaskFault → Type 0
-Does (Repack asked) standard out0 out result = RepacksNamed asked.options asked.input.now standard out0 out result
-Does (Listing asked) standard out0 out result =
-    ListsNamed asked.form asked.options asked.input.now standard out0 out result
-Does (Check asked) standard out0 out result = Checks out0 out result
-Does (Compare asked) standard out0 out result =
-    ComparesNamed asked.options asked standard out0 out result
-Does (Archive asked) standard out0 out result = WalksArchive asked out0 out result
-Does (Verify asked) standard out0 out result = VerifiesArchive asked out0 out result
-Does (Replace asked) standard out0 out result = ReplacesArchive asked out0 out result
-Does (Feed asked) standard out0 out result = Feeds asked.options standard out0 out result
+-- what doing a task reads, writes and prints, and how it ends
+abbrev pub Does : (before after : List Step → Type 0) → Task → (standard out0 out : Device) → Result Done TaskFault → Type 0
+Does before after (Repack asked) standard out0 out result = RepacksNamed before after asked standard out0 out result
+Does before after (Listing asked) standard out0 out result =
+    ListsNamed asked.form asked.options before asked.input.now standard out0 out result
+Does before after (Check asked) standard out0 out result = Checks before asked out0 out result
+Does before after (Compare asked) standard out0 out result =
+    ComparesNamed before asked.options asked standard out0 out result
+Does before after (Archive asked) standard out0 out result = WalksArchive asked out0 out result
+Does before after (Trial asked) standard out0 out result = TriesArchive asked out0 out result
+Does before after (Verify asked) standard out0 out result = VerifiesArchive asked out0 out result
+Does before after (Replace asked) standard out0 out result = ReplacesArchive asked out0 out result
+Does before after (Feed asked) standard out0 out result = Feeds before after asked standard out0 out result
 
 -- A task was done, and ended with this status.
-pub record EndsDone (task : Task) (standard out0 out : Device) (status : ℕ) : Type 0 where
+pub record EndsDone (before after : List Step → Type 0) (task : Task) (standard out0 out : Device) (status : ℕ) : Type 0 where
   pub outcome : Result Done TaskFault
-  pub does : Does task standard out0 out outcome
+  pub does : Does before after task standard out0 out outcome
   pub ended : status ≡ status_of outcome
 
 -- A text was printed whole for status 0. Status 2 is for a text on standard error, and then nothing is printed; status
@@ -359,17 +467,17 @@ EndsText NotALength out0 out status = (status ≡ 2) × (out ≡ out0)
 EndsText Memory out0 out status = (status ≡ 1) × (out ≡ out0)
 
 -- what was asked for was done, or what there is in its place was told
-abbrev pub EndsAsked : Result Task NoTask → (standard out0 out : Device) → (status : ℕ) → Type 0
-EndsAsked (Ok task) standard out0 out status = EndsDone task standard out0 out status
-EndsAsked (Err why) standard out0 out status = EndsText why out0 out status
+abbrev pub EndsAsked : (before after : List Step → Type 0) → Result Task NoTask → (standard out0 out : Device) → (status : ℕ) → Type 0
+EndsAsked before after (Ok task) standard out0 out status = EndsDone before after task standard out0 out status
+EndsAsked before after (Err why) standard out0 out status = EndsText why out0 out status
 
 -- The words ask for a task, with none for the default, else by the word of a command, and it ended with this status.
-pub record EndsTask (words : List (Bor (List ℕ))) (standard out0 out : Device) (status : ℕ) : Type 0 where
+pub record EndsTask (before after : List Step → Type 0) (words : List (Bor (List ℕ))) (standard out0 out : Device) (status : ℕ) : Type 0 where
   pub task : Task
   pub outcome : Result Done TaskFault
   pub default : length words < 2 → IsDefault task
   pub command : 2 ≤ length words → IsSomeAnd (slice_get words 1) (λ word. word.now ≡ word_of (verb_of task))
-  pub does : Does task standard out0 out outcome
+  pub does : Does before after task standard out0 out outcome
   pub ended : status ≡ status_of outcome
 
 -- The words ask for no task.

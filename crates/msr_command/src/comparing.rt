@@ -6,14 +6,14 @@ ghost use Rattle.msr_command.specs.Ends.{Compares, ComparesNamed, ComparesWith};
 
 use crate::done::Done;
 use crate::files::{open_file, open_input};
+use crate::named::NamedFiles;
 use crate::task_fault::TaskFault;
 use msr_compare::{CompareFault, Comparison, compare};
-use msr_devices::{FromRead, Sink, Source, write_all};
+use msr_devices::{Sink, Source, write_all};
 use msr_input::{ReadFault, Settings};
 use msr_options::Comparing;
 use msr_tool::ToolFault;
 use std::alloc::Global;
-use std::rt::Files;
 
 /// What the task ends with at that fault of one of its inputs. Memory that was refused has no name.
 fn stop_at<'a>(asked: &Comparing<'a>, fault: CompareFault) -> TaskFault<'a>
@@ -66,8 +66,8 @@ fn compare_sources<'a, One: Source, Other: Source, O: Sink>(
 }
 
 /// Compares that source with the input of the other name, which is opened before anything is read.
-fn compare_with<'a, R: Files, One: Source, I: Source, O: Sink>(
-    rt: &R,
+fn compare_with<'a, F: NamedFiles, One: Source, I: Source, O: Sink>(
+    files: &F,
     alloc: Global,
     asked: &Comparing<'a>,
     one: &mut One,
@@ -77,18 +77,19 @@ fn compare_with<'a, R: Files, One: Source, I: Source, O: Sink>(
     requires one { CanCountCall (One.device one.old) }
     requires input { CanCountCall (I.device input.old) }
     requires output { CanCountCall (O.device output.old) }
-    ensures { ComparesWith asked.now.options asked.now (One.device one.old) (I.device input.old)
+    ensures { ComparesWith (F.went files.now) asked.now.options asked.now (One.device one.old) (I.device input.old)
         (O.device output.old) (O.device output.new) result }
 {
-    match open_input(rt, asked.other)?.0 {
+    let (opened, _) = open_input(files, asked.other)?;
+    match opened {
         None => compare_sources(alloc, asked, one, input, output),
-        Some(file) => compare_sources(alloc, asked, one, &mut FromRead::new(file), output),
+        Some(mut file) => compare_sources(alloc, asked, one, &mut file, output),
     }
 }
 
 /// Opens both inputs before either is read.
-pub(crate) fn compare_files<'a, R: Files, I: Source, O: Sink>(
-    rt: &R,
+pub(crate) fn compare_files<'a, F: NamedFiles, I: Source, O: Sink>(
+    files: &F,
     alloc: Global,
     asked: &Comparing<'a>,
     input: &mut I,
@@ -96,13 +97,15 @@ pub(crate) fn compare_files<'a, R: Files, I: Source, O: Sink>(
 ) -> Result<Done, TaskFault<'a>>
     requires input { CanCountCall (I.device input.old) }
     requires output { CanCountCall (O.device output.old) }
-    ensures { ComparesNamed asked.now.options asked.now (I.device input.old) (O.device output.old) (O.device output.new) result }
+    ensures { ComparesNamed (F.went files.now) asked.now.options asked.now (I.device input.old)
+        (O.device output.old) (O.device output.new) result }
 {
-    match open_input(rt, asked.one)?.0 {
+    let (opened, _) = open_input(files, asked.one)?;
+    match opened {
         None => {
-            let mut other = FromRead::new(open_file(rt, asked.other)?.0);
+            let mut other = open_file(files, asked.other)?.0;
             compare_sources(alloc, asked, input, &mut other, output)
         }
-        Some(file) => compare_with(rt, alloc, asked, &mut FromRead::new(file), input, output),
+        Some(mut file) => compare_with(files, alloc, asked, &mut file, input, output),
     }
 }

@@ -29,6 +29,7 @@ impl<'a> FilesRead<'a> {
             },
             Task::Compare(_)
             | Task::Archive(_)
+            | Task::Trial(_)
             | Task::Verify(_)
             | Task::Replace(_)
             | Task::Feed(_) => FilesRead {

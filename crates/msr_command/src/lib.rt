@@ -6,10 +6,14 @@ mod comparing;
 mod done;
 mod files;
 mod hints;
+mod known;
+mod named;
 mod program;
 mod replacing;
 mod task_fault;
 mod tasks;
+mod trying;
 mod turns;
 
+pub use named::{NamedFiles, SystemFiles};
 pub use program::run;

@@ -8,6 +8,7 @@ ghost use Rattle.msr_options.specs.declared.task.NoTask.TheVariants.{Ending as W
 
 use crate::done::Done;
 use crate::hints::{FilesRead, hint_of};
+use crate::named::NamedFiles;
 use crate::task_fault::TaskFault;
 use crate::tasks::do_task;
 use msr_devices::{Sink, Source, write_all};
@@ -16,7 +17,6 @@ use msr_options::{Ending, Errors, Hint, NoTask, Task, complain, write_complaint,
 use std::alloc::Global;
 use std::io::{self, Write};
 use std::rt::Files;
-use std::time::Clock;
 
 /// Prints the line of a task's fault.
 fn write_fault<E: Write>(errors: &mut E, fault: &TaskFault<'_>) -> io::Result<()>
@@ -68,8 +68,8 @@ fn end<O: Sink, E: Write>(output: &mut O, errors: &mut E, ending: &Ending) -> u8
 }
 
 /// Does what was asked for, or tells what there is in place of a task, and gives the status.
-pub fn run<'a, R: Files + Clock, I: Source, O: Sink, E: Write>(
-    rt: &R,
+pub fn run<'a, F: NamedFiles, I: Source, O: Sink, E: Write>(
+    files: &mut F,
     alloc: Global,
     asked: Result<Task<'a>, NoTask>,
     input: &mut I,
@@ -77,15 +77,16 @@ pub fn run<'a, R: Files + Clock, I: Source, O: Sink, E: Write>(
     errors: &mut Errors<E>,
 ) -> u8
 where
-    R::File: LockFile,
+    <F::System as Files>::File: LockFile,
     requires input { CanCountCall (I.device input.old) }
     requires output { CanCountCall (O.device output.old) }
-    ensures { EndsAsked asked.entry (I.device input.old) (O.device output.old) (O.device output.new) result }
+    ensures { EndsAsked (F.went files.old) (F.went files.new) asked.entry (I.device input.old)
+        (O.device output.old) (O.device output.new) result }
 {
     match asked {
         Ok(task) => {
             let read = FilesRead::of(&task);
-            let ended = do_task(rt, alloc, &task, input, output);
+            let ended = do_task(files, alloc, &task, input, output);
             let status = match &ended {
                 Ok(done) => done.status(),
                 Err(fault) => {
@@ -93,7 +94,7 @@ where
                     fault.status()
                 }
             };
-            tell_person(rt, errors, read, &ended).ok();
+            tell_person(files.system(), errors, read, &ended).ok();
             status
         }
         Err(NoTask::Ending(ending)) => end(output, &mut errors.to, &ending),

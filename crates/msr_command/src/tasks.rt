@@ -1,77 +1,85 @@
 //! The tasks of the program, over the system's files, and any source and sink in place of standard input and output.
 ghost use Rattle.std.specs.Prelude.{IfErr};
-ghost use Rattle.msr_devices.specs.Device.{CanCountCall};
-ghost use Rattle.msr_command.specs.Ends.{Checks, Does, EndsClosed, Feeds, FeedsTo, IsOverlapOrMemory, Lists, ListsNamed, OpensOutput, Repacks, RepacksNamed, VerifiesArchive, WalksArchive};
+ghost use Rattle.msr_devices.specs.Device.{CanCountCall, Takes};
+ghost use Rattle.msr_command.specs.Ends.{Checks, Does, EndsClosed, Feeds, FeedsTo, IsOverlapOrMemory, Lists, ListsNamed, OpensOutput, Repacks, RepacksNamed, Settles, VerifiesArchive, WalksArchive, IsArchivingRead, IsVerifyingRead, VerifiesKnown, WalksKnown};
+ghost use Rattle.msr_command.specs.Named.{GetsOutput};
+ghost use Rattle.msr_options.specs.Tasks.{StandApart};
 
 use crate::clock::time_of_now;
 use crate::comparing::compare_files;
 use crate::done::Done;
 use crate::files::{create_output, create_report, open_file, open_input, settle_standard_output};
+use crate::known::read_known;
+use crate::named::NamedFiles;
 use crate::replacing::replace_archive;
 use crate::task_fault::TaskFault;
+use crate::trying::try_archive;
 use crate::turns::is_in_turns;
-use msr_devices::{FromRead, FromWrite, Sink, Source};
-use msr_folders::{FileId, LockFile, folders_overlap, settle};
+use msr_devices::{FromWrite, Sink, Source};
+use msr_folders::{FileId, LockFile, WalkFound, folders_overlap};
 use msr_options::{
-    Archiving, Checking, Feeding, Folders, ListForm, Listing, Options, Repacking, Task, Verifying,
+    Archiving, Checking, Feeding, Folders, Known, ListForm, Listing, Options, Repacking, Task,
+    Verifying,
 };
 use msr_system::SystemTree;
 use msr_tool::{ToolFault, check_and_tell, feed_and_report, list_segments, repack_and_report};
 use msr_verify::verify;
-use msr_walk::{SystemClaims, walk};
+use msr_walk::{SystemClaims, Walked, walk};
 use std::alloc::Global;
-use std::fs::OpenFile;
-use std::io::{self, Write};
+use std::io;
 use std::rt::Files;
 use std::time::Clock;
 
 /// Does what was asked for: reads files, and `input` if a name is `-`; writes files, and prints to `output`.
-pub(crate) fn do_task<'a, R: Files + Clock, I: Source, O: Sink>(
-    rt: &R,
+pub(crate) fn do_task<'a, F: NamedFiles, I: Source, O: Sink>(
+    files: &mut F,
     alloc: Global,
     task: &Task<'a>,
     input: &mut I,
     output: &mut O,
 ) -> Result<Done, TaskFault<'a>>
 where
-    R::File: LockFile,
+    <F::System as Files>::File: LockFile,
     requires input { CanCountCall (I.device input.old) }
     requires output { CanCountCall (O.device output.old) }
-    ensures { Does task.now (I.device input.old) (O.device output.old) (O.device output.new) result }
+    ensures { Does (F.went files.old) (F.went files.new) task.now (I.device input.old)
+        (O.device output.old) (O.device output.new) result }
 {
     let Ok(()) = require_open(output) else {
-        return Err(end_closed(rt, task));
+        return Err(end_closed(files, task));
     };
-    let done = do_open(rt, alloc, task, input, output)?;
+    let done = do_open(files, alloc, task, input, output)?;
     if !matches!(task, Task::Feed(_)) {
-        settle_standard_output(rt)?;
+        settle_standard_output(files.system())?;
     }
     Ok(done)
 }
 
 /// Does it when standard output is open.
-fn do_open<'a, R: Files + Clock, I: Source, O: Sink>(
-    rt: &R,
+fn do_open<'a, F: NamedFiles, I: Source, O: Sink>(
+    files: &mut F,
     alloc: Global,
     task: &Task<'a>,
     input: &mut I,
     output: &mut O,
 ) -> Result<Done, TaskFault<'a>>
 where
-    R::File: LockFile,
+    <F::System as Files>::File: LockFile,
     requires input { CanCountCall (I.device input.old) }
     requires output { CanCountCall (O.device output.old) }
-    ensures { Does task.now (I.device input.old) (O.device output.old) (O.device output.new) result }
+    ensures { Does (F.went files.old) (F.went files.new) task.now (I.device input.old)
+        (O.device output.old) (O.device output.new) result }
 {
     match task {
-        Task::Repack(asked) => repack_file(rt, alloc, asked, input, output),
-        Task::List(asked) => list_file(rt, alloc, asked, input, output),
-        Task::Check(asked) => check_files(rt, alloc, asked, output),
-        Task::Compare(asked) => compare_files(rt, alloc, asked, input, output),
-        Task::Archive(asked) => repack_archive(rt, alloc, asked, output),
-        Task::Verify(asked) => verify_archive(rt, alloc, asked, output),
-        Task::Replace(asked) => replace_archive(rt, alloc, asked, output),
-        Task::Feed(asked) => feed_input(rt, alloc, asked, input, output),
+        Task::Repack(asked) => repack_file(files, alloc, asked, input, output),
+        Task::List(asked) => list_file(files, alloc, asked, input, output),
+        Task::Check(asked) => check_files(files, alloc, asked, output),
+        Task::Compare(asked) => compare_files(files, alloc, asked, input, output),
+        Task::Archive(asked) => repack_archive(files.system(), alloc, asked, output),
+        Task::Trial(asked) => try_archive(files.system(), alloc, asked, output),
+        Task::Verify(asked) => verify_archive(files.system(), alloc, asked, output),
+        Task::Replace(asked) => replace_archive(files.system(), alloc, asked, output),
+        Task::Feed(asked) => feed_input(files, alloc, asked, input, output),
     }
 }
 
@@ -89,21 +97,21 @@ fn require_open<'a, O: Sink>(output: &mut O) -> Result<(), TaskFault<'a>>
 /// What a task ends with if nothing can be printed. The report of a feed is cut even then: an old one would tell that
 /// the feed ended well. What is printed goes to descriptor 1, and if that is closed, the report's file gets it. So this
 /// comes last: the file is closed again with nothing in it, and nothing is printed any more.
-fn end_closed<'a, R: Files>(rt: &R, task: &Task<'a>) -> TaskFault<'a>
+fn end_closed<'a, F: NamedFiles>(files: &mut F, task: &Task<'a>) -> TaskFault<'a>
     ensures { EndsClosed task.now result }
 {
     let Task::Feed(asked) = task else {
         return TaskFault::Closed;
     };
-    match create_report(rt, asked.report) {
+    match create_report(files, asked.report) {
         Ok(_) => TaskFault::Closed,
         Err(fault) => fault,
     }
 }
 
 /// Opens the input before the output is made, so that a wrong input leaves an old output as it is.
-fn repack_file<'a, R: Files, I: Source, O: Sink>(
-    rt: &R,
+fn repack_file<'a, F: NamedFiles, I: Source, O: Sink>(
+    files: &mut F,
     alloc: Global,
     asked: &Repacking<'a>,
     input: &mut I,
@@ -111,67 +119,86 @@ fn repack_file<'a, R: Files, I: Source, O: Sink>(
 ) -> Result<Done, TaskFault<'a>>
     requires input { CanCountCall (I.device input.old) }
     requires output { CanCountCall (O.device output.old) }
-    ensures { RepacksNamed asked.now.options asked.now.input.now
+    ensures { RepacksNamed (F.went files.old) (F.went files.new) asked.now
         (I.device input.old) (O.device output.old) (O.device output.new) result }
 {
     let (options, to) = (asked.options, asked.output);
-    match open_input(rt, asked.input) {
+    match open_input(files, asked.input) {
         Ok((file, id)) => match file {
-            None => repack_from(rt, alloc, options, to, id, input, output),
-            Some(file) => {
-                repack_from(rt, alloc, options, to, id, &mut FromRead::new(file), output)
-            }
+            None => repack_from(files, alloc, options, (to, id), input, output),
+            Some(mut file) => repack_from(files, alloc, options, (to, id), &mut file, output),
         },
         Err(fault) => Err(fault),
     }
 }
 
 /// Repacks the source to the file of that name, or to nowhere. What is read, if it is a file, must not be the same.
-fn repack_from<'a, R: Files, I: Source, O: Sink>(
-    rt: &R,
+fn repack_from<'a, F: NamedFiles, I: Source, O: Sink>(
+    files: &mut F,
     alloc: Global,
     options: Options,
-    to: Option<&'a str>,
-    input: Option<FileId>,
+    to: (Option<&'a str>, Option<FileId>),
     source: &mut I,
     output: &mut O,
 ) -> Result<Done, TaskFault<'a>>
     requires source { CanCountCall (I.device source.old) }
     requires output { CanCountCall (O.device output.old) }
-    ensures { Repacks options (I.device source.old) (O.device output.old) (O.device output.new) result }
+    ensures { Repacks options (GetsOutput (F.went files.old) (F.went files.new) to.entry.0) (I.device source.old)
+        (O.device output.old) (O.device output.new) result }
 {
-    let Some(name) = to else {
-        return repack_to(alloc, options, source, io::sink(), output);
+    let (Some(name), input) = to else {
+        return repack_to(
+            alloc,
+            options,
+            source,
+            &mut FromWrite::new(io::sink()),
+            output,
+        );
     };
-    let mut file = create_output(rt, name, input)?;
-    let done = repack_to(alloc, options, source, &mut file, output)?;
-    if settle(&file).is_err() {
-        return Err(TaskFault::Tool(ToolFault::Write));
-    }
-    Ok(done)
+    let mut writer = create_output(files, name, input)?;
+    let done = repack_to(alloc, options, source, &mut writer, output);
+    let done = settled(files, &writer, done);
+    files.leave(name, writer);
+    done
 }
 
-/// Repacks the source to that writer, and tells whether its channels seem to come in turns.
-fn repack_to<'a, I: Source, W: Write + Drop, O: Sink>(
+/// Waits until what was written is stored, if a task was done.
+fn settled<'a, F: NamedFiles>(
+    files: &F,
+    writer: &F::Writer,
+    done: Result<Done, TaskFault<'a>>,
+) -> Result<Done, TaskFault<'a>>
+    ensures { Settles done.entry result }
+{
+    if done.is_ok() && files.settle(writer).is_err() {
+        return Err(TaskFault::Tool(ToolFault::Write));
+    }
+    done
+}
+
+/// Repacks the source to that sink, and tells whether its channels seem to come in turns.
+fn repack_to<'a, I: Source, W: Sink, O: Sink>(
     alloc: Global,
     options: Options,
     source: &mut I,
-    to: W,
+    to: &mut W,
     output: &mut O,
 ) -> Result<Done, TaskFault<'a>>
     requires source { CanCountCall (I.device source.old) }
+    requires to { CanCountCall (W.device to.old) }
     requires output { CanCountCall (O.device output.old) }
-    ensures { Repacks options (I.device source.old) (O.device output.old) (O.device output.new) result }
+    ensures { Repacks options (Takes (W.device to.old) (W.device to.new)) (I.device source.old)
+        (O.device output.old) (O.device output.new) result }
 {
-    let report = repack_and_report(alloc, source, &mut FromWrite::new(to), output, options)?;
+    let report = repack_and_report(alloc, source, to, output, options)?;
     Ok(Done::Repacked {
         in_turns: is_in_turns(&report),
     })
 }
 
 /// Makes the report's file before anything is read. It stands empty after a fault.
-fn feed_input<'a, R: Files, I: Source, O: Sink>(
-    rt: &R,
+fn feed_input<'a, F: NamedFiles, I: Source, O: Sink>(
+    files: &mut F,
     alloc: Global,
     asked: &Feeding<'a>,
     input: &mut I,
@@ -179,41 +206,40 @@ fn feed_input<'a, R: Files, I: Source, O: Sink>(
 ) -> Result<Done, TaskFault<'a>>
     requires input { CanCountCall (I.device input.old) }
     requires output { CanCountCall (O.device output.old) }
-    ensures { Feeds asked.now.options (I.device input.old)
+    ensures { Feeds (F.went files.old) (F.went files.new) asked.now (I.device input.old)
         (O.device output.old) (O.device output.new) result }
 {
-    let mut file = create_report(rt, asked.report)?;
-    match feed_to(rt, alloc, &mut file, asked.options, input, output) {
-        Ok(()) => Ok(Done::Written),
+    let mut writer = create_report(files, asked.report)?;
+    match feed_to(files, alloc, &mut writer, asked.options, input, output) {
+        Ok(()) => {
+            files.leave(asked.report, writer);
+            Ok(Done::Written)
+        }
         Err(fault) => {
-            file.set_len(0).ok();
+            files.empty(asked.report, writer);
             Err(TaskFault::Tool(fault))
         }
     }
 }
 
 /// Feeds to the file of the report, and waits until the system has stored what was written.
-fn feed_to<R: Files, I: Source, O: Sink>(
-    rt: &R,
+fn feed_to<F: NamedFiles, I: Source, O: Sink>(
+    files: &F,
     alloc: Global,
-    file: &mut R::File,
+    writer: &mut F::Writer,
     options: Options,
     input: &mut I,
     output: &mut O,
 ) -> Result<(), ToolFault>
     requires input { CanCountCall (I.device input.old) }
+    requires writer { CanCountCall (F.Writer.device writer.old) }
     requires output { CanCountCall (O.device output.old) }
-    ensures { FeedsTo options (I.device input.old) (O.device output.old) (O.device output.new) result }
+    ensures { FeedsTo options (Takes (F.Writer.device writer.old) (F.Writer.device writer.new)) (I.device input.old)
+        (O.device output.old) (O.device output.new) result }
 {
-    feed_and_report(
-        alloc,
-        input,
-        output,
-        &mut FromWrite::new(&mut *file),
-        options,
-    )?;
-    settle_standard_output(rt)?;
-    settle(file)?;
+    feed_and_report(alloc, input, output, writer, options)?;
+    settle_standard_output(files.system())?;
+    files.settle(writer)?;
     Ok(())
 }
 
@@ -233,8 +259,8 @@ fn list_from<'a, I: Source, O: Sink>(
     Ok(Done::Written)
 }
 
-fn list_file<'a, R: Files, I: Source, O: Sink>(
-    rt: &R,
+fn list_file<'a, F: NamedFiles, I: Source, O: Sink>(
+    files: &F,
     alloc: Global,
     asked: &Listing<'a>,
     input: &mut I,
@@ -242,29 +268,29 @@ fn list_file<'a, R: Files, I: Source, O: Sink>(
 ) -> Result<Done, TaskFault<'a>>
     requires input { CanCountCall (I.device input.old) }
     requires output { CanCountCall (O.device output.old) }
-    ensures { ListsNamed asked.now.form asked.now.options asked.now.input.now (I.device input.old)
+    ensures { ListsNamed asked.now.form asked.now.options (F.went files.now) asked.now.input.now (I.device input.old)
         (O.device output.old) (O.device output.new) result }
 {
     let (options, form) = (asked.options, asked.form);
-    match open_input(rt, asked.input) {
+    match open_input(files, asked.input) {
         Ok((None, _)) => list_from(alloc, options, form, input, output),
-        Ok((Some(file), _)) => list_from(alloc, options, form, &mut FromRead::new(file), output),
+        Ok((Some(mut file), _)) => list_from(alloc, options, form, &mut file, output),
         Err(fault) => Err(fault),
     }
 }
 
 /// Opens both inputs before either is read.
-fn check_files<'a, R: Files, O: Sink>(
-    rt: &R,
+fn check_files<'a, F: NamedFiles, O: Sink>(
+    files: &F,
     alloc: Global,
     asked: &Checking<'a>,
     output: &mut O,
 ) -> Result<Done, TaskFault<'a>>
     requires { CanCountCall (O.device output.old) }
-    ensures { Checks (O.device output.old) (O.device output.new) result }
+    ensures { Checks (F.went files.now) asked.now (O.device output.old) (O.device output.new) result }
 {
-    let mut packed = FromRead::new(open_file(rt, asked.packed)?.0);
-    let mut report = FromRead::new(open_file(rt, asked.report)?.0);
+    let mut packed = open_file(files, asked.packed)?.0;
+    let mut report = open_file(files, asked.report)?.0;
     let verdict = check_and_tell(alloc, &mut packed, &mut report, output)?;
     Ok(Done::Checked(verdict))
 }
@@ -286,6 +312,64 @@ pub(crate) fn require_apart<'a, R: Files>(
     }
 }
 
+/// Walks the archive, of which the lines that are known were read.
+fn walk_archive<'a, R: Files + Clock, O: Sink>(
+    rt: &R,
+    alloc: Global,
+    archive: &Archiving<'_>,
+    output: &mut O,
+) -> Result<Walked, TaskFault<'a>>
+where
+    R::File: LockFile,
+    requires apart { StandApart archive.now.folders }
+    requires output { CanCountCall (O.device output.old) }
+    ensures { (asked : Archiving) → IsArchivingRead asked archive.now →
+        WalksKnown asked (O.device output.old) (O.device output.new) result }
+{
+    let claims = SystemClaims::new(rt);
+    let mut tree = SystemTree::unlinked(rt, alloc);
+    let walked = walk(
+        &mut tree,
+        &claims,
+        alloc,
+        &*archive,
+        time_of_now(rt),
+        output,
+    )?;
+    Ok(walked)
+}
+
+/// Walks it with the lines that are known, which are read first if a file has them.
+fn walk_known<'a, R: Files + Clock, O: Sink>(
+    rt: &R,
+    alloc: Global,
+    asked: &Archiving<'a>,
+    output: &mut O,
+) -> Result<Walked, TaskFault<'a>>
+where
+    R::File: LockFile,
+    requires apart { StandApart asked.now.folders }
+    requires output { CanCountCall (O.device output.old) }
+    ensures { WalksKnown asked.now (O.device output.old) (O.device output.new) result }
+{
+    match asked.known {
+        Known::File(name) => {
+            let lines = read_known(rt, alloc, name)?;
+            let Ok(below) = asked.below.clone() else {
+                return Err(TaskFault::Tool(ToolFault::Memory));
+            };
+            let read = Archiving {
+                folders: asked.folders,
+                below,
+                days: asked.days,
+                known: Known::Lines(&lines),
+            };
+            walk_archive(rt, alloc, &read, output)
+        }
+        _ => walk_archive(rt, alloc, asked, output),
+    }
+}
+
 fn repack_archive<'a, R: Files + Clock, O: Sink>(
     rt: &R,
     alloc: Global,
@@ -302,10 +386,51 @@ where
     }
     let Folders { root, out, reports } = asked.folders;
     require_apart(rt, alloc, root, out, reports)?;
-    let claims = SystemClaims::new(rt);
-    let mut tree = SystemTree::unlinked(rt, alloc);
-    let walked = walk(&mut tree, &claims, alloc, &*asked, time_of_now(rt), output)?;
+    let walked = walk_known(rt, alloc, asked, output)?;
     Ok(Done::of_walk(walked.found, walked.unopened, asked.below.is_empty(), false))
+}
+
+/// Verifies the archive, of which the lines that are known were read.
+fn verify_read<'a, R: Files, O: Sink>(
+    rt: &R,
+    alloc: Global,
+    archive: &Verifying<'_>,
+    output: &mut O,
+) -> Result<WalkFound, TaskFault<'a>>
+    requires { CanCountCall (O.device output.old) }
+    ensures { (asked : Verifying) → IsVerifyingRead asked archive.now →
+        VerifiesKnown asked (O.device output.old) (O.device output.new) result }
+{
+    let found = verify(&mut SystemTree::new(rt, alloc), alloc, &*archive, output)?;
+    Ok(found)
+}
+
+/// Verifies it with the lines that are known, which are read first if a file has them.
+fn verify_known<'a, R: Files, O: Sink>(
+    rt: &R,
+    alloc: Global,
+    asked: &Verifying<'a>,
+    output: &mut O,
+) -> Result<WalkFound, TaskFault<'a>>
+    requires { CanCountCall (O.device output.old) }
+    ensures { VerifiesKnown asked.now (O.device output.old) (O.device output.new) result }
+{
+    match asked.known {
+        Known::File(name) => {
+            let lines = read_known(rt, alloc, name)?;
+            let Ok(below) = asked.below.clone() else {
+                return Err(TaskFault::Tool(ToolFault::Memory));
+            };
+            let read = Verifying {
+                folders: asked.folders,
+                below,
+                telling: asked.telling,
+                known: Known::Lines(&lines),
+            };
+            verify_read(rt, alloc, &read, output)
+        }
+        _ => verify_read(rt, alloc, asked, output),
+    }
 }
 
 fn verify_archive<'a, R: Files, O: Sink>(
@@ -319,6 +444,6 @@ fn verify_archive<'a, R: Files, O: Sink>(
 {
     let Folders { root, out, reports } = asked.folders;
     require_apart(rt, alloc, root, out, reports)?;
-    let found = verify(&mut SystemTree::new(rt, alloc), alloc, asked, output)?;
+    let found = verify_known(rt, alloc, asked, output)?;
     Ok(Done::of_walk(found, None, asked.below.is_empty(), true))
 }

@@ -3,6 +3,7 @@ use Rattle.std.proofs.Common.{◌≡◌, ◌⊎◌, ◌<◌, inl, inr, ⊎_elim,
 use Rattle.std.specs.declared.alloc.AllocError.{AllocError}
 use Rattle.msr_tree.specs.Calls.{Goes, Looks, Tells, TellsOneFile}
 use Rattle.msr_tree.specs.Folders.{ChangesFiles}
+use Rattle.msr_tree.specs.Reads.{OnlyLooks}
 use Rattle.msr_tree.specs.Steps.{File, Path, Step, failures, now, seen}
 use Rattle.msr_tree.specs.declared.facts.Facts.{Facts}
 use Rattle.msr_tree.specs.declared.facts.Kind.{Kind}
@@ -11,6 +12,7 @@ use Rattle.msr_tree.specs.declared.tree.TreeFault.{TreeFault}
 use Rattle.msr_tree.specs.declared.tree.TreeFault.TheVariants as fault
 use Rattle.msr_tree.proofs.Acting.{goes_as}
 use Rattle.msr_tree.proofs.Filing.{acts_tells, changes_none, changes_then, no_fewer, now_kept}
+use Rattle.msr_tree.proofs.Reading.{looks_none, tells_looks}
 use Rattle.msr_naming.proofs.FallingBack.{goes_both}
 use Rattle.msr_making.specs.Looking.{Asks, AsksForOne, FindsBeside, FindsDay, IsDayLook, IsSightAt, SaysBeside, SaysDay, SaysSight, SeesAt}
 use Rattle.msr_making.specs.Places.{DayPaths}
@@ -216,3 +218,10 @@ goes_changes Says answer one two goes = goes_as _ _ one two (λ p q tells. tells
 
 pub goes_nothing : (one : List Step → Type 0) → Goes one one (λ p q. ChangesFiles [] p q)
 goes_nothing one = record { from = λ new went. (new, went, changes_none [] new) }
+
+-- the same of one that only looks
+pub goes_looks : {A : Type 0} (Says : List Step → A → Type 0) (answer : Result A TreeFault) (one two : List Step → Type 0) → Goes one two (Tells Says answer) → Goes one two OnlyLooks
+goes_looks Says answer one two goes = goes_as _ _ one two (λ p q tells. tells_looks Says answer p q tells) goes
+
+pub looks_nothing : (one : List Step → Type 0) → Goes one one OnlyLooks
+looks_nothing one = record { from = λ new went. (new, went, looks_none new) }

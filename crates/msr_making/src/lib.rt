@@ -23,4 +23,4 @@ pub use hold::Hold;
 pub use kept::same_day;
 pub use making::do_day;
 pub use places::Places;
-pub use repacking::day_length;
+pub use repacking::{day_length, repack_day_of};

@@ -3,6 +3,7 @@ ghost use Rattle.std.specs.Prelude.{◌≡◌, ◌↔◌, ◌⊎◌, ◌+◌, []
 ghost use Rattle.msr_devices.specs.Device.{CanCountCall, HasFailed};
 ghost use Rattle.msr_tree.specs.Calls.{Goes};
 ghost use Rattle.msr_tree.specs.Folders.{ChangesFiles};
+ghost use Rattle.msr_tree.specs.Reads.{OnlyLooks};
 ghost use Rattle.msr_options.specs.Choice.{record_size};
 ghost use Rattle.msr_report.specs.Proper.{IsProper, records_in};
 ghost use Rattle.msr_folders.specs.Totals.{saturated};
@@ -76,7 +77,7 @@ pub(crate) fn first_length<S: Source>(
 }
 
 /// Repacks a day, and counts its records and bytes.
-pub(crate) fn repack_day_of<S: Source, W: Sink, T: Sink>(
+pub fn repack_day_of<S: Source, W: Sink, T: Sink>(
     alloc: Global,
     source: &mut S,
     bytes_read: u64,
@@ -208,6 +209,7 @@ pub fn day_length<T: Tree>(
 ) -> Result<Length, AllocError>
     ensures own { IfOk result (λ length. days.now.same_length ≡ false → length ≡ days.now.options.record_length) }
     ensures goes { Goes (T.went tree.old) (T.went tree.new) (ChangesFiles []) }
+    ensures looks { Goes (T.went tree.old) (T.went tree.new) OnlyLooks }
 {
     let length = days.options.length();
     if !days.same_length {

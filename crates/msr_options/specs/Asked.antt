@@ -26,6 +26,11 @@ abbrev pub ask_help : (words : List (List ℕ)) → Bool
 ask_help [] = false
 ask_help (word ∷ words) = not (bytes_eq word (codes "--")) && (asks_help word || ask_help words)
 
+-- a dry run is asked for by one of the words before any `--`
+abbrev pub ask_dry_run : (words : List (List ℕ)) → Bool
+ask_dry_run [] = false
+ask_dry_run (word ∷ words) = not (bytes_eq word (codes "--")) && (bytes_eq word (codes "--dry-run") || ask_dry_run words)
+
 -- the word asks for help or the version in the place of a command
 abbrev pub AsksAlone : (word : List ℕ) → Type 0
 AsksAlone word = (word ≡ codes "help") ⊎ ((asks_help word || asks_version word) ≡ true)
@@ -39,6 +44,11 @@ pub record AsksOfCommand (word : List ℕ) (words : List (List ℕ)) : Type 0 wh
 -- a line asks for help or the version by the word after the program's name, or for help by a word of a command
 abbrev pub AsksText : (words : List (List ℕ)) → Type 0
 AsksText words = IsSomeAnd (slice_get words 1) (λ word. AsksAlone word ⊎ AsksOfCommand word (drop 2 words))
+
+-- a line asks for a dry run by a word after that of the command `archive`
+pub record AsksDryRun (words : List (List ℕ)) : Type 0 where
+  pub named : IsSomeAnd (slice_get words 1) (λ word. word ≡ codes "archive")
+  pub asked : ask_dry_run (drop 1 words) ≡ true
 
 -- no task, with status 0 for help and the version, if the line asks for them, and 2 for a bad command line
 abbrev pub HasStatus : (words : List (List ℕ)) → NoTask → Type 0

@@ -6,7 +6,7 @@ use Rattle.msr_options.specs.Choice.{Choice, record_size}
 use Rattle.msr_options.specs.declared.task.Folders.{Folders}
 use Rattle.msr_options.specs.declared.task.Replacing.{Replacing}
 use Rattle.msr_options.specs.declared.task.Task.{Task}
-use Rattle.msr_options.specs.declared.task.Task.TheVariants.{Repack, List as Listing, Check, Compare, Archive, Verify, Replace, Feed}
+use Rattle.msr_options.specs.declared.task.Task.TheVariants.{Repack, List as Listing, Check, Compare, Archive, Trial, Verify, Replace, Feed}
 use Rattle.msr_options.specs.declared.task.Verb.{Verb}
 use Rattle.msr_options.specs.declared.task.Verb.TheVariants as verb
 
@@ -28,6 +28,7 @@ verb_of (Listing asked) = verb.List
 verb_of (Check asked) = verb.Check
 verb_of (Compare asked) = verb.Compare
 verb_of (Archive asked) = verb.Archive
+verb_of (Trial asked) = verb.Archive
 verb_of (Verify asked) = verb.Verify
 verb_of (Replace asked) = verb.Replace
 verb_of (Feed asked) = verb.Feed
@@ -44,6 +45,7 @@ HasTolerance (Listing asked) = IsTolerance asked.options.tolerance
 HasTolerance (Check asked) = ⊤
 HasTolerance (Compare asked) = IsTolerance asked.options.tolerance
 HasTolerance (Archive asked) = IsTolerance asked.days.options.tolerance
+HasTolerance (Trial asked) = IsTolerance asked.days.options.tolerance
 HasTolerance (Verify asked) = ⊤
 HasTolerance (Replace asked) = ⊤
 HasTolerance (Feed asked) = IsTolerance asked.options.tolerance
@@ -90,6 +92,7 @@ KeepsInput (Listing asked) = ⊤
 KeepsInput (Check asked) = ⊤
 KeepsInput (Compare asked) = ¬ (AreBothStandard asked.one.now asked.other.now)
 KeepsInput (Archive asked) = StandApart asked.folders
+KeepsInput (Trial asked) = ⊤
 KeepsInput (Verify asked) = StandApart asked.folders
 KeepsInput (Replace asked) = KeepsOriginals asked
 KeepsInput (Feed asked) = ⊤
@@ -110,6 +113,12 @@ IsDefault (Listing asked) = ⊥
 IsDefault (Check asked) = ⊥
 IsDefault (Compare asked) = ⊥
 IsDefault (Archive asked) = ⊥
+IsDefault (Trial asked) = ⊥
 IsDefault (Verify asked) = ⊥
 IsDefault (Replace asked) = ⊥
 IsDefault (Feed asked) = ⊥
+
+-- the task is a dry run
+abbrev pub IsTrial : Task → Type 0
+IsTrial (Trial asked) = ⊤
+IsTrial _ = ⊥

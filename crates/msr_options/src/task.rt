@@ -3,6 +3,7 @@ ghost use Rattle.std.specs.Prelude.{◌↔◌, IsTrue};
 ghost use Rattle.msr_options.specs.Tasks.{IsBelow, Overlap};
 
 use crate::days::DayOptions;
+use crate::known::Known;
 use crate::options::Options;
 use crate::telling::Telling;
 use std::alloc::AllocError;
@@ -131,6 +132,17 @@ pub struct Archiving<'a> {
     /// The paths, from the archive's folder, of the folders that are walked; none for the whole archive.
     pub below: Vec<&'a str>,
     pub days: DayOptions,
+    pub known: Known<'a>,
+}
+
+/// An archive of whose day files it is to be told what repacking them would give.
+#[derive(Debug, Drop)]
+pub struct Trying<'a> {
+    pub root: &'a str,
+    /// The paths, from the archive's folder, of the folders that are walked; none for the whole archive.
+    pub below: Vec<&'a str>,
+    /// What is asked of days that are kept says nothing here.
+    pub days: DayOptions,
 }
 
 /// An archive whose repack is to be verified.
@@ -140,6 +152,7 @@ pub struct Verifying<'a> {
     /// The paths, from the archive's folder, of the folders that are walked; none for the whole archive.
     pub below: Vec<&'a str>,
     pub telling: Telling,
+    pub known: Known<'a>,
 }
 
 /// An archive whose originals are to change places with their records.
@@ -170,6 +183,7 @@ pub enum Task<'a> {
     Check(Checking<'a>),
     Compare(Comparing<'a>),
     Archive(Archiving<'a>),
+    Trial(Trying<'a>),
     Verify(Verifying<'a>),
     Replace(Replacing<'a>),
     Feed(Feeding<'a>),

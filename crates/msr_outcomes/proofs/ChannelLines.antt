@@ -1,5 +1,5 @@
 -- The lines of the channels, one after another.
-use Rattle.std.proofs.Common.{◌≡◌, ◌⊎◌, ◌≤◌, inl, inr, ℕ, zero, suc, ◌+◌, arith, List, [], ◌∷◌, ◌++◌, ◌∙◌, refl, ap, sym, append_assoc, length, map, take, drop, None, Some}
+use Rattle.std.proofs.Common.{◌≡◌, ◌⊎◌, ◌≤◌, inl, inr, ℕ, Bool, zero, suc, ◌+◌, arith, List, [], ◌∷◌, ◌++◌, ◌∙◌, refl, ap, sym, append_assoc, length, map, take, drop, None, Some}
 use Rattle.std.proofs.lemmas.List.{append-nil, length-map, take-append-drop, take_all, take_more}
 use Rattle.std.proofs.lemmas.Option.{slice_get_cases, slice_get_within, get_or_from_slice_get}
 use Rattle.std.proofs.lemmas.Slice.Zip.{length-zip}
@@ -12,7 +12,7 @@ use Rattle.msr_options.specs.declared.days.DayOptions.{DayOptions}
 use Rattle.msr_report.specs.Writing.{TakesPrefix}
 use Rattle.msr_outcomes.specs.Entries.{Entry, IsTally}
 use Rattle.msr_folders.specs.declared.totals.Total.{Total}
-use Rattle.msr_outcomes.specs.Summary.{summary, tally_lines, with_bytes}
+use Rattle.msr_outcomes.specs.Summary.{summary_by, tally_lines, with_bytes}
 use Rattle.msr_outcomes.specs.declared.tally.Tally.{Tally}
 
 -- the lines up to a place, and the line at the place
@@ -78,10 +78,10 @@ pub front_all : (old new : Device) (first second : List ℕ) → Takes old new f
 front_all old new first second before = record { taken = first; rest = second; takes = before; whole = refl }
 
 -- the last lines, from the counts and totals of the entries
-pub summary_is : (asked : DayOptions) (entries : List Entry) (tally : Tally) → IsTally entries tally →
-    tally_lines asked tally ≡ summary asked entries
-summary_is asked entries tally h =
-    rw (h.channels, h.bytes, h.done, h.skipped, h.refused, h.larger, h.young, h.bytes_read, h.bytes_written, h.unopened) refl
+pub summary_is : (days : DayOptions) (known : Bool) (entries : List Entry) (tally : Tally) → IsTally entries tally →
+    tally_lines days known tally ≡ summary_by days known entries
+summary_is days known entries tally h =
+    rw (h.channels, h.bytes, h.done, h.skipped, h.refused, h.known, h.larger, h.young, h.bytes_read, h.bytes_written, h.unopened) refl
 
 -- a channel's totals with those of its bytes, which stand at the same place
 pub channel_at : (totals bytes : List (List ℕ × Total)) (place : ℕ) (one : List ℕ × Total) (size : Total) →

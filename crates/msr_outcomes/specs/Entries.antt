@@ -10,7 +10,7 @@ use Rattle.msr_options.specs.declared.hint.Unopened.{Unopened}
 use Rattle.msr_outcomes.specs.Outcomes.{IsOutcomeOfDay}
 use Rattle.msr_folders.specs.Days.{IsNoDay}
 use Rattle.msr_outcomes.specs.declared.outcome.Outcome.{Outcome}
-use Rattle.msr_outcomes.specs.declared.outcome.Outcome.TheVariants.{Done, Same, Young, Skipped, Refused}
+use Rattle.msr_outcomes.specs.declared.outcome.Outcome.TheVariants.{Done, Same, Young, Skipped, Refused, Known}
 use Rattle.msr_making.specs.declared.answer.DayFault.TheVariants.{CannotOpen, Gone, Listing, Larger}
 use Rattle.msr_making.specs.declared.answer.Repacked.{Repacked}
 use Rattle.msr_outcomes.specs.declared.tally.Tally.{Tally}
@@ -43,9 +43,6 @@ IsOutcomeOf asked path channel (Refused Gone) = ⊤
 IsOutcomeOf asked path channel (Refused Listing) = ⊤
 IsOutcomeOf asked path channel outcome = IsToldOfDay asked path channel outcome
 
-abbrev pub IsEntry : DayOptions → Entry → Type 0
-IsEntry asked entry = IsOutcomeOf asked entry.path entry.channel entry.outcome
-
 -- what of a day could not be opened, if it was refused for that
 abbrev pub unopened_of : Outcome → Option Unopened
 unopened_of (Refused (CannotOpen unopened)) = Some unopened
@@ -76,6 +73,11 @@ abbrev pub is_refused : Outcome → Bool
 is_refused (Refused (Larger repacked)) = false
 is_refused (Refused why) = true
 is_refused _ = false
+
+-- refused, by a line that is known
+abbrev pub is_known : Outcome → Bool
+is_known (Known why) = true
+is_known _ = false
 
 -- not kept since it did not get smaller
 abbrev pub is_larger : Outcome → Bool
@@ -124,6 +126,7 @@ pub record IsTally (entries : List Entry) (tally : Tally) : Type 0 where
   pub done : tally.done ≡ counted is_done entries
   pub skipped : tally.skipped ≡ counted is_skipped entries
   pub refused : tally.refused ≡ counted is_refused entries
+  pub known : tally.known ≡ counted is_known entries
   pub larger : tally.larger ≡ counted is_larger entries
   pub young : tally.young ≡ counted is_young entries
   pub channels : tally.channels ≡ channels_of entries
@@ -137,6 +140,7 @@ pub record AddsDone (channel : List ℕ) (repacked : Repacked) (tally0 tally : T
   pub done : tally.done ≡ saturated (tally0.done + 1)
   pub skipped : tally.skipped ≡ tally0.skipped
   pub refused : tally.refused ≡ tally0.refused
+  pub known : tally.known ≡ tally0.known
   pub larger : tally.larger ≡ tally0.larger
   pub young : tally.young ≡ tally0.young
   pub channels : (adds : List Add) → tally0.channels ≡ totals_of adds

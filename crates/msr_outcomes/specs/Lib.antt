@@ -1,4 +1,5 @@
 pub mod Outcomes
 pub mod Entries
+pub mod Known
 pub mod Lines
 pub mod Summary

@@ -9,6 +9,7 @@ use Rattle.msr_making.specs.declared.answer.DayFault.{DayFault}
 use Rattle.msr_making.specs.declared.answer.DayFault.TheVariants.{CannotOpen, Changed, ClaimedByAnother, Differs, Gone, Larger, Listing, NotShown, Shrunk, Tool}
 use Rattle.msr_making.specs.declared.answer.Repacked.{Repacked}
 use Rattle.msr_options.specs.declared.days.DayOptions.{DayOptions}
+use Rattle.msr_options.specs.declared.task.Archiving.{Archiving}
 use Rattle.msr_options.specs.declared.hint.Side.{Side}
 use Rattle.msr_options.specs.declared.hint.Side.TheVariants as side
 use Rattle.msr_options.specs.declared.task.ListForm.{ListForm}
@@ -18,7 +19,7 @@ use Rattle.msr_tool.specs.declared.fault.ToolFault.{ToolFault}
 use Rattle.msr_tool.specs.declared.fault.ToolFault.TheVariants as tool
 use Rattle.msr_outcomes.specs.Entries.{Entry}
 use Rattle.msr_outcomes.specs.declared.outcome.Outcome.{Outcome}
-use Rattle.msr_outcomes.specs.declared.outcome.Outcome.TheVariants.{Done, Same, Young, Skipped, Refused}
+use Rattle.msr_outcomes.specs.declared.outcome.Outcome.TheVariants.{Done, Same, Young, Skipped, Refused, Known}
 
 -- the first word of a line
 abbrev pub outcome_word : Outcome → List ℕ
@@ -32,6 +33,7 @@ outcome_word (Refused Changed) = codes "changed"
 outcome_word (Refused (Larger repacked)) = codes "larger"
 outcome_word (Refused (Shrunk shrinkage)) = codes "shrunk"
 outcome_word (Refused why) = codes "refused"
+outcome_word (Known why) = codes "known"
 
 -- what a line says of bytes that were read and written: nothing, unless that is asked for
 abbrev pub bytes_told : (told : Bool) → (read written : ℕ) → List ℕ
@@ -73,6 +75,7 @@ outcome_rest bytes (Refused Changed) = []
 outcome_rest bytes (Refused (Larger repacked)) = counts_told bytes repacked
 outcome_rest bytes (Refused (Shrunk shrinkage)) = codes " samples " ++ (decimal shrinkage.was ++ (codes " " ++ decimal shrinkage.is))
 outcome_rest bytes (Refused why) = codes ": " ++ day_refusal_text why
+outcome_rest bytes (Known why) = codes ": " ++ day_refusal_text why
 
 abbrev pub outcome_words : (bytes : Bool) → List ℕ → Outcome → List ℕ
 outcome_words bytes path outcome =
@@ -119,12 +122,15 @@ outcome_members bytes (Refused Changed) = []
 outcome_members bytes (Refused (Larger repacked)) = repacked_json bytes repacked
 outcome_members bytes (Refused (Shrunk shrinkage)) = codes ",\"samples_was\":" ++ (decimal shrinkage.was ++ (codes ",\"samples\":" ++ decimal shrinkage.is))
 outcome_members bytes (Refused why) = day_refusal_json why
+outcome_members bytes (Known why) = day_refusal_json why
 
 -- The last member, with the system's reason: exactly if it gave one why a day could not be opened or made. No entry tells
 -- whether it gave one why a folder could not be listed.
 abbrev pub IsOutcomeReason : Outcome → List ℕ → Type 0
 IsOutcomeReason (Refused (CannotOpen unopened)) text = IsReasonOf unopened.why text
 IsOutcomeReason (Refused Listing) text = (text ≡ []) ⊎ IsReasonMember text
+IsOutcomeReason (Known (CannotOpen unopened)) text = IsReasonOf unopened.why text
+IsOutcomeReason (Known Listing) text = (text ≡ []) ⊎ IsReasonMember text
 IsOutcomeReason _ text = text ≡ []
 
 -- The line in JSON.
@@ -138,7 +144,7 @@ abbrev pub IsOutcomeLine : ListForm → (bytes : Bool) → List ℕ → Outcome 
 IsOutcomeLine Words bytes path outcome line = line ≡ outcome_words bytes path outcome
 IsOutcomeLine Json bytes path outcome line = IsOutcomeJson bytes path outcome line
 
--- to be looked at: neither done, in this walk or an earlier one, nor young or skipped
+-- to be looked at: neither done, in this walk or an earlier one, nor young, skipped or known
 abbrev pub is_to_look_at : Outcome → Bool
 is_to_look_at (Refused why) = true
 is_to_look_at _ = false
@@ -147,7 +153,11 @@ is_to_look_at _ = false
 abbrev pub is_outcome_told : Telling → Outcome → Bool
 is_outcome_told telling outcome = not telling.quiet || is_to_look_at outcome
 
--- What is printed of an entry: its line, or nothing if that is left out.
-pub record IsEntryLine (asked : DayOptions) (entry : Entry) (line : List ℕ) : Type 0 where
-  pub told : is_outcome_told asked.telling entry.outcome ≡ true → IsOutcomeLine asked.telling.form asked.bytes entry.path entry.outcome line
-  pub left_out : is_outcome_told asked.telling entry.outcome ≡ false → line ≡ []
+-- What is printed of an entry with these options: its line, or nothing if that is left out.
+pub record IsLineBy (days : DayOptions) (entry : Entry) (line : List ℕ) : Type 0 where
+  pub told : is_outcome_told days.telling entry.outcome ≡ true → IsOutcomeLine days.telling.form days.bytes entry.path entry.outcome line
+  pub left_out : is_outcome_told days.telling entry.outcome ≡ false → line ≡ []
+
+-- in a walk over an archive
+abbrev pub IsEntryLine : Archiving → Entry → List ℕ → Type 0
+IsEntryLine asked = IsLineBy asked.days

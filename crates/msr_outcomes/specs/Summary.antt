@@ -5,9 +5,11 @@ use Rattle.std.specs.List.{flat_map, zip}
 use Rattle.msr_folders.specs.Paths.{text_json}
 use Rattle.msr_folders.specs.declared.totals.Total.{Total}
 use Rattle.msr_options.specs.declared.days.DayOptions.{DayOptions}
+use Rattle.msr_options.specs.Known.{knows_any}
+use Rattle.msr_options.specs.declared.task.Archiving.{Archiving}
 use Rattle.msr_options.specs.declared.task.ListForm.{ListForm}
 use Rattle.msr_options.specs.declared.task.ListForm.TheVariants.{Words, Json}
-use Rattle.msr_outcomes.specs.Entries.{Entry, bytes_of_channels, channels_of, counted, first_unopened, is_done, is_larger, is_refused, is_skipped, is_young, summed}
+use Rattle.msr_outcomes.specs.Entries.{Entry, bytes_of_channels, channels_of, counted, first_unopened, is_done, is_known, is_larger, is_refused, is_skipped, is_young, summed}
 use Rattle.msr_outcomes.specs.Lines.{bytes_json, bytes_told}
 use Rattle.msr_outcomes.specs.declared.tally.Tally.{Tally}
 
@@ -38,8 +40,8 @@ channel_told Json bytes of = channel_json bytes of
 abbrev pub channel_line : DayOptions → (List ℕ × Total) × Total → List ℕ
 channel_line asked of = channel_told asked.telling.form asked.bytes of
 
--- what the last line says of days that are counted only if that is asked for: those that did not get smaller, and those that
--- are young
+-- what the last line says of days that are counted only if that is asked for: those that are known, that did not get
+-- smaller, and that are young
 abbrev pub count_told : (told : Bool) (word : List ℕ) (days : ℕ) → List ℕ
 count_told false word days = []
 count_told true word days = codes " " ++ (word ++ (codes " " ++ decimal days))
@@ -49,33 +51,33 @@ count_json false word days = []
 count_json true word days = codes ",\"" ++ (word ++ (codes "\":" ++ decimal days))
 
 -- the last line in words
-abbrev pub files_words : DayOptions → Tally → List ℕ
-files_words asked tally =
+abbrev pub files_words : DayOptions → (known : Bool) → Tally → List ℕ
+files_words days known tally =
     codes "files " ++ (decimal tally.done ++ (codes " skipped "
     ++ (decimal tally.skipped ++ (codes " refused " ++ (decimal tally.refused
-    ++ (count_told asked.only_smaller (codes "larger") tally.larger ++ (count_told (nat_lt 0 asked.older_than) (codes "young") tally.young
-    ++ (bytes_told asked.bytes tally.bytes_read tally.bytes_written ++ codes "\n"))))))))
+    ++ (count_told known (codes "known") tally.known ++ (count_told days.only_smaller (codes "larger") tally.larger ++ (count_told (nat_lt 0 days.older_than) (codes "young") tally.young
+    ++ (bytes_told days.bytes tally.bytes_read tally.bytes_written ++ codes "\n")))))))))
 
 -- in JSON
-abbrev pub files_json : DayOptions → Tally → List ℕ
-files_json asked tally =
+abbrev pub files_json : DayOptions → (known : Bool) → Tally → List ℕ
+files_json days known tally =
     codes "{\"what\":\"files\",\"files\":" ++ (decimal tally.done ++ (codes ",\"skipped\":"
     ++ (decimal tally.skipped ++ (codes ",\"refused\":" ++ (decimal tally.refused
-    ++ (count_json asked.only_smaller (codes "larger") tally.larger ++ (count_json (nat_lt 0 asked.older_than) (codes "young") tally.young
-    ++ (bytes_json asked.bytes tally.bytes_read tally.bytes_written ++ codes "}\n"))))))))
+    ++ (count_json known (codes "known") tally.known ++ (count_json days.only_smaller (codes "larger") tally.larger ++ (count_json (nat_lt 0 days.older_than) (codes "young") tally.young
+    ++ (bytes_json days.bytes tally.bytes_read tally.bytes_written ++ codes "}\n")))))))))
 
-abbrev pub files_told : ListForm → DayOptions → Tally → List ℕ
-files_told Words asked tally = files_words asked tally
-files_told Json asked tally = files_json asked tally
+abbrev pub files_told : ListForm → DayOptions → (known : Bool) → Tally → List ℕ
+files_told Words days known tally = files_words days known tally
+files_told Json days known tally = files_json days known tally
 
 -- the last line
-abbrev pub files_line : DayOptions → Tally → List ℕ
-files_line asked tally = files_told asked.telling.form asked tally
+abbrev pub files_line : DayOptions → (known : Bool) → Tally → List ℕ
+files_line days known tally = files_told days.telling.form days known tally
 
 -- the lines after those of the entries, from what is counted of these
-abbrev pub tally_lines : DayOptions → Tally → List ℕ
-tally_lines asked tally = flat_map (channel_line asked) (with_bytes tally.channels tally.bytes)
-    ++ files_line asked tally
+abbrev pub tally_lines : DayOptions → (known : Bool) → Tally → List ℕ
+tally_lines days known tally = flat_map (channel_line days) (with_bytes tally.channels tally.bytes)
+    ++ files_line days known tally
 
 -- the counts and totals of the entries
 abbrev pub tally_of : List Entry → Tally
@@ -83,6 +85,7 @@ tally_of entries = record {
   done = counted is_done entries;
   skipped = counted is_skipped entries;
   refused = counted is_refused entries;
+  known = counted is_known entries;
   larger = counted is_larger entries;
   young = counted is_young entries;
   bytes_read = summed (λ add. add.read) entries;
@@ -92,6 +95,10 @@ tally_of entries = record {
   unopened = first_unopened entries;
 }
 
--- the lines after those of the entries
-abbrev pub summary : DayOptions → List Entry → List ℕ
-summary asked entries = tally_lines asked (tally_of entries)
+-- the lines after those of the entries, with the count of those that are known if that is told
+abbrev pub summary_by : DayOptions → (known : Bool) → List Entry → List ℕ
+summary_by days known entries = tally_lines days known (tally_of entries)
+
+-- those of a walk over an archive
+abbrev pub summary : Archiving → List Entry → List ℕ
+summary asked = summary_by asked.days (knows_any asked.known)

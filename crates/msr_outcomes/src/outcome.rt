@@ -1,13 +1,14 @@
 //! What becomes of an entry of a folder, and its line.
 ghost use Rattle.std.specs.Prelude.{◌≡◌, ℕ, List, IfOk};
 ghost use Rattle.std.specs.String.{string_bytes};
-ghost use Rattle.msr_outcomes.specs.Lines.{IsOutcomeJson, IsOutcomeLine, IsOutcomeReason, IsEntryLine, bytes_json, bytes_told, repacked_json, counts_told, is_to_look_at, day_place_json, day_refusal_json, day_refusal_text, unopened_json, outcome_word, outcome_members, outcome_rest, outcome_words};
+ghost use Rattle.msr_outcomes.specs.Lines.{IsOutcomeJson, IsOutcomeLine, IsLineBy, IsOutcomeReason, bytes_json, bytes_told, repacked_json, counts_told, is_to_look_at, day_place_json, day_refusal_json, day_refusal_text, unopened_json, outcome_word, outcome_members, outcome_rest, outcome_words};
+ghost use Rattle.msr_outcomes.specs.Known.{is_plain, known_as, refusal_line};
 ghost use Rattle.msr_outcomes.specs.Outcomes.{of_day};
 
 use msr_folders::{JsonText, Shown, ToldFault, fault_json, reason_json, skip_text};
 use msr_input::ReadFault;
 use msr_making::{DayFault, DayOutcome, Repacked, Shrinkage};
-use msr_options::{DayOptions, ListForm, Side};
+use msr_options::{DayOptions, Known, ListForm, Side};
 use msr_sds::SdsFault;
 use msr_tool::ToolFault;
 use std::alloc::{AllocError, Global};
@@ -44,7 +45,7 @@ pub(crate) fn bytes_json(
 }
 
 /// The counts of a day, with bytes or without.
-fn counts_told(alloc: Global, repacked: Repacked, bytes: bool) -> Result<String, AllocError>
+pub fn counts_told(alloc: Global, repacked: Repacked, bytes: bool) -> Result<String, AllocError>
     ensures { IfOk result (λ text. string_bytes text ≡ counts_told bytes repacked) }
 {
     let Repacked { read, written, .. } = repacked;
@@ -53,7 +54,7 @@ fn counts_told(alloc: Global, repacked: Repacked, bytes: bool) -> Result<String,
 }
 
 /// The members of JSON that tell the counts of a day, with bytes or without.
-fn repacked_json(alloc: Global, repacked: Repacked, bytes: bool) -> Result<String, AllocError>
+pub fn repacked_json(alloc: Global, repacked: Repacked, bytes: bool) -> Result<String, AllocError>
     ensures { IfOk result (λ text. string_bytes text ≡ repacked_json bytes repacked) }
 {
     let Repacked { read, written, .. } = repacked;
@@ -146,6 +147,29 @@ fn day_refusal_json(alloc: Global, why: DayFault) -> Result<String, AllocError>
     format!(in alloc; "{place},\"text\":\"{text}\"")
 }
 
+/// Whether its first word tells no more than that an entry is refused.
+fn is_plain(why: DayFault) -> bool
+    ensures { result ≡ is_plain why }
+{
+    matches!(
+        why,
+        DayFault::CannotOpen(_)
+            | DayFault::Gone
+            | DayFault::Listing
+            | DayFault::ClaimedByAnother
+            | DayFault::Tool(_)
+    )
+}
+
+/// The line in words, without its line feed, of the entry with this path that is refused so.
+fn refusal_line(alloc: Global, path: &str, why: DayFault) -> Result<String, AllocError>
+    ensures { IfOk result (λ line. string_bytes line ≡ refusal_line path.now why) }
+{
+    let text = day_refusal_text(alloc, why)?;
+    let shown = Shown { path };
+    format!(in alloc; "refused {shown}: {text}")
+}
+
 /// What became of an entry.
 #[derive(Clone, Copy)]
 pub enum Outcome {
@@ -157,6 +181,8 @@ pub enum Outcome {
     Skipped(SdsFault),
     /// It was refused, or repacked and not kept.
     Refused(DayFault),
+    /// It was refused, by a line that is known.
+    Known(DayFault),
 }
 
 impl Outcome {
@@ -169,6 +195,29 @@ impl Outcome {
             DayOutcome::Same(repacked) => Outcome::Same(repacked),
             DayOutcome::Young => Outcome::Young,
             DayOutcome::Refused(why) => Outcome::Refused(why),
+        }
+    }
+
+    /// The same, or that it is known if the line of a refusal is.
+    pub fn known_as(
+        self,
+        alloc: Global,
+        known: Known<'_>,
+        path: &str,
+    ) -> Result<Outcome, AllocError>
+        ensures { IfOk result (λ outcome. outcome ≡ known_as known.entry path.now self) }
+    {
+        let Outcome::Refused(why) = self else {
+            return Ok(self);
+        };
+        if !known.is_asked() || !is_plain(why) {
+            return Ok(self);
+        }
+        let line = refusal_line(alloc, path, why)?;
+        if known.has(line.as_str()) {
+            Ok(Outcome::Known(why))
+        } else {
+            Ok(self)
         }
     }
 
@@ -187,6 +236,7 @@ impl Outcome {
             Outcome::Refused(DayFault::Larger(_)) => "larger",
             Outcome::Refused(DayFault::Shrunk(_)) => "shrunk",
             Outcome::Refused(_) => "refused",
+            Outcome::Known(_) => "known",
         }
     }
 
@@ -206,7 +256,7 @@ impl Outcome {
             Outcome::Refused(DayFault::Shrunk(Shrinkage { was, is })) => {
                 format!(in alloc; " samples {was} {is}")
             }
-            Outcome::Refused(why) => {
+            Outcome::Refused(why) | Outcome::Known(why) => {
                 let text = day_refusal_text(alloc, why)?;
                 format!(in alloc; ": {text}")
             }
@@ -244,7 +294,7 @@ impl Outcome {
             Outcome::Refused(DayFault::Shrunk(Shrinkage { was, is })) => {
                 format!(in alloc; ",\"samples_was\":{was},\"samples\":{is}")
             }
-            Outcome::Refused(why) => day_refusal_json(alloc, why),
+            Outcome::Refused(why) | Outcome::Known(why) => day_refusal_json(alloc, why),
         }
     }
 
@@ -253,8 +303,11 @@ impl Outcome {
         ensures { IfOk result (λ text. IsOutcomeReason self (string_bytes text)) }
     {
         match self {
-            Outcome::Refused(DayFault::CannotOpen(unopened)) => reason_json(alloc, unopened.why),
-            Outcome::Refused(DayFault::Listing) => reason_json(alloc, listing),
+            Outcome::Refused(DayFault::CannotOpen(unopened))
+            | Outcome::Known(DayFault::CannotOpen(unopened)) => reason_json(alloc, unopened.why),
+            Outcome::Refused(DayFault::Listing) | Outcome::Known(DayFault::Listing) => {
+                reason_json(alloc, listing)
+            }
             _ => Ok(String::new(alloc)),
         }
     }
@@ -304,16 +357,16 @@ impl Outcome {
     pub fn told(
         self,
         alloc: Global,
-        asked: &DayOptions,
+        days: &DayOptions,
         path: &str,
         listing: Option<io::Error>,
     ) -> Result<String, AllocError>
         ensures { (channel : List ℕ) → IfOk result (λ line.
-            IsEntryLine asked.now (record { path = path.now; channel = channel; outcome = self }) (string_bytes line)) }
+            IsLineBy days.now (record { path = path.now; channel = channel; outcome = self }) (string_bytes line)) }
     {
-        if asked.telling.quiet && !self.is_to_look_at() {
+        if days.telling.quiet && !self.is_to_look_at() {
             return Ok(String::new(alloc));
         }
-        self.line(alloc, asked, path, listing)
+        self.line(alloc, days, path, listing)
     }
 }

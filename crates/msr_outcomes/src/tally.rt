@@ -15,6 +15,7 @@ pub struct Tally {
     pub done: u64,
     pub skipped: u64,
     pub refused: u64,
+    pub known: u64,
     pub larger: u64,
     pub young: u64,
     pub bytes_read: u64,
@@ -34,6 +35,7 @@ impl Tally {
             done: 0,
             skipped: 0,
             refused: 0,
+            known: 0,
             larger: 0,
             young: 0,
             bytes_read: 0,
@@ -66,6 +68,7 @@ impl Tally {
             Outcome::Done(repacked) | Outcome::Same(repacked) => self.add_done(channel, repacked)?,
             Outcome::Young => self.young = self.young.saturating_add(1),
             Outcome::Skipped(_) => self.skipped = self.skipped.saturating_add(1),
+            Outcome::Known(_) => self.known = self.known.saturating_add(1),
             Outcome::Refused(why) => match why {
                 DayFault::Larger(_) => self.larger = self.larger.saturating_add(1),
                 DayFault::CannotOpen(unopened) => {

@@ -8,12 +8,14 @@ ghost use Rattle.msr_command.specs.Ends.{EndsTask, EndsWithoutTask};
 ghost use Rattle.msr_options.specs.Hints.{line_of};
 
 use msr_arguments::{NOT_UTF8, read_words};
-use msr_command::run;
+use msr_command::{NamedFiles, SystemFiles, run};
 use msr_devices::{FromRead, FromWrite, Sink, Source};
+use msr_folders::LockFile;
 use msr_options::{Errors, Hint, complain, write_hint};
 use std::alloc::{AllocError, Global};
 use std::io::{ErrorKind, IsTerminal, Write};
 use std::process::ExitCode;
+use std::rt::Files;
 use std::{env, io};
 
 /// The words, the program's name first.
@@ -26,20 +28,29 @@ fn borrowed(alloc: Global, words: &[String]) -> Result<Vec<&str>, AllocError> {
 }
 
 /// Does what the words ask for, of which the first is the program's name, and gives the status.
-fn run_words<I: Source, O: Sink, E: Write>(
-    rt: &HostRuntime,
+fn run_words<F: NamedFiles, I: Source, O: Sink, E: Write>(
+    files: &mut F,
     alloc: Global,
     words: &[&str],
     input: &mut I,
     output: &mut O,
     errors: &mut Errors<E>,
 ) -> u8
+where
+    <F::System as Files>::File: LockFile,
     requires input { CanCountCall (I.device input.old) }
     requires output { CanCountCall (O.device output.old) }
-    ensures { EndsTask words.now (I.device input.old) (O.device output.old) (O.device output.new) result
+    ensures { EndsTask (F.went files.old) (F.went files.new) words.now (I.device input.old) (O.device output.old) (O.device output.new) result
         ⊎ EndsWithoutTask words.now (O.device output.old) (O.device output.new) result }
 {
-    run(rt, alloc, read_words(alloc, words), input, output, errors)
+    run(
+        files,
+        alloc,
+        read_words(alloc, words),
+        input,
+        output,
+        errors,
+    )
 }
 
 /// Tells a person who gave no word, and gives no input either, that input is waited for.
@@ -76,7 +87,7 @@ fn main(rt: HostRuntime) -> ExitCode {
                 let mut input = FromRead::new(given);
                 let mut output = FromWrite::new(rt.stdout());
                 run_words(
-                    &rt,
+                    &mut SystemFiles::new(&rt),
                     alloc,
                     words.as_slice(),
                     &mut input,

@@ -4,7 +4,7 @@ use crate::noted::{NotedSink, NotedSource};
 use crate::settings::Settings;
 use crate::stage::Stage;
 use msr_arguments::read_words;
-use msr_command::run;
+use msr_command::{SystemFiles, run};
 use msr_devices::{TestSink, TestSource};
 use msr_options::Errors;
 use std::cell::Cell;
@@ -71,7 +71,7 @@ fn answer_with(stage: &mut Stage<'_>, settings: &Settings<'_>, words: &[&str]) -
     if !stage.has_failed {
         let words = read_words(alloc, words);
         status = run(
-            &settings.odd,
+            &mut SystemFiles::new(&settings.odd),
             alloc,
             words,
             &mut source,

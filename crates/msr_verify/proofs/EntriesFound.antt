@@ -1,5 +1,5 @@
 -- Walks put together from the entries that were told.
-use Rattle.std.proofs.Common.{◌≡◌, ◌↔◌, ℕ, List, ◌++◌, refl, sym, take, drop, Ok, Err, IsErrOf}
+use Rattle.std.proofs.Common.{arith, ◌≡◌, ◌↔◌, ◌+◌, ◌-◌, ◌^◌, min, ℕ, List, ◌++◌, refl, sym, take, drop, Ok, Err, IsErrOf}
 use Rattle.std.proofs.lemmas.List.{take-append-drop}
 use Rattle.msr_devices.specs.Device.{Device, HasFailed, Takes}
 use Rattle.msr_devices.specs.declared.fault.DeviceFault.{DeviceFault}
@@ -8,6 +8,7 @@ use Rattle.msr_devices.proofs.Chaining.{takes_append, calm_same, steady_sound}
 use Rattle.msr_folders.specs.Found.{Finds}
 use Rattle.msr_folders.specs.Visits.{StopsAt, StopsPrefix}
 use Rattle.msr_folders.specs.declared.found.WalkFound.{WalkFound}
+use Rattle.msr_folders.specs.declared.found.WalkFound.TheVariants.{Well, Unwell, NoDay}
 use Rattle.msr_folders.proofs.VisitLemmas as visits
 use Rattle.msr_folders.proofs.VisitLemmas.{part_none}
 use Rattle.msr_folders.proofs.WalkLemmas as walks
@@ -18,40 +19,39 @@ use Rattle.msr_verify.specs.declared.judgement.Judgement.{Judgement}
 use Rattle.msr_verify.specs.declared.judgement.Judgement.TheVariants.{Refused, Skipped}
 use Rattle.msr_verify.specs.declared.judgement.Refusal.TheVariants.{FileUnopened, Listing, RecordsListing}
 use Rattle.msr_folders.specs.Days.{IsDay}
-use Rattle.msr_verify.specs.Entries.{IsJudgedEntry, IsJudgementOf, IsJudgementOfDay, IsVerifyTally, JudgedEntry}
-use Rattle.msr_options.specs.declared.task.ListForm.{ListForm}
-use Rattle.msr_options.specs.declared.task.ListForm.TheVariants.{Words, Json}
-use Rattle.msr_options.specs.declared.telling.Telling.{Telling}
+use Rattle.msr_verify.specs.Entries.{IsJudgementOf, IsJudgementOfDay, IsVerifyTally, JudgedEntry}
+use Rattle.msr_verify.specs.Known.{IsJudgedEntry}
+use Rattle.msr_options.specs.declared.task.Verifying.{Verifying}
 use Rattle.msr_verify.specs.Lines.{IsToldLine}
 use Rattle.msr_verify.specs.Walk.{StopsTellingJudged, TellsJudged, TellsVerified, Verifies, judged_summary, judged_end}
 use Rattle.msr_verify.specs.declared.tally.VerifyTally.{VerifyTally}
 
 -- nothing was printed
-pub none_told : (telling : Telling) (out : Device) → StopsTellingJudged telling out out Memory
-none_told telling out = (part_none IsJudgedEntry (IsToldLine telling) out, (calm_same out).steady)
+pub none_told : (asked : Verifying) (out : Device) → StopsTellingJudged asked out out Memory
+none_told asked out = (part_none (IsJudgedEntry asked) (IsToldLine asked) out, (calm_same out).steady)
 
-pub stops_more : (telling : Telling) (out0 out1 out : Device) (tally0 tally1 : VerifyTally) (fault : DeviceFault) →
-    TellsJudged telling out0 out1 tally0 tally1 → StopsTellingJudged telling out1 out fault → StopsTellingJudged telling out0 out fault
-stops_more telling out0 out1 out tally0 tally1 fault first second =
-    visits.stops_more IsJudgedEntry (IsToldLine telling) IsVerifyTally out0 out1 out tally0 tally1 fault first second
+pub stops_more : (asked : Verifying) (out0 out1 out : Device) (tally0 tally1 : VerifyTally) (fault : DeviceFault) →
+    TellsJudged asked out0 out1 tally0 tally1 → StopsTellingJudged asked out1 out fault → StopsTellingJudged asked out0 out fault
+stops_more asked out0 out1 out tally0 tally1 fault first second =
+    visits.stops_more (IsJudgedEntry asked) (IsToldLine asked) IsVerifyTally out0 out1 out tally0 tally1 fault first second
 
 -- a prefix of the text of a walk was printed
-abbrev pub WalksInPart : Telling → Device → Device → Type 0
-WalksInPart telling out0 out = walks.WalksInPart IsJudgedEntry (IsToldLine telling) (judged_summary telling.form) out0 out
+abbrev pub WalksInPart : Verifying → Device → Device → Type 0
+WalksInPart asked out0 out = walks.WalksInPart (IsJudgedEntry asked) (IsToldLine asked) (judged_summary asked) out0 out
 
-pub stops_entries : (telling : Telling) (out0 out : Device) (fault : DeviceFault) → StopsTellingJudged telling out0 out fault
-    → StopsAt (WalksInPart telling out0 out) out0 out fault
-stops_entries telling = walks.stops_entries IsJudgedEntry (IsToldLine telling) (judged_summary telling.form)
+pub stops_entries : (asked : Verifying) (out0 out : Device) (fault : DeviceFault) → StopsTellingJudged asked out0 out fault
+    → StopsAt (WalksInPart asked out0 out) out0 out fault
+stops_entries asked = walks.stops_entries (IsJudgedEntry asked) (IsToldLine asked) (judged_summary asked)
 
-pub stops_summary : (telling : Telling) (out0 out1 out : Device) (tally0 tally : VerifyTally) (fault : DeviceFault)
-    (told : TellsJudged telling out0 out1 tally0 tally) → StopsPrefix out1 out (judged_summary telling.form told.entries) fault
-    → StopsAt (WalksInPart telling out0 out) out0 out fault
-stops_summary telling = walks.stops_summary IsJudgedEntry (IsToldLine telling) (judged_summary telling.form) IsVerifyTally
+pub stops_summary : (asked : Verifying) (out0 out1 out : Device) (tally0 tally : VerifyTally) (fault : DeviceFault)
+    (told : TellsJudged asked out0 out1 tally0 tally) → StopsPrefix out1 out (judged_summary asked told.entries) fault
+    → StopsAt (WalksInPart asked out0 out) out0 out fault
+stops_summary asked = walks.stops_summary (IsJudgedEntry asked) (IsToldLine asked) (judged_summary asked) IsVerifyTally
 
-pub walk_stops : (telling : Telling) (out0 out : Device) (fault : DeviceFault)
-    → StopsAt (WalksInPart telling out0 out) out0 out fault → Verifies telling out0 out (Err (fault_of_writing fault))
-walk_stops telling out0 out Failed h = record { printed = h.0.printed; prints = h.0.prints; ends = h.0.walk }
-walk_stops telling out0 out Memory h = record { printed = h.0.printed; prints = h.0.prints; ends = h.0.walk }
+pub walk_stops : (asked : Verifying) (out0 out : Device) (fault : DeviceFault)
+    → StopsAt (WalksInPart asked out0 out) out0 out fault → Verifies asked out0 out (Err (fault_of_writing fault))
+walk_stops asked out0 out Failed h = record { printed = h.0.printed; prints = h.0.prints; ends = h.0.walk }
+walk_stops asked out0 out Memory h = record { printed = h.0.printed; prints = h.0.prints; ends = h.0.walk }
 
 -- the sink failed if that is told
 pub stop_tells : (Part : Type 0) (out0 out : Device) (fault : DeviceFault) → StopsAt Part out0 out fault
@@ -61,16 +61,18 @@ stop_tells Part out0 out Memory h = ((λ e. absurd cc), (λ has_failed. absurd (
 
 -- what the counts find is what the entries tell
 pub tells_end : (entries : List JudgedEntry) (tally : VerifyTally) (found : WalkFound) → IsVerifyTally entries tally
-    → Finds tally.unverified tally.verified found → TellsVerified entries found
-tells_end entries tally found counts finds = rw (counts.unverified, counts.verified) at finds
+    → Finds tally.unverified (min (tally.verified + tally.known) (2 ^ 64 - 1)) found → TellsVerified entries found
+tells_end entries tally Well counts finds = rw (← counts.unverified, ← counts.verified, ← counts.known) (finds.0, omega (arith, finds.1))
+tells_end entries tally Unwell counts finds = rw (← counts.unverified) finds
+tells_end entries tally NoDay counts finds = rw (← counts.unverified, ← counts.verified, ← counts.known) (finds.0, omega (arith, finds.1))
 
-pub walk_ends : (telling : Telling) (out0 out1 out : Device) (tally0 tally : VerifyTally) (found : WalkFound) →
-    (told : TellsJudged telling out0 out1 tally0 tally) → Takes out1 out (judged_summary telling.form told.entries)
+pub walk_ends : (asked : Verifying) (out0 out1 out : Device) (tally0 tally : VerifyTally) (found : WalkFound) →
+    (told : TellsJudged asked out0 out1 tally0 tally) → Takes out1 out (judged_summary asked told.entries)
     → TellsVerified told.entries found →
-    Verifies telling out0 out (Ok found)
-walk_ends telling out0 out1 out tally0 tally found told prints end = record {
-  printed = told.lines ++ judged_summary telling.form told.entries;
-  prints = takes_append out0 out1 out told.lines (judged_summary telling.form told.entries) told.prints prints;
+    Verifies asked out0 out (Ok found)
+walk_ends asked out0 out1 out tally0 tally found told prints end = record {
+  printed = told.lines ++ judged_summary asked told.entries;
+  prints = takes_append out0 out1 out told.lines (judged_summary asked told.entries) told.prints prints;
   ends = (
     told.entries,
     record {
@@ -84,12 +86,10 @@ walk_ends telling out0 out1 out tally0 tally found told prints end = record {
 }
 
 -- the last line, from the counts of the entries
-pub summary_is : (form : ListForm) (entries : List JudgedEntry) (tally : VerifyTally) → IsVerifyTally entries tally
-    → judged_end form tally ≡ judged_summary form entries
-summary_is Words entries tally h =
-    rw (h.verified, h.skipped, h.refused, h.missing, h.not_shown, h.differ, h.orphans) refl
-summary_is Json entries tally h =
-    rw (h.verified, h.skipped, h.refused, h.missing, h.not_shown, h.differ, h.orphans) refl
+pub summary_is : (asked : Verifying) (entries : List JudgedEntry) (tally : VerifyTally) → IsVerifyTally entries tally
+    → judged_end asked tally ≡ judged_summary asked entries
+summary_is asked entries tally h =
+    rw (h.verified, h.skipped, h.refused, h.known, h.missing, h.not_shown, h.differ, h.orphans, h.unverified) refl
 
 -- a prefix of a text
 pub front_piece : (old new : Device) (text : List ℕ) (n : ℕ) → Takes old new (take n text) → TakesPrefix old new text

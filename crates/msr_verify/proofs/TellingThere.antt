@@ -11,19 +11,21 @@ use Rattle.msr_folders.specs.Paths.{joined}
 use Rattle.msr_folders.specs.Visits.{IsWalk}
 use Rattle.msr_folders.specs.Walks.{IsSaidBetween, IsWalked, TellsWalk}
 use Rattle.msr_folders.specs.declared.found.WalkFound.{WalkFound}
+use Rattle.msr_options.specs.declared.known.Known.{Known as Asked}
 use Rattle.msr_options.specs.declared.task.Verifying.{Verifying}
 use Rattle.msr_tree.proofs.Reading.{failures_read, now_read, reads_then, there_read}
 use Rattle.msr_tree.specs.Listing.{is_there, unlisted_after}
 use Rattle.msr_tree.specs.Reads.{OnlyReads}
 use Rattle.msr_tree.specs.Steps.{Path, Step, failures, seen}
-use Rattle.msr_verify.specs.Entries.{IsJudgedEntry, IsVerifyTally, JudgedEntry}
+use Rattle.msr_verify.specs.Entries.{IsVerifyTally, JudgedEntry}
+use Rattle.msr_verify.specs.Known.{IsJudgedEntry}
 use Rattle.msr_verify.specs.Files.{AnswerThere, DayPlaces, IsArchiveVerified, IsInPlace, IsJudgementThere, IsToldOfOut, IsToldOfRoot, day_places}
 use Rattle.msr_verify.specs.Lines.{IsToldLine}
 use Rattle.msr_verify.specs.Walk.{TellsArchive, TellsEntries, TellsVerified, VerifiesTree, judged_summary}
 use Rattle.msr_verify.specs.declared.judging.Finding.{Finding}
 use Rattle.msr_verify.specs.declared.judging.VerifyFault.{VerifyFault}
 use Rattle.msr_verify.specs.declared.judgement.Judgement.{Judgement}
-use Rattle.msr_verify.specs.declared.judgement.Judgement.TheVariants.{Verified, InPlace, Missing, NotShown, Differs, Refused, Skipped, Orphan}
+use Rattle.msr_verify.specs.declared.judgement.Judgement.TheVariants.{Verified, InPlace, Missing, NotShown, Differs, Refused, Skipped, Orphan, Known, KnownMissing}
 use Rattle.msr_verify.specs.declared.judgement.Refusal.TheVariants.{FileUnopened, RecordsUnopened, ReportUnopened, SameFile, Listing, RecordsListing, Day}
 use Rattle.msr_verify.specs.declared.tally.VerifyTally.{VerifyTally}
 
@@ -98,9 +100,11 @@ module _ (old from to new : List Step) (before : OnlyReads old from) (after : On
   judged_there places (Refused RecordsListing) is = absurd is
   judged_there places (Skipped fault) is = absurd is
   judged_there places Orphan is = absurd is
+  judged_there places (Known refusal) is = absurd is
+  judged_there places KnownMissing is = absurd is
 
-  root_there : (root out reports : Path) (visit : Visit) (entries : List JudgedEntry) → IsToldOfRoot root out reports from to visit entries → IsToldOfRoot root out reports old new visit entries
-  root_there root out reports (Entry path kind) entries told = (
+  root_there : (asked : Asked) (root out reports : Path) (visit : Visit) (entries : List JudgedEntry) → IsToldOfRoot asked root out reports from to visit entries → IsToldOfRoot asked root out reports old new visit entries
+  root_there asked root out reports (Entry path kind) entries told = (
     told.0,
     told.1,
     record {
@@ -108,28 +112,28 @@ module _ (old from to new : List Step) (before : OnlyReads old from) (after : On
       other = told.2.other;
     },
   )
-  root_there root out reports (WithoutList folder) entries told = told
+  root_there asked root out reports (WithoutList folder) entries told = told
 
-  out_there : (root out : Path) (visit : Visit) (entries : List JudgedEntry) → IsToldOfOut root out from to visit entries → IsToldOfOut root out old new visit entries
-  out_there root out (Entry path kind) entries told = record {
+  out_there : (asked : Asked) (root out : Path) (visit : Visit) (entries : List JudgedEntry) → IsToldOfOut asked root out from to visit entries → IsToldOfOut asked root out old new visit entries
+  out_there asked root out (Entry path kind) entries told = record {
     orphan = λ is. ⊎_elim
         (λ one. inl (one.0, sym (there_read old from before (joined root path)) ∙ one.1))
         (λ none. inr (none.0, ⊎_elim (λ there. inl (sym (there_read old from before (joined root path)) ∙ there)) (λ failed. inr (failed_there failed)) none.1))
         (told.orphan is);
     other = told.other;
   }
-  out_there root out (WithoutList folder) entries told = ⊎_elim
+  out_there asked root out (WithoutList folder) entries told = ⊎_elim
       (λ one. inl one)
       (λ none. inr (none.0, sym (there_read old from before (joined out folder)) ∙ none.1))
       told
 
 -- both walks
 both_told : (archive : Verifying) (visits records : List Visit) (entries orphans : List JudgedEntry) (old mid new : List Step)
-    → IsWalked (IsToldOfRoot archive.folders.root.now archive.folders.out.now archive.folders.reports.now) OnlyReads archive.folders.root.now
+    → IsWalked (IsToldOfRoot archive.known archive.folders.root.now archive.folders.out.now archive.folders.reports.now) OnlyReads archive.folders.root.now
     (λ past. AreEntriesOf past archive.folders.root.now archive.below.items) visits entries old mid
-    → IsWalked (IsToldOfOut archive.folders.root.now archive.folders.out.now) OnlyReads archive.folders.out.now
+    → IsWalked (IsToldOfOut archive.known archive.folders.root.now archive.folders.out.now) OnlyReads archive.folders.out.now
     (λ past. AreEntriesOf past archive.folders.out.now archive.below.items) records orphans mid new
-    → IsArchiveVerified archive.folders.root.now archive.folders.out.now archive.folders.reports.now archive.below.items entries orphans old new
+    → IsArchiveVerified archive.known archive.folders.root.now archive.folders.out.now archive.folders.reports.now archive.below.items entries orphans old new
 both_told archive visits records entries orphans old mid new one two =
     let root = archive.folders.root.now in
     let out = archive.folders.out.now in
@@ -137,42 +141,42 @@ both_told archive visits records entries orphans old mid new one two =
     record {
       visits = visits;
       are = one.are;
-      told = for_each_as (IsSaidBetween (IsToldOfRoot root out reports) OnlyReads old mid) (IsToldOfRoot root out reports old new) visits entries
-          (λ visit part said. root_there old said.from said.to new said.before (reads_then said.to mid new said.after two.does) root out reports visit part said.says) one.says;
+      told = for_each_as (IsSaidBetween (IsToldOfRoot archive.known root out reports) OnlyReads old mid) (IsToldOfRoot archive.known root out reports old new) visits entries
+          (λ visit part said. root_there old said.from said.to new said.before (reads_then said.to mid new said.after two.does) archive.known root out reports visit part said.says) one.says;
       records = records;
       are_records = folders_same out old mid (reads_same out old mid one.does) archive.below.items records two.are;
-      told_records = for_each_as (IsSaidBetween (IsToldOfOut root out) OnlyReads mid new) (IsToldOfOut root out old new) records orphans
-          (λ visit part said. out_there old said.from said.to new (reads_then old mid said.from one.does said.before) said.after root out visit part said.says) two.says;
+      told_records = for_each_as (IsSaidBetween (IsToldOfOut archive.known root out) OnlyReads mid new) (IsToldOfOut archive.known root out old new) records orphans
+          (λ visit part said. out_there old said.from said.to new (reads_then old mid said.from one.does said.before) said.after archive.known root out visit part said.says) two.says;
       unlisted = two.unlisted ∙ (ap (λ l. l ++ unlisted_in out records) one.unlisted ∙ append_assoc (unlisted_after old) (unlisted_in root visits) (unlisted_in out records));
       reads = reads_then old mid new one.does two.does;
     }
 
 pub archive_told : (archive : Verifying) (before mid after : List Step → Type 0) (out0 out1 out : Device) (tally0 tally1 tally : VerifyTally)
-    → TellsWalk (TellsEntries archive.telling) (IsToldOfRoot archive.folders.root.now archive.folders.out.now archive.folders.reports.now) OnlyReads archive.folders.root.now
+    → TellsWalk (TellsEntries archive) (IsToldOfRoot archive.known archive.folders.root.now archive.folders.out.now archive.folders.reports.now) OnlyReads archive.folders.root.now
     (λ past. AreEntriesOf past archive.folders.root.now archive.below.items) before mid out0 out1 tally0 tally1
-    → TellsWalk (TellsEntries archive.telling) (IsToldOfOut archive.folders.root.now archive.folders.out.now) OnlyReads archive.folders.out.now
+    → TellsWalk (TellsEntries archive) (IsToldOfOut archive.known archive.folders.root.now archive.folders.out.now) OnlyReads archive.folders.out.now
     (λ past. AreEntriesOf past archive.folders.out.now archive.below.items) mid after out1 out tally1 tally
     → TellsArchive archive before after out0 out tally0 tally
 archive_told archive before mid after out0 out1 out tally0 tally1 tally one two = record {
   entries = one.lines;
   orphans = two.lines;
-  these = these_more IsJudgedEntry (IsToldLine archive.telling) IsVerifyTally one.lines two.lines out0 out1 out tally0 tally1 tally one.told two.told;
+  these = these_more (IsJudgedEntry archive) (IsToldLine archive) IsVerifyTally one.lines two.lines out0 out1 out tally0 tally1 tally one.told two.told;
   goes = goes_then _ _ _ before mid after (λ old middle new first second. both_told archive one.visits two.visits one.lines two.lines old middle new first second) one.goes two.goes;
 }
 
 -- and what a walk to its end printed
 pub tree_ends : (archive : Verifying) (before after : List Step → Type 0) (out0 out1 out : Device) (tally0 tally : VerifyTally) (found : WalkFound)
-    → (told : TellsArchive archive before after out0 out1 tally0 tally) → Takes out1 out (judged_summary archive.telling.form told.these.told.entries)
+    → (told : TellsArchive archive before after out0 out1 tally0 tally) → Takes out1 out (judged_summary archive told.these.told.entries)
     → TellsVerified told.these.told.entries found → VerifiesTree archive before after out0 out found
 tree_ends archive before after out0 out1 out tally0 tally found told prints end =
     let these = told.these.told in
-    let printed : List ℕ = these.lines ++ judged_summary archive.telling.form these.entries in
+    let printed : List ℕ = these.lines ++ judged_summary archive these.entries in
     record {
       entries = told.entries;
       orphans = told.orphans;
       printed = printed;
-      prints = takes_append out0 out1 out these.lines (judged_summary archive.telling.form these.entries) these.prints prints;
-      text = subst (λ entries. IsWalk IsJudgedEntry (IsToldLine archive.telling) (judged_summary archive.telling.form) printed entries) told.these.are
+      prints = takes_append out0 out1 out these.lines (judged_summary archive these.entries) these.prints prints;
+      text = subst (λ entries. IsWalk (IsJudgedEntry archive) (IsToldLine archive) (judged_summary archive) printed entries) told.these.are
           (record { lines = these.lines; are_entries = these.are_entries; are_lines = these.are_lines; whole = refl });
       tells = subst (λ entries. TellsVerified entries found) told.these.are end;
       goes = told.goes;

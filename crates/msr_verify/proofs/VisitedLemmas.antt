@@ -16,10 +16,11 @@ use Rattle.msr_tree.specs.Reads.{OnlyLooks, OnlyReads}
 use Rattle.msr_tree.specs.Steps.{Path, Step}
 use Rattle.msr_tree.specs.declared.kind.FileKind.{FileKind}
 use Rattle.msr_tree.specs.declared.kind.FileKind.TheVariants.{Folder, Gone, Other}
-use Rattle.msr_verify.specs.Entries.{IsJudgedEntry, IsJudgementOf, IsVerifyTally, JudgedEntry}
+use Rattle.msr_verify.specs.Entries.{IsJudgementOf, IsVerifyTally, JudgedEntry}
+use Rattle.msr_verify.specs.Known.{IsJudgedEntry, known_as}
 use Rattle.msr_verify.specs.Files.{IsToldOfOut, IsToldOfRoot, JudgesDay, day_places, other_judgement}
 use Rattle.msr_verify.specs.Opening.{MayHave}
-use Rattle.msr_options.specs.declared.telling.Telling.{Telling}
+use Rattle.msr_options.specs.declared.task.Verifying.{Verifying}
 use Rattle.msr_verify.specs.Lines.{IsToldLine}
 use Rattle.msr_verify.specs.Walk.{TellsEntries}
 use Rattle.msr_verify.specs.declared.judgement.Judgement.{Judgement}
@@ -35,12 +36,12 @@ pub visit_by : (Does : (old new : List Step) → Type 0) (before after : List St
     → Goes before after Does → Goes before after (VisitDoes OnlyReads)
 visit_by Does before after so goes = goes_so Does (VisitDoes OnlyReads) before after (λ old new went is. visit_looks old new (so old new is)) goes
 
-visited : (telling : Telling) (Says : (old new : List Step) → Visit → List JudgedEntry → Type 0) (visit : Visit) (entries : List JudgedEntry) (Does : (old new : List Step) → Type 0)
+visited : (asked : Verifying) (Says : (old new : List Step) → Visit → List JudgedEntry → Type 0) (visit : Visit) (entries : List JudgedEntry) (Does : (old new : List Step) → Type 0)
     (before after : List Step → Type 0) (out0 out : Device) (tally0 tally : VerifyTally)
     → ((old new : List Step) → Does old new → OnlyLooks old new × Says old new visit entries)
-    → Goes before after Does → TellsEntries telling entries out0 out tally0 tally
-    → TellsVisit (TellsEntries telling) Says OnlyReads visit before after out0 out tally0 tally
-visited telling Says visit entries Does before after out0 out tally0 tally so goes told = record {
+    → Goes before after Does → TellsEntries asked entries out0 out tally0 tally
+    → TellsVisit (TellsEntries asked) Says OnlyReads visit before after out0 out tally0 tally
+visited asked Says visit entries Does before after out0 out tally0 tally so goes told = record {
   lines = entries;
   told = told;
   goes = goes_so _ _ before after (λ old new went is.
@@ -48,18 +49,18 @@ visited telling Says visit entries Does before after out0 out tally0 tally so go
       record { done = visit_looks old new both.0; says = both.1 }) goes;
 }
 
-visited_still : (telling : Telling) (Says : (old new : List Step) → Visit → List JudgedEntry → Type 0) (visit : Visit) (entries : List JudgedEntry)
+visited_still : (asked : Verifying) (Says : (old new : List Step) → Visit → List JudgedEntry → Type 0) (visit : Visit) (entries : List JudgedEntry)
     (before : List Step → Type 0) (out0 out : Device) (tally0 tally : VerifyTally)
-    → ((past : List Step) → Says past past visit entries) → TellsEntries telling entries out0 out tally0 tally
-    → TellsVisit (TellsEntries telling) Says OnlyReads visit before before out0 out tally0 tally
-visited_still telling Says visit entries before out0 out tally0 tally so told = record {
+    → ((past : List Step) → Says past past visit entries) → TellsEntries asked entries out0 out tally0 tally
+    → TellsVisit (TellsEntries asked) Says OnlyReads visit before before out0 out tally0 tally
+visited_still asked Says visit entries before out0 out tally0 tally so told = record {
   lines = entries;
   told = told;
   goes = goes_none _ before (λ past. record { done = visit_looks past past (looks_none past); says = so past });
 }
 
-pub none_told_yet : (telling : Telling) (out : Device) (tally : VerifyTally) → TellsEntries telling [] out out tally tally
-none_told_yet telling out tally = these_none IsJudgedEntry (IsToldLine telling) IsVerifyTally out tally
+pub none_told_yet : (asked : Verifying) (out : Device) (tally : VerifyTally) → TellsEntries asked [] out out tally tally
+none_told_yet asked out tally = these_none (IsJudgedEntry asked) (IsToldLine asked) IsVerifyTally out tally
 
 -- at the end of a folder nothing is done
 pub left_folder : (before : List Step → Type 0) → Goes before before (VisitDoes OnlyReads)
@@ -81,64 +82,64 @@ other_is path Folder fault none = none
 other_is path Other fault none = none
 
 -- a day of the archive
-pub visited_day : (telling : Telling) (root out_root reports path : Path) (kind : FileKind) (judgement : Judgement) (before after : List Step → Type 0) (out0 out : Device) (tally0 tally : VerifyTally)
+pub visited_day : (asked : Verifying) (root out_root reports path : Path) (kind : FileKind) (judgement : Judgement) (before after : List Step → Type 0) (out0 out : Device) (tally0 tally : VerifyTally)
     → IsDay path → Goes before after (JudgesDay (day_places root out_root reports path) (Ok judgement))
-    → TellsEntries telling (record { path = path; judgement = judgement } ∷ []) out0 out tally0 tally
-    → TellsVisit (TellsEntries telling) (IsToldOfRoot root out_root reports) OnlyReads (Entry path kind) before after out0 out tally0 tally
-visited_day telling root out_root reports path kind judgement before after out0 out tally0 tally day goes told =
-    visited telling (IsToldOfRoot root out_root reports) (Entry path kind) (record { path = path; judgement = judgement } ∷ [])
+    → TellsEntries asked (record { path = path; judgement = known_as asked.known path judgement } ∷ []) out0 out tally0 tally
+    → TellsVisit (TellsEntries asked) (IsToldOfRoot asked.known root out_root reports) OnlyReads (Entry path kind) before after out0 out tally0 tally
+visited_day asked root out_root reports path kind judgement before after out0 out tally0 tally day goes told =
+    visited asked (IsToldOfRoot asked.known root out_root reports) (Entry path kind) (record { path = path; judgement = known_as asked.known path judgement } ∷ [])
     (JudgesDay (day_places root out_root reports path) (Ok judgement)) before after out0 out tally0 tally
     (λ old new is. (is.looks, (judgement, refl, record { day = λ one. is.says; other = λ none. absurd (none day) }))) goes told
 
 -- what is no day
-pub visited_other : (telling : Telling) (root out_root reports path : Path) (kind : FileKind) (fault : SdsFault) (before : List Step → Type 0) (out0 out : Device) (tally0 tally : VerifyTally)
+pub visited_other : (asked : Verifying) (root out_root reports path : Path) (kind : FileKind) (fault : SdsFault) (before : List Step → Type 0) (out0 out : Device) (tally0 tally : VerifyTally)
     → ¬ (IsDay path) → IsNoDay path fault
-    → TellsEntries telling (record { path = path; judgement = other_judgement kind fault } ∷ []) out0 out tally0 tally
-    → TellsVisit (TellsEntries telling) (IsToldOfRoot root out_root reports) OnlyReads (Entry path kind) before before out0 out tally0 tally
-visited_other telling root out_root reports path kind fault before out0 out tally0 tally none is told =
-    visited_still telling (IsToldOfRoot root out_root reports) (Entry path kind) (record { path = path; judgement = other_judgement kind fault } ∷ [])
+    → TellsEntries asked (record { path = path; judgement = known_as asked.known path (other_judgement kind fault) } ∷ []) out0 out tally0 tally
+    → TellsVisit (TellsEntries asked) (IsToldOfRoot asked.known root out_root reports) OnlyReads (Entry path kind) before before out0 out tally0 tally
+visited_other asked root out_root reports path kind fault before out0 out tally0 tally none is told =
+    visited_still asked (IsToldOfRoot asked.known root out_root reports) (Entry path kind) (record { path = path; judgement = known_as asked.known path (other_judgement kind fault) } ∷ [])
     before out0 out tally0 tally
     (λ past. (other_judgement kind fault, refl, record { day = λ day. absurd (none day); other = λ no_day. (fault, is, refl) })) told
 
 -- what is no day among the records
-pub passed_other : (telling : Telling) (root out_root path : Path) (kind : FileKind) (before : List Step → Type 0) (out : Device) (tally : VerifyTally) → ¬ (IsDay path)
-    → TellsVisit (TellsEntries telling) (IsToldOfOut root out_root) OnlyReads (Entry path kind) before before out out tally tally
-passed_other telling root out_root path kind before out tally none =
-    visited_still telling (IsToldOfOut root out_root) (Entry path kind) [] before out out tally tally
-    (λ past. record { orphan = λ day. absurd (none day); other = λ no_day. refl }) (none_told_yet telling out tally)
+pub passed_other : (asked : Verifying) (root out_root path : Path) (kind : FileKind) (before : List Step → Type 0) (out : Device) (tally : VerifyTally) → ¬ (IsDay path)
+    → TellsVisit (TellsEntries asked) (IsToldOfOut asked.known root out_root) OnlyReads (Entry path kind) before before out out tally tally
+passed_other asked root out_root path kind before out tally none =
+    visited_still asked (IsToldOfOut asked.known root out_root) (Entry path kind) [] before out out tally tally
+    (λ past. record { orphan = λ day. absurd (none day); other = λ no_day. refl }) (none_told_yet asked out tally)
 
 -- a day of the records that the archive may have
-pub passed_day : (telling : Telling) (root out_root path : Path) (kind : FileKind) (before after : List Step → Type 0) (out : Device) (tally : VerifyTally) → IsDay path
+pub passed_day : (asked : Verifying) (root out_root path : Path) (kind : FileKind) (before after : List Step → Type 0) (out : Device) (tally : VerifyTally) → IsDay path
     → Goes before after (MayHave (joined root path) (Ok true))
-    → TellsVisit (TellsEntries telling) (IsToldOfOut root out_root) OnlyReads (Entry path kind) before after out out tally tally
-passed_day telling root out_root path kind before after out tally day goes =
-    visited telling (IsToldOfOut root out_root) (Entry path kind) [] (MayHave (joined root path) (Ok true)) before after out out tally tally
-    (λ old new is. (is.looks, record { orphan = λ one. inr (refl, is.yes refl); other = λ none. absurd (none day) })) goes (none_told_yet telling out tally)
+    → TellsVisit (TellsEntries asked) (IsToldOfOut asked.known root out_root) OnlyReads (Entry path kind) before after out out tally tally
+passed_day asked root out_root path kind before after out tally day goes =
+    visited asked (IsToldOfOut asked.known root out_root) (Entry path kind) [] (MayHave (joined root path) (Ok true)) before after out out tally tally
+    (λ old new is. (is.looks, record { orphan = λ one. inr (refl, is.yes refl); other = λ none. absurd (none day) })) goes (none_told_yet asked out tally)
 
 -- one that it does not have
-pub visited_orphan : (telling : Telling) (root out_root path : Path) (kind : FileKind) (before after : List Step → Type 0) (out0 out : Device) (tally0 tally : VerifyTally) → IsDay path
+pub visited_orphan : (asked : Verifying) (root out_root path : Path) (kind : FileKind) (before after : List Step → Type 0) (out0 out : Device) (tally0 tally : VerifyTally) → IsDay path
     → Goes before after (MayHave (joined root path) (Ok false))
-    → TellsEntries telling (record { path = path; judgement = Orphan } ∷ []) out0 out tally0 tally
-    → TellsVisit (TellsEntries telling) (IsToldOfOut root out_root) OnlyReads (Entry path kind) before after out0 out tally0 tally
-visited_orphan telling root out_root path kind before after out0 out tally0 tally day goes told =
-    visited telling (IsToldOfOut root out_root) (Entry path kind) (record { path = path; judgement = Orphan } ∷ []) (MayHave (joined root path) (Ok false))
+    → TellsEntries asked (record { path = path; judgement = Orphan } ∷ []) out0 out tally0 tally
+    → TellsVisit (TellsEntries asked) (IsToldOfOut asked.known root out_root) OnlyReads (Entry path kind) before after out0 out tally0 tally
+visited_orphan asked root out_root path kind before after out0 out tally0 tally day goes told =
+    visited asked (IsToldOfOut asked.known root out_root) (Entry path kind) (record { path = path; judgement = Orphan } ∷ []) (MayHave (joined root path) (Ok false))
     before after out0 out tally0 tally
     (λ old new is. (is.looks, record { orphan = λ one. inl (refl, is.no refl); other = λ none. absurd (none day) })) goes told
 
 -- a folder of the records that is not there
-pub passed_folder : (telling : Telling) (root out_root folder : Path) (before after : List Step → Type 0) (out : Device) (tally : VerifyTally)
+pub passed_folder : (asked : Verifying) (root out_root folder : Path) (before after : List Step → Type 0) (out : Device) (tally : VerifyTally)
     → Goes before after (MayHave (joined out_root folder) (Ok false))
-    → TellsVisit (TellsEntries telling) (IsToldOfOut root out_root) OnlyReads (WithoutList folder) before after out out tally tally
-passed_folder telling root out_root folder before after out tally goes =
-    visited telling (IsToldOfOut root out_root) (WithoutList folder) [] (MayHave (joined out_root folder) (Ok false)) before after out out tally tally
-    (λ old new is. (is.looks, inr (refl, is.no refl))) goes (none_told_yet telling out tally)
+    → TellsVisit (TellsEntries asked) (IsToldOfOut asked.known root out_root) OnlyReads (WithoutList folder) before after out out tally tally
+passed_folder asked root out_root folder before after out tally goes =
+    visited asked (IsToldOfOut asked.known root out_root) (WithoutList folder) [] (MayHave (joined out_root folder) (Ok false)) before after out out tally tally
+    (λ old new is. (is.looks, inr (refl, is.no refl))) goes (none_told_yet asked out tally)
 
 -- one that may be there
-pub visited_records : (telling : Telling) (root out_root folder : Path) (before after : List Step → Type 0) (out0 out : Device) (tally0 tally : VerifyTally)
+pub visited_records : (asked : Verifying) (root out_root folder : Path) (before after : List Step → Type 0) (out0 out : Device) (tally0 tally : VerifyTally)
     → Goes before after (MayHave (joined out_root folder) (Ok true))
-    → TellsEntries telling (record { path = told_folder folder; judgement = Refused RecordsListing } ∷ []) out0 out tally0 tally
-    → TellsVisit (TellsEntries telling) (IsToldOfOut root out_root) OnlyReads (WithoutList folder) before after out0 out tally0 tally
-visited_records telling root out_root folder before after out0 out tally0 tally goes told =
-    visited telling (IsToldOfOut root out_root) (WithoutList folder) (record { path = told_folder folder; judgement = Refused RecordsListing } ∷ [])
+    → TellsEntries asked (record { path = told_folder folder; judgement = known_as asked.known (told_folder folder) (Refused RecordsListing) } ∷ []) out0 out tally0 tally
+    → TellsVisit (TellsEntries asked) (IsToldOfOut asked.known root out_root) OnlyReads (WithoutList folder) before after out0 out tally0 tally
+visited_records asked root out_root folder before after out0 out tally0 tally goes told =
+    visited asked (IsToldOfOut asked.known root out_root) (WithoutList folder) (record { path = told_folder folder; judgement = known_as asked.known (told_folder folder) (Refused RecordsListing) } ∷ [])
     (MayHave (joined out_root folder) (Ok true)) before after out0 out tally0 tally
     (λ old new is. (is.looks, inl refl)) goes told

@@ -8,7 +8,7 @@ use Rattle.msr_verify.specs.declared.judging.Finding.{Finding}
 use Rattle.msr_verify.specs.declared.judging.Finding.TheVariants as finding
 use Rattle.msr_verify.specs.declared.judging.VerifyFault.{VerifyFault}
 use Rattle.msr_verify.specs.declared.judgement.Judgement.{Judgement}
-use Rattle.msr_verify.specs.declared.judgement.Judgement.TheVariants.{Verified, InPlace, Missing, NotShown, Differs, Refused, Skipped, Orphan}
+use Rattle.msr_verify.specs.declared.judgement.Judgement.TheVariants.{Verified, InPlace, Missing, NotShown, Differs, Refused, Skipped, Orphan, Known, KnownMissing}
 use Rattle.msr_verify.specs.declared.judgement.Refusal.TheVariants.{FileUnopened, Listing, RecordsListing, Day}
 use Rattle.msr_verify.specs.declared.tally.VerifyTally.{VerifyTally}
 
@@ -69,9 +69,6 @@ IsJudgementOf path (Refused RecordsListing) = ⊤
 IsJudgementOf path (Skipped fault) = IsNoDay path fault
 IsJudgementOf path judgement = IsFoundOfDay path judgement
 
-abbrev pub IsJudgedEntry : JudgedEntry → Type 0
-IsJudgedEntry entry = IsJudgementOf entry.path entry.judgement
-
 -- verified, or in place
 abbrev pub is_verified : Judgement → Bool
 is_verified Verified = true
@@ -102,11 +99,19 @@ abbrev pub is_orphan : Judgement → Bool
 is_orphan Orphan = true
 is_orphan _ = false
 
--- neither that nor skipped
+-- refused or missing, and a line that is known tells that
+abbrev pub is_known : Judgement → Bool
+is_known (Known refusal) = true
+is_known KnownMissing = true
+is_known _ = false
+
+-- neither that nor verified, in place or skipped
 abbrev pub is_unverified : Judgement → Bool
 is_unverified Verified = false
 is_unverified InPlace = false
 is_unverified (Skipped fault) = false
+is_unverified (Known refusal) = false
+is_unverified KnownMissing = false
 is_unverified _ = true
 
 -- how many entries have such a judgement, or 2^64 - 1 if they are more
@@ -119,6 +124,7 @@ verify_tally_of entries = record {
   verified = judged_count is_verified entries;
   skipped = judged_count is_judged_skipped entries;
   refused = judged_count is_judged_refused entries;
+  known = judged_count is_known entries;
   missing = judged_count is_missing entries;
   not_shown = judged_count is_not_shown entries;
   differ = judged_count is_different entries;
@@ -131,6 +137,7 @@ pub record IsVerifyTally (entries : List JudgedEntry) (tally : VerifyTally) : Ty
   pub verified : tally.verified ≡ judged_count is_verified entries
   pub skipped : tally.skipped ≡ judged_count is_judged_skipped entries
   pub refused : tally.refused ≡ judged_count is_judged_refused entries
+  pub known : tally.known ≡ judged_count is_known entries
   pub missing : tally.missing ≡ judged_count is_missing entries
   pub not_shown : tally.not_shown ≡ judged_count is_not_shown entries
   pub differ : tally.differ ≡ judged_count is_different entries

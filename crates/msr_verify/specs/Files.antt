@@ -13,12 +13,14 @@ use Rattle.msr_folders.specs.Days.{IsDay, IsNoDay}
 use Rattle.msr_folders.specs.Entries.{AreEntriesOf, Entry, ForEach, Visit, WithoutList, unlisted_in}
 use Rattle.msr_folders.specs.Paths.{ended, joined, told_folder}
 use Rattle.msr_verify.specs.Day.{DayAnswers, IsCut, IsShownLeast}
+use Rattle.msr_options.specs.declared.known.Known.{Known as Asked}
 use Rattle.msr_verify.specs.Entries.{JudgedEntry}
+use Rattle.msr_verify.specs.Known.{known_as}
 use Rattle.msr_verify.specs.declared.judging.Finding.{Finding}
 use Rattle.msr_verify.specs.declared.judging.Finding.TheVariants as finding
 use Rattle.msr_verify.specs.declared.judging.VerifyFault.{VerifyFault}
 use Rattle.msr_verify.specs.declared.judgement.Judgement.{Judgement}
-use Rattle.msr_verify.specs.declared.judgement.Judgement.TheVariants.{Verified, InPlace, Missing, NotShown, Differs, Refused, Skipped, Orphan}
+use Rattle.msr_verify.specs.declared.judgement.Judgement.TheVariants.{Verified, InPlace, Missing, NotShown, Differs, Refused, Skipped, Orphan, Known, KnownMissing}
 use Rattle.msr_verify.specs.declared.judgement.Refusal.TheVariants.{FileUnopened, RecordsUnopened, ReportUnopened, SameFile, Listing, RecordsListing, Day}
 
 -- Where the files of a day stand.
@@ -79,6 +81,8 @@ IsJudgementThere places (Refused Listing) old new = ⊥
 IsJudgementThere places (Refused RecordsListing) old new = ⊥
 IsJudgementThere places (Skipped fault) old new = ⊥
 IsJudgementThere places Orphan old new = ⊥
+IsJudgementThere places (Known refusal) old new = ⊥
+IsJudgementThere places KnownMissing old new = ⊥
 
 -- what is answered of a day
 pub record JudgesDay (places : DayPlaces) (result : Result Judgement DeviceFault) (old new : List Step) : Type 0 where
@@ -95,12 +99,13 @@ pub record IsToldOfEntry (places : DayPlaces) (path : Path) (kind : FileKind) (j
   pub day : IsDay path → IsJudgementThere places judgement old new
   pub other : (¬ (IsDay path)) → (fault : SdsFault) × IsNoDay path fault × (judgement ≡ other_judgement kind fault)
 
--- the one entry that is told of a visit of the archive
-abbrev pub IsToldOfRoot : (root out reports : Path) → (old new : List Step) → Visit → List JudgedEntry → Type 0
-IsToldOfRoot root out reports old new (Entry path kind) entries = (judgement : Judgement)
-    × (entries ≡ record { path = path; judgement = judgement } ∷ []) × IsToldOfEntry (day_places root out reports path) path kind judgement old new
-IsToldOfRoot root out reports old new (WithoutList folder) entries =
-    entries ≡ record { path = told_folder folder; judgement = Refused Listing } ∷ []
+-- the one entry that is told of a visit of the archive, as known if it is
+abbrev pub IsToldOfRoot : Asked → (root out reports : Path) → (old new : List Step) → Visit → List JudgedEntry → Type 0
+IsToldOfRoot asked root out reports old new (Entry path kind) entries = (judgement : Judgement)
+    × (entries ≡ record { path = path; judgement = known_as asked path judgement } ∷ [])
+    × IsToldOfEntry (day_places root out reports path) path kind judgement old new
+IsToldOfRoot asked root out reports old new (WithoutList folder) entries =
+    entries ≡ record { path = told_folder folder; judgement = known_as asked (told_folder folder) (Refused Listing) } ∷ []
 
 -- Of a visit of the records it is told if it is a day that the archive does not have, or a folder that is there.
 pub record IsToldOfRecord (root path : Path) (entries : List JudgedEntry) (old new : List Step) : Type 0 where
@@ -108,19 +113,19 @@ pub record IsToldOfRecord (root path : Path) (entries : List JudgedEntry) (old n
       ⊎ ((entries ≡ []) × ((is_there old (joined root path) ≡ true) ⊎ (failures old < failures new)))
   pub other : (¬ (IsDay path)) → entries ≡ []
 
-abbrev pub IsToldOfOut : (root out : Path) → (old new : List Step) → Visit → List JudgedEntry → Type 0
-IsToldOfOut root out old new (Entry path kind) entries = IsToldOfRecord root path entries old new
-IsToldOfOut root out old new (WithoutList folder) entries =
-    (entries ≡ record { path = told_folder folder; judgement = Refused RecordsListing } ∷ [])
+abbrev pub IsToldOfOut : Asked → (root out : Path) → (old new : List Step) → Visit → List JudgedEntry → Type 0
+IsToldOfOut asked root out old new (Entry path kind) entries = IsToldOfRecord root path entries old new
+IsToldOfOut asked root out old new (WithoutList folder) entries =
+    (entries ≡ record { path = told_folder folder; judgement = known_as asked (told_folder folder) (Refused RecordsListing) } ∷ [])
     ⊎ ((entries ≡ []) × (is_there old (joined out folder) ≡ false))
 
 -- What was told of an archive, and of its records: of each entry, in order. Nothing was changed.
-pub record IsArchiveVerified (root out reports : Path) (below : List (Bor Path)) (entries orphans : List JudgedEntry) (old new : List Step) : Type 0 where
+pub record IsArchiveVerified (asked : Asked) (root out reports : Path) (below : List (Bor Path)) (entries orphans : List JudgedEntry) (old new : List Step) : Type 0 where
   pub visits : List Visit
   pub are : AreEntriesOf old root below visits
-  pub told : ForEach (IsToldOfRoot root out reports old new) visits entries
+  pub told : ForEach (IsToldOfRoot asked root out reports old new) visits entries
   pub records : List Visit
   pub are_records : AreEntriesOf old out below records
-  pub told_records : ForEach (IsToldOfOut root out old new) records orphans
+  pub told_records : ForEach (IsToldOfOut asked root out old new) records orphans
   pub unlisted : unlisted_after new ≡ unlisted_after old ++ (unlisted_in root visits ++ unlisted_in out records)
   pub reads : OnlyReads old new

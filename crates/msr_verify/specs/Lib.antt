@@ -2,7 +2,9 @@ pub mod Day
 pub mod Entries
 pub mod Exact
 pub mod Files
+pub mod Known
 pub mod Laws
 pub mod Lines
 pub mod Opening
 pub mod Walk
+pub mod VisitorLaws

@@ -18,75 +18,67 @@ use msr_tree::Tree;
 use std::alloc::Global;
 
 /// Tells of each entry of the archive.
-fn walk_archive<T: Tree, O: Sink>(
+fn walk_archive<'a, T: Tree, O: Sink>(
     tree: &mut T,
     alloc: Global,
-    archive: &Verifying<'_>,
+    archive: &'a Verifying<'a>,
     out: &mut O,
     tally: &mut VerifyTally,
 ) -> Result<(), DeviceFault>
     requires { CanCountCall (O.device out.old) }
-    ensures told { OnOk result (TellsWalk (TellsEntries archive.now.telling)
-        (IsToldOfRoot archive.now.folders.root.now archive.now.folders.out.now archive.now.folders.reports.now) OnlyReads
+    ensures told { OnOk result (TellsWalk (TellsEntries archive.now)
+        (IsToldOfRoot archive.now.known archive.now.folders.root.now archive.now.folders.out.now archive.now.folders.reports.now) OnlyReads
         archive.now.folders.root.now (λ past. AreEntriesOf past archive.now.folders.root.now archive.now.below.items)
         (T.went tree.old) (T.went tree.new) (O.device out.old) (O.device out.new) tally.old tally.new) }
-    ensures stops { IfErr result (StopsTellingJudged archive.now.telling (O.device out.old) (O.device out.new)) }
+    ensures stops { IfErr result (StopsTellingJudged archive.now (O.device out.old) (O.device out.new)) }
     ensures reads { Goes (T.went tree.old) (T.went tree.new) OnlyReads }
 {
     let walk = EntryWalk {
         alloc,
         root: archive.folders.root,
         below: archive.below.as_slice(),
-        visitor: &Judging {
-            alloc,
-            folders: archive.folders,
-            telling: archive.telling,
-        },
+        visitor: &Judging { alloc, archive },
     };
     visit_entries(&walk, tree, out, tally)
 }
 
 /// Tells of the days of the records that the archive does not have.
-fn walk_records<T: Tree, O: Sink>(
+fn walk_records<'a, T: Tree, O: Sink>(
     tree: &mut T,
     alloc: Global,
-    archive: &Verifying<'_>,
+    archive: &'a Verifying<'a>,
     out: &mut O,
     tally: &mut VerifyTally,
 ) -> Result<(), DeviceFault>
     requires { CanCountCall (O.device out.old) }
-    ensures told { OnOk result (TellsWalk (TellsEntries archive.now.telling)
-        (IsToldOfOut archive.now.folders.root.now archive.now.folders.out.now) OnlyReads
+    ensures told { OnOk result (TellsWalk (TellsEntries archive.now)
+        (IsToldOfOut archive.now.known archive.now.folders.root.now archive.now.folders.out.now) OnlyReads
         archive.now.folders.out.now (λ past. AreEntriesOf past archive.now.folders.out.now archive.now.below.items)
         (T.went tree.old) (T.went tree.new) (O.device out.old) (O.device out.new) tally.old tally.new) }
-    ensures stops { IfErr result (StopsTellingJudged archive.now.telling (O.device out.old) (O.device out.new)) }
+    ensures stops { IfErr result (StopsTellingJudged archive.now (O.device out.old) (O.device out.new)) }
     ensures reads { Goes (T.went tree.old) (T.went tree.new) OnlyReads }
 {
     let walk = EntryWalk {
         alloc,
         root: archive.folders.out,
         below: archive.below.as_slice(),
-        visitor: &Searching {
-            alloc,
-            folders: archive.folders,
-            telling: archive.telling,
-        },
+        visitor: &Searching { alloc, archive },
     };
     visit_entries(&walk, tree, out, tally)
 }
 
 /// Tells of the archive, and then of its records.
-fn walk_both<T: Tree, O: Sink>(
+fn walk_both<'a, T: Tree, O: Sink>(
     tree: &mut T,
     alloc: Global,
-    archive: &Verifying<'_>,
+    archive: &'a Verifying<'a>,
     out: &mut O,
     tally: &mut VerifyTally,
 ) -> Result<(), DeviceFault>
     requires { CanCountCall (O.device out.old) }
     ensures told { OnOk result (TellsArchive archive.now (T.went tree.old) (T.went tree.new)
         (O.device out.old) (O.device out.new) tally.old tally.new) }
-    ensures stops { IfErr result (StopsTellingJudged archive.now.telling (O.device out.old) (O.device out.new)) }
+    ensures stops { IfErr result (StopsTellingJudged archive.now (O.device out.old) (O.device out.new)) }
     ensures reads { Goes (T.went tree.old) (T.went tree.new) OnlyReads }
 {
     walk_archive(tree, alloc, archive, out, tally)?;
@@ -94,15 +86,15 @@ fn walk_both<T: Tree, O: Sink>(
 }
 
 /// Walks the archive, or the folders of it that are asked for, and then the same folders of its records, and tells
-/// whether there is anything but days that are verified and what is skipped, and whether there is a day.
-pub fn verify<T: Tree, O: Sink>(
+/// whether there is anything but days that are verified and what is skipped or known, and whether there is a day.
+pub fn verify<'a, T: Tree, O: Sink>(
     tree: &mut T,
     alloc: Global,
-    archive: &Verifying<'_>,
+    archive: &'a Verifying<'a>,
     out: &mut O,
 ) -> Result<WalkFound, ToolFault>
     requires { CanCountCall (O.device out.old) }
-    ensures answer { Verifies archive.now.telling (O.device out.old) (O.device out.new) result }
+    ensures answer { Verifies archive.now (O.device out.old) (O.device out.new) result }
 
     // A failure of the sink is answered as such, and nothing else is.
     ensures write { IsErrOf result ToolFault.Write ↔ HasFailed (O.device out.old) (O.device out.new) }
@@ -116,6 +108,7 @@ pub fn verify<T: Tree, O: Sink>(
 {
     let mut tally = VerifyTally::new();
     walk_both(tree, alloc, archive, out, &mut tally)?;
-    tally.write(alloc, archive.telling.form, out)?;
-    Ok(WalkFound::of(tally.unverified, tally.verified))
+    tally.write(alloc, archive, out)?;
+    let well = tally.verified.saturating_add(tally.known);
+    Ok(WalkFound::of(tally.unverified, well))
 }

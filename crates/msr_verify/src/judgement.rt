@@ -2,12 +2,13 @@
 ghost use Rattle.std.specs.Prelude.{◌≡◌, ◌↔◌, IfOk, IsTrue};
 ghost use Rattle.std.specs.String.{string_bytes};
 ghost use Rattle.msr_verify.specs.Entries.{is_unverified, judgement_alone, judgement_of};
-ghost use Rattle.msr_verify.specs.Lines.{IsJudgementJson, IsJudgementLine, IsOfSystem, IsReasonJson, IsToldLine, place_json, refusal_json, side_json, what_text, why_json, why_text, words_line};
+ghost use Rattle.msr_verify.specs.Known.{known_as, refusal_line};
+ghost use Rattle.msr_verify.specs.Lines.{IsJudgementJson, IsJudgementLine, IsOfSystem, IsReasonJson, IsRefusalOfSystem, IsToldLine, place_json, refusal_json, refused_before, side_json, text_missing, what_text, why_json, why_text, words_line};
 
 use crate::judging::{Finding, VerifyFault};
 use msr_folders::{JsonText, Shown, fault_json, reason_json, skip_text};
 use msr_input::ReadFault;
-use msr_options::{ListForm, Telling};
+use msr_options::{Known, ListForm, Verifying};
 use msr_sds::SdsFault;
 use std::alloc::{AllocError, Global};
 use std::{fmt, io};
@@ -84,7 +85,7 @@ impl Refusal {
 
     /// Whether a call of the system has failed.
     fn is_of_system(self) -> bool
-        ensures { IsTrue result ↔ IsOfSystem (Judgement.Refused self) }
+        ensures { IsTrue result ↔ IsRefusalOfSystem self }
     {
         match self {
             Refusal::FileUnopened
@@ -127,6 +128,34 @@ pub(crate) enum Judgement {
     Skipped(SdsFault),
     /// Records of a day that the archive does not have.
     Orphan,
+    /// It is refused, by a line that is known.
+    Known(Refusal),
+    /// It is missing, and a line that is known tells that it was refused.
+    KnownMissing,
+}
+
+/// How a line begins that tells that the entry with this path was refused.
+fn refused_before(alloc: Global, path: &str) -> Result<String, AllocError>
+    ensures { IfOk result (λ text. string_bytes text ≡ refused_before path.now) }
+{
+    let shown = Shown { path };
+    format!(in alloc; "refused {shown}: ")
+}
+
+/// The line in words, without its line feed, of the entry with this path that is refused so.
+fn refusal_line(alloc: Global, path: &str, refusal: Refusal) -> Result<String, AllocError>
+    ensures { IfOk result (λ line. string_bytes line ≡ refusal_line path.now refusal) }
+{
+    let shown = Shown { path };
+    format!(in alloc; "refused {shown}: {refusal}")
+}
+
+/// Why a missing day was refused, as a line that is known tells it.
+fn text_missing(alloc: Global, known: Known<'_>, path: &str) -> Result<String, AllocError>
+    ensures { IfOk result (λ text. string_bytes text ≡ text_missing known.entry path.now) }
+{
+    let before = refused_before(alloc, path)?;
+    String::from_str(alloc, known.after(before.as_str()).unwrap_or(""))
 }
 
 /// What is told of a day with this answer.
@@ -166,36 +195,50 @@ impl Judgement {
             Judgement::Refused(_) => "refused",
             Judgement::Skipped(_) => "skipped",
             Judgement::Orphan => "orphan",
+            Judgement::Known(_) | Judgement::KnownMissing => "known",
         }
     }
 
     /// What stands after the path.
-    fn why(self, alloc: Global) -> Result<String, AllocError>
-        ensures { IfOk result (λ text. string_bytes text ≡ why_text self) }
+    fn why(self, alloc: Global, known: Known<'_>, path: &str) -> Result<String, AllocError>
+        ensures { IfOk result (λ text. string_bytes text ≡ why_text known.entry path.now self) }
     {
         match self {
-            Judgement::Refused(refusal) => format!(in alloc; ": {refusal}"),
+            Judgement::Refused(refusal) | Judgement::Known(refusal) => {
+                format!(in alloc; ": {refusal}")
+            }
+            Judgement::KnownMissing => {
+                let text = text_missing(alloc, known, path)?;
+                format!(in alloc; ": {text}")
+            }
             Judgement::Skipped(fault) => format!(in alloc; ": {}", skip_text(fault)),
             _ => Ok(String::new(alloc)),
         }
     }
 
     /// The line in words.
-    fn words(self, alloc: Global, path: &str) -> Result<String, AllocError>
-        ensures { IfOk result (λ line. string_bytes line ≡ words_line path.now self) }
+    fn words(self, alloc: Global, known: Known<'_>, path: &str) -> Result<String, AllocError>
+        ensures { IfOk result (λ line. string_bytes line ≡ words_line known.entry path.now self) }
     {
         let what = self.what();
-        let why = self.why(alloc)?;
+        let why = self.why(alloc, known, path)?;
         let shown = Shown { path };
         format!(in alloc; "{what} {shown}{why}\n")
     }
 
     /// The members of JSON that tell why.
-    fn why_json(self, alloc: Global) -> Result<String, AllocError>
-        ensures { IfOk result (λ text. string_bytes text ≡ why_json self) }
+    fn why_json(self, alloc: Global, known: Known<'_>, path: &str) -> Result<String, AllocError>
+        ensures { IfOk result (λ text. string_bytes text ≡ why_json known.entry path.now self) }
     {
         match self {
-            Judgement::Refused(refusal) => refusal.json(alloc),
+            Judgement::Refused(refusal) | Judgement::Known(refusal) => refusal.json(alloc),
+            Judgement::KnownMissing => {
+                let text = text_missing(alloc, known, path)?;
+                let text = JsonText {
+                    text: text.as_str(),
+                };
+                format!(in alloc; ",\"text\":\"{text}\"")
+            }
             Judgement::Skipped(fault) => {
                 let text = JsonText {
                     text: skip_text(fault),
@@ -211,7 +254,7 @@ impl Judgement {
         ensures { IsTrue result ↔ IsOfSystem self }
     {
         match self {
-            Judgement::Refused(refusal) => refusal.is_of_system(),
+            Judgement::Refused(refusal) | Judgement::Known(refusal) => refusal.is_of_system(),
             _ => false,
         }
     }
@@ -230,13 +273,14 @@ impl Judgement {
     fn json(
         self,
         alloc: Global,
+        known: Known<'_>,
         path: &str,
         reason: Option<io::Error>,
     ) -> Result<String, AllocError>
-        ensures { IfOk result (λ line. IsJudgementJson path.now self (string_bytes line)) }
+        ensures { IfOk result (λ line. IsJudgementJson known.entry path.now self (string_bytes line)) }
     {
         let what = self.what();
-        let why = self.why_json(alloc)?;
+        let why = self.why_json(alloc, known, path)?;
         let reason = self.reason_json(alloc, reason)?;
         let shown = JsonText { text: path };
         format!(in alloc; "{{\"what\":\"{what}\",\"path\":\"{shown}\"{why}{reason}}}\n")
@@ -246,15 +290,15 @@ impl Judgement {
     fn line(
         self,
         alloc: Global,
-        form: ListForm,
+        asked: &Verifying<'_>,
         path: &str,
         reason: Option<io::Error>,
     ) -> Result<String, AllocError>
-        ensures { IfOk result (λ line. IsJudgementLine form path.now self (string_bytes line)) }
+        ensures { IfOk result (λ line. IsJudgementLine asked.now.telling.form asked.now.known path.now self (string_bytes line)) }
     {
-        match form {
-            ListForm::Words => self.words(alloc, path),
-            ListForm::Json => self.json(alloc, path, reason),
+        match asked.telling.form {
+            ListForm::Words => self.words(alloc, asked.known, path),
+            ListForm::Json => self.json(alloc, asked.known, path, reason),
         }
     }
 
@@ -264,24 +308,61 @@ impl Judgement {
     {
         !matches!(
             self,
-            Judgement::Verified | Judgement::InPlace | Judgement::Skipped(_)
+            Judgement::Verified
+                | Judgement::InPlace
+                | Judgement::Skipped(_)
+                | Judgement::Known(_)
+                | Judgement::KnownMissing
         )
+    }
+
+    /// The same, or that it is known if a line is that tells of a refusal.
+    pub(crate) fn known_as(
+        self,
+        alloc: Global,
+        known: Known<'_>,
+        path: &str,
+    ) -> Result<Judgement, AllocError>
+        ensures { IfOk result (λ judgement. judgement ≡ known_as known.entry path.now self) }
+    {
+        if !known.is_asked() {
+            return Ok(self);
+        }
+        match self {
+            Judgement::Refused(refusal) => {
+                let line = refusal_line(alloc, path, refusal)?;
+                if known.has(line.as_str()) {
+                    Ok(Judgement::Known(refusal))
+                } else {
+                    Ok(self)
+                }
+            }
+            Judgement::Missing => {
+                let before = refused_before(alloc, path)?;
+                if known.after(before.as_str()).is_some() {
+                    Ok(Judgement::KnownMissing)
+                } else {
+                    Ok(self)
+                }
+            }
+            _ => Ok(self),
+        }
     }
 
     /// What is printed of the entry with this path: its line, or nothing if it is left out.
     pub(crate) fn told(
         self,
         alloc: Global,
-        telling: Telling,
+        asked: &Verifying<'_>,
         path: &str,
         reason: Option<io::Error>,
     ) -> Result<String, AllocError>
         ensures { IfOk result (λ line.
-            IsToldLine telling (record { path = path.now; judgement = self }) (string_bytes line)) }
+            IsToldLine asked.now (record { path = path.now; judgement = self }) (string_bytes line)) }
     {
-        if telling.quiet && !self.is_unverified() {
+        if asked.telling.quiet && !self.is_unverified() {
             return Ok(String::new(alloc));
         }
-        self.line(alloc, telling.form, path, reason)
+        self.line(alloc, asked, path, reason)
     }
 }

@@ -4,20 +4,21 @@ ghost use Rattle.std.specs.String.{string_bytes};
 ghost use Rattle.msr_devices.specs.Device.{CanCountCall, IsCalm, Takes};
 ghost use Rattle.msr_folders.specs.Visits.{StopsPrefix};
 ghost use Rattle.msr_verify.specs.Entries.{IsVerifyTally, JudgedEntry};
-ghost use Rattle.msr_verify.specs.Walk.{judged_json, judged_line, judged_end, others_json, others_told};
+ghost use Rattle.msr_verify.specs.Walk.{judged_json, judged_line, judged_end, known_json, known_told, others_json, others_told};
 
 use crate::judgement::Judgement;
 use msr_devices::{DeviceFault, Sink, write_all};
-use msr_options::ListForm;
+use msr_options::{Known, ListForm, Verifying};
 use std::alloc::{AllocError, Global};
 
 /// How many entries had each judgement, days in place with those that are verified, and how many were neither these nor
-/// skipped.
+/// skipped or known.
 #[derive(Clone, Copy, Default)]
 pub(crate) struct VerifyTally {
     pub verified: u64,
     pub skipped: u64,
     pub refused: u64,
+    pub known: u64,
     pub missing: u64,
     pub not_shown: u64,
     pub differ: u64,
@@ -47,6 +48,10 @@ impl VerifyTally {
                 self.skipped = self.skipped.saturating_add(1);
                 return;
             }
+            Judgement::Known(_) | Judgement::KnownMissing => {
+                self.known = self.known.saturating_add(1);
+                return;
+            }
             Judgement::Missing => self.missing = self.missing.saturating_add(1),
             Judgement::NotShown => self.not_shown = self.not_shown.saturating_add(1),
             Judgement::Differs => self.differ = self.differ.saturating_add(1),
@@ -65,44 +70,66 @@ impl VerifyTally {
         format!(in alloc; " missing {missing} notshown {unshown} differs {differ} orphan {orphans}")
     }
 
+    /// How many are known, if that is asked for.
+    fn known_told(self, alloc: Global, told: bool) -> Result<String, AllocError>
+        ensures { IfOk result (λ text. string_bytes text ≡ known_told told self) }
+    {
+        if !told {
+            return Ok(String::new(alloc));
+        }
+        format!(in alloc; " known {}", self.known)
+    }
+
+    /// The member of JSON that tells it.
+    fn known_json(self, alloc: Global, told: bool) -> Result<String, AllocError>
+        ensures { IfOk result (λ text. string_bytes text ≡ known_json told self) }
+    {
+        if !told {
+            return Ok(String::new(alloc));
+        }
+        format!(in alloc; ",\"known\":{}", self.known)
+    }
+
     /// The last line in words.
-    fn words(self, alloc: Global) -> Result<String, AllocError>
-        ensures { IfOk result (λ line. string_bytes line ≡ judged_line self) }
+    fn words(self, alloc: Global, known: Known<'_>) -> Result<String, AllocError>
+        ensures { IfOk result (λ line. string_bytes line ≡ judged_line known.entry self) }
     {
         let (files, skipped, refused) = (self.verified, self.skipped, self.refused);
+        let known = self.known_told(alloc, known.is_asked())?;
         let others = self.others(alloc)?;
-        format!(in alloc; "files {files} skipped {skipped} refused {refused}{others}\n")
+        format!(in alloc; "files {files} skipped {skipped} refused {refused}{known}{others}\n")
     }
 
     /// The last members of the last line in JSON.
-    fn others_json(self, alloc: Global) -> Result<String, AllocError>
-        ensures { IfOk result (λ text. string_bytes text ≡ others_json self) }
+    fn others_json(self, alloc: Global, told: bool) -> Result<String, AllocError>
+        ensures { IfOk result (λ text. string_bytes text ≡ others_json told self) }
     {
+        let known = self.known_json(alloc, told)?;
         let (missing, unshown) = (self.missing, self.not_shown);
         let (differ, orphans) = (self.differ, self.orphans);
         format!(in alloc;
-            ",\"missing\":{missing},\"notshown\":{unshown},\"differs\":{differ},\"orphan\":{orphans}"
+            "{known},\"missing\":{missing},\"notshown\":{unshown},\"differs\":{differ},\"orphan\":{orphans}"
         )
     }
 
     /// The last line in JSON.
-    fn json(self, alloc: Global) -> Result<String, AllocError>
-        ensures { IfOk result (λ line. string_bytes line ≡ judged_json self) }
+    fn json(self, alloc: Global, known: Known<'_>) -> Result<String, AllocError>
+        ensures { IfOk result (λ line. string_bytes line ≡ judged_json known.entry self) }
     {
         let (files, skipped, refused) = (self.verified, self.skipped, self.refused);
-        let others = self.others_json(alloc)?;
+        let others = self.others_json(alloc, known.is_asked())?;
         format!(in alloc;
             "{{\"what\":\"files\",\"files\":{files},\"skipped\":{skipped},\"refused\":{refused}{others}}}\n"
         )
     }
 
     /// The last line.
-    fn line(self, alloc: Global, form: ListForm) -> Result<String, AllocError>
-        ensures { IfOk result (λ line. string_bytes line ≡ judged_end form self) }
+    fn line(self, alloc: Global, asked: &Verifying<'_>) -> Result<String, AllocError>
+        ensures { IfOk result (λ line. string_bytes line ≡ judged_end asked.now self) }
     {
-        match form {
-            ListForm::Words => self.words(alloc),
-            ListForm::Json => self.json(alloc),
+        match asked.telling.form {
+            ListForm::Words => self.words(alloc, asked.known),
+            ListForm::Json => self.json(alloc, asked.known),
         }
     }
 
@@ -110,15 +137,15 @@ impl VerifyTally {
     pub(crate) fn write<O: Sink>(
         self,
         alloc: Global,
-        form: ListForm,
+        asked: &Verifying<'_>,
         out: &mut O,
     ) -> Result<(), DeviceFault>
         requires { CanCountCall (O.device out.old) }
-        ensures all { OnOk result (Takes (O.device out.old) (O.device out.new) (judged_end form self)) }
+        ensures all { OnOk result (Takes (O.device out.old) (O.device out.new) (judged_end asked.now self)) }
         ensures calm { OnOk result (IsCalm (O.device out.old) (O.device out.new)) }
-        ensures stops { IfErr result (StopsPrefix (O.device out.old) (O.device out.new) (judged_end form self)) }
+        ensures stops { IfErr result (StopsPrefix (O.device out.old) (O.device out.new) (judged_end asked.now self)) }
     {
-        let line = self.line(alloc, form)?;
+        let line = self.line(alloc, asked)?;
         write_all(out, line.as_bytes())?;
         Ok(())
     }

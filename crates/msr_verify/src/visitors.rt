@@ -1,12 +1,13 @@
 //! What is told of an entry of the archive, and of one of its records.
 ghost use Rattle.std.specs.Prelude.{◌≡◌, ◌∷◌, [], IfErr, OnOk};
 ghost use Rattle.msr_devices.specs.Device.{CanCountCall};
-ghost use Rattle.msr_folders.proofs.ReadingLemmas.{none_holds, reading_laws};
+ghost use Rattle.msr_folders.proofs.ReadingLemmas.{none_holds};
 ghost use Rattle.msr_sds.specs.declared.SdsFault.{SdsFault};
 ghost use Rattle.msr_tree.specs.Reads.{OnlyReads};
-ghost use Rattle.msr_verify.specs.Entries.{IsJudgedEntry, IsJudgementOf, IsVerifyTally, JudgedEntry};
+ghost use Rattle.msr_verify.specs.VisitorLaws.{judged_laws};
+ghost use Rattle.msr_verify.specs.Entries.{IsJudgementOf, JudgedEntry};
 ghost use Rattle.msr_verify.specs.Files.{IsToldOfOut, IsToldOfRoot, other_judgement};
-ghost use Rattle.msr_verify.specs.Lines.{IsToldLine};
+ghost use Rattle.msr_verify.specs.Known.{known_as};
 ghost use Rattle.msr_verify.specs.Walk.{StopsTellingJudged, TellsEntries};
 
 use crate::day::{judge_day, may_have};
@@ -14,17 +15,17 @@ use crate::judgement::{Judgement, Refusal};
 use crate::tally::VerifyTally;
 use msr_devices::{DeviceFault, Sink, write_all};
 use msr_folders::{EntryVisitor, join, told_folder};
-use msr_options::{Folders, Telling};
+use msr_options::Verifying;
 use msr_sds::{SdsFault, SdsName};
 use msr_tree::{FileKind, Tree};
 use std::alloc::{AllocError, Global};
 use std::io;
 
-/// Prints the line of an entry, unless it is left out, and counts it. The reason is that of the call of the system that
+/// Prints the line of an entry, as known if it is, unless it is left out, and counts it. The reason is that of the call of the system that
 /// failed, if one did.
 fn tell<O: Sink>(
     alloc: Global,
-    telling: Telling,
+    archive: &Verifying<'_>,
     path: &str,
     judgement: Judgement,
     reason: Option<io::Error>,
@@ -32,12 +33,13 @@ fn tell<O: Sink>(
     tally: &mut VerifyTally,
 ) -> Result<(), DeviceFault>
     requires { CanCountCall (O.device out.old) }
-    ensures told { IsJudgementOf path.now judgement → OnOk result (TellsEntries telling
-        (record { path = path.now; judgement = judgement } ∷ []) (O.device out.old) (O.device out.new) tally.old tally.new) }
+    ensures told { IsJudgementOf path.now judgement → OnOk result (TellsEntries archive.now
+        (record { path = path.now; judgement = known_as archive.now.known path.now judgement } ∷ []) (O.device out.old) (O.device out.new) tally.old tally.new) }
     ensures stops { IsJudgementOf path.now judgement →
-        IfErr result (StopsTellingJudged telling (O.device out.old) (O.device out.new)) }
+        IfErr result (StopsTellingJudged archive.now (O.device out.old) (O.device out.new)) }
 {
-    let line = judgement.told(alloc, telling, path, reason)?;
+    let judgement = judgement.known_as(alloc, archive.known, path)?;
+    let line = judgement.told(alloc, archive, path, reason)?;
     write_all(out, line.as_bytes())?;
     tally.add(judgement);
     Ok(())
@@ -57,8 +59,7 @@ fn other_judgement(kind: FileKind, fault: SdsFault) -> Judgement
 #[derive(Clone, Copy)]
 pub(crate) struct Judging<'a> {
     pub(crate) alloc: Global,
-    pub(crate) folders: Folders<'a>,
-    pub(crate) telling: Telling,
+    pub(crate) archive: &'a Verifying<'a>,
 }
 
 impl EntryVisitor for Judging<'_> {
@@ -68,19 +69,19 @@ impl EntryVisitor for Judging<'_> {
 
     ghost Line = { JudgedEntry };
 
-    ghost tells = { λ judging. TellsEntries judging.telling };
+    ghost tells = { λ judging. TellsEntries judging.archive.now };
 
-    ghost stops = { λ judging. StopsTellingJudged judging.telling };
+    ghost stops = { λ judging. StopsTellingJudged judging.archive.now };
 
-    ghost says = { λ judging. IsToldOfRoot judging.folders.root.now judging.folders.out.now judging.folders.reports.now };
+    ghost says = { λ judging. IsToldOfRoot judging.archive.now.known judging.archive.now.folders.root.now judging.archive.now.folders.out.now judging.archive.now.folders.reports.now };
 
     ghost does = { λ _. OnlyReads };
 
     ghost holds = { λ _ _ _. Unit {0} };
 
-    ghost spared = { λ judging. judging.folders.root.now };
+    ghost spared = { λ judging. judging.archive.now.folders.root.now };
 
-    ghost laws = { reading_laws IsJudgedEntry (λ judging. IsToldLine judging.telling) IsVerifyTally (λ judging. judging.folders.root.now) };
+    ghost laws = { judged_laws (λ judging. judging.archive.now) (λ judging. judging.archive.now.folders.root.now) };
 
     ghost listed = { none_holds };
 
@@ -99,11 +100,12 @@ impl EntryVisitor for Judging<'_> {
     ) -> Result<(), DeviceFault> {
         match SdsName::parse(path) {
             Ok(_) => {
-                let judgement = judge_day(tree, self.alloc, self.folders, path)?;
+                let archive = self.archive;
+                let judgement = judge_day(tree, self.alloc, archive.folders, path)?;
                 let reason = tree.reason();
                 tell(
                     self.alloc,
-                    self.telling,
+                    self.archive,
                     path,
                     judgement,
                     reason,
@@ -114,7 +116,7 @@ impl EntryVisitor for Judging<'_> {
             Err(fault) => {
                 tell(
                     self.alloc,
-                    self.telling,
+                    self.archive,
                     path,
                     other_judgement(kind, fault),
                     None,
@@ -137,7 +139,7 @@ impl EntryVisitor for Judging<'_> {
         let reason = tree.reason();
         tell(
             self.alloc,
-            self.telling,
+            self.archive,
             told_folder(folder),
             refused,
             reason,
@@ -153,8 +155,7 @@ impl EntryVisitor for Judging<'_> {
 #[derive(Clone, Copy)]
 pub(crate) struct Searching<'a> {
     pub(crate) alloc: Global,
-    pub(crate) folders: Folders<'a>,
-    pub(crate) telling: Telling,
+    pub(crate) archive: &'a Verifying<'a>,
 }
 
 impl EntryVisitor for Searching<'_> {
@@ -164,19 +165,19 @@ impl EntryVisitor for Searching<'_> {
 
     ghost Line = { JudgedEntry };
 
-    ghost tells = { λ searching. TellsEntries searching.telling };
+    ghost tells = { λ searching. TellsEntries searching.archive.now };
 
-    ghost stops = { λ searching. StopsTellingJudged searching.telling };
+    ghost stops = { λ searching. StopsTellingJudged searching.archive.now };
 
-    ghost says = { λ searching. IsToldOfOut searching.folders.root.now searching.folders.out.now };
+    ghost says = { λ searching. IsToldOfOut searching.archive.now.known searching.archive.now.folders.root.now searching.archive.now.folders.out.now };
 
     ghost does = { λ _. OnlyReads };
 
     ghost holds = { λ _ _ _. Unit {0} };
 
-    ghost spared = { λ searching. searching.folders.out.now };
+    ghost spared = { λ searching. searching.archive.now.folders.out.now };
 
-    ghost laws = { reading_laws IsJudgedEntry (λ searching. IsToldLine searching.telling) IsVerifyTally (λ searching. searching.folders.out.now) };
+    ghost laws = { judged_laws (λ searching. searching.archive.now) (λ searching. searching.archive.now.folders.out.now) };
 
     ghost listed = { none_holds };
 
@@ -196,13 +197,14 @@ impl EntryVisitor for Searching<'_> {
     ) -> Result<(), DeviceFault> {
         match SdsName::parse(path) {
             Ok(_) => {
-                let file = join(self.alloc, self.folders.root, path)?;
+                let archive = self.archive;
+                let file = join(self.alloc, archive.folders.root, path)?;
                 if may_have(tree, file.as_str())? {
                     return Ok(());
                 }
                 tell(
                     self.alloc,
-                    self.telling,
+                    self.archive,
                     path,
                     Judgement::Orphan,
                     None,
@@ -230,7 +232,7 @@ impl EntryVisitor for Searching<'_> {
         let reason = tree.reason();
         tell(
             self.alloc,
-            self.telling,
+            self.archive,
             told_folder(folder),
             refused,
             reason,

@@ -14,7 +14,8 @@ use Rattle.msr_options.specs.declared.task.Folders.{Folders}
 use Rattle.msr_tree.specs.Calls.{Goes}
 use Rattle.msr_tree.specs.Steps.{Path, Step}
 use Rattle.msr_walk.proofs.EntriesTold.{none_among}
-use Rattle.msr_outcomes.specs.Entries.{IsEntry, IsTally}
+use Rattle.msr_outcomes.specs.Entries.{IsTally}
+use Rattle.msr_outcomes.specs.Known.{IsEntry}
 use Rattle.msr_outcomes.specs.Lines.{IsEntryLine}
 use Rattle.msr_walk.specs.Told.{IsToldOfVisit, TellsOutcomesOf, WalksTree, WorksFor}
 use Rattle.msr_walk.specs.Walk.{StopsTellingOutcomes, TellsWalk}
@@ -25,22 +26,22 @@ use Rattle.msr_outcomes.specs.declared.tally.Tally.{Tally}
 -- the visits of an archive were told
 abbrev pub TellsArchive : {P : Type 0} → (P → Tally) → Archiving → (before after : List Step → Type 0) (out0 out : Device) (of0 of : P) → Type 0
 TellsArchive tally archive =
-    TellsVisits (TellsOutcomesOf tally archive.days) (IsToldOfVisit archive.folders.root.now archive.folders.out.now archive.folders.reports.now archive.days)
+    TellsVisits (TellsOutcomesOf tally archive) (IsToldOfVisit archive.folders.root.now archive.folders.out.now archive.folders.reports.now archive)
     (ChangesWithin archive.folders.out.now archive.folders.reports.now) archive.folders.root.now
     (λ past. AreEntriesOf past archive.folders.root.now archive.below.items)
 
 pub tree_ends : {P : Type 0} (tally : P → Tally) (archive : Archiving) (before after : List Step → Type 0) (out0 out1 out : Device) (of0 of : P) (walked : Walked)
-    → (told : TellsArchive tally archive before after out0 out1 of0 of) → Takes out1 out (summary archive.days told.told.told.entries)
+    → (told : TellsArchive tally archive before after out0 out1 of0 of) → Takes out1 out (summary archive told.told.told.entries)
     → TellsWalk told.told.told.entries walked → WalksTree archive before after out0 out walked
 tree_ends tally archive before after out0 out1 out of0 of walked told prints end =
     let these = told.told.told in
-    let printed : List ℕ = these.lines ++ summary archive.days these.entries in
+    let printed : List ℕ = these.lines ++ summary archive these.entries in
     record {
       visits = told.visits;
       entries = told.lines;
       printed = printed;
-      prints = takes_append out0 out1 out these.lines (summary archive.days these.entries) these.prints prints;
-      text = subst (λ entries. IsWalk (IsEntry archive.days) (IsEntryLine archive.days) (summary archive.days) printed entries) told.told.are
+      prints = takes_append out0 out1 out these.lines (summary archive these.entries) these.prints prints;
+      text = subst (λ entries. IsWalk (IsEntry archive) (IsEntryLine archive) (summary archive) printed entries) told.told.are
           (record { lines = these.lines; are_entries = these.are_entries; are_lines = these.are_lines; whole = refl });
       tells = subst (λ entries. TellsWalk entries walked) told.told.are end;
       goes = told.goes;
@@ -50,21 +51,21 @@ tree_ends tally archive before after out0 out1 out of0 of walked told prints end
 pub told_and_left : {P : Type 0} (tally : P → Tally) (archive : Archiving)
     → IsSeparate archive.folders.root.now archive.folders.out.now archive.folders.reports.now
     → (below : List (Bor Path)) (before mid after : List Step → Type 0) (out0 out : Device) (of0 of1 of : P) → below ≡ archive.below.items → tally of ≡ tally of1
-    → TellsVisits (TellsOutcomesOf tally archive.days) (IsToldOfVisit archive.folders.root.now archive.folders.out.now archive.folders.reports.now archive.days)
+    → TellsVisits (TellsOutcomesOf tally archive) (IsToldOfVisit archive.folders.root.now archive.folders.out.now archive.folders.reports.now archive)
     (ChangesWithin archive.folders.out.now archive.folders.reports.now) archive.folders.root.now
     (λ past. AreEntriesOf past archive.folders.root.now below) before mid out0 out of0 of1
     → Goes mid after (WorksFor archive.folders) → TellsArchive tally archive before after out0 out of0 of
 told_and_left tally archive apart below before mid after out0 out of0 of1 of is same told goes =
     let root : Path = archive.folders.root.now in
-    subst (λ b. TellsVisits (TellsOutcomesOf tally archive.days) (IsToldOfVisit archive.folders.root.now archive.folders.out.now archive.folders.reports.now archive.days)
+    subst (λ b. TellsVisits (TellsOutcomesOf tally archive) (IsToldOfVisit archive.folders.root.now archive.folders.out.now archive.folders.reports.now archive)
     (ChangesWithin archive.folders.out.now archive.folders.reports.now) archive.folders.root.now
     (λ past. AreEntriesOf past archive.folders.root.now b) before after out0 out of0 of) is
-    (walk_left {V = Unit {0}} (λ v. TellsOutcomesOf tally archive.days) (λ v. StopsTellingOutcomes archive.days)
-    (λ v. IsToldOfVisit archive.folders.root.now archive.folders.out.now archive.folders.reports.now archive.days)
+    (walk_left {V = Unit {0}} (λ v. TellsOutcomesOf tally archive) (λ v. StopsTellingOutcomes archive)
+    (λ v. IsToldOfVisit archive.folders.root.now archive.folders.out.now archive.folders.reports.now archive)
     (λ v. ChangesWithin archive.folders.out.now archive.folders.reports.now) (λ v. archive.folders.root.now)
-    (within_laws {V = Unit {0}} (λ v. IsEntry archive.days) (λ v. IsEntryLine archive.days) (λ entries counted. IsTally entries (tally counted))
+    (within_laws {V = Unit {0}} (λ v. IsEntry archive) (λ v. IsEntryLine archive) (λ entries counted. IsTally entries (tally counted))
     (λ v. archive.folders.root.now) (λ v. archive.folders.out.now) (λ v. archive.folders.reports.now) (λ v. apart))
-    tt root (λ past. AreEntriesOf past root below) before mid after out0 out of0 of1 of told (λ at. none_among tally archive.days at of1 of same) goes)
+    tt root (λ past. AreEntriesOf past root below) before mid after out0 out of0 of1 of told (λ at. none_among tally archive at of1 of same) goes)
 
 pub changes_and_left : (folders : Folders) (before mid after : List Step → Type 0)
     → Goes before mid (ChangesWithin folders.out.now folders.reports.now) → Goes mid after (WorksFor folders)

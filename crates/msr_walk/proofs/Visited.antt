@@ -6,7 +6,8 @@ use Rattle.msr_folders.specs.Days.{IsDay, IsNoDay}
 use Rattle.msr_folders.specs.Entries.{Entry as Found, Visit, WithoutList}
 use Rattle.msr_folders.specs.Walks.{TellsVisit}
 use Rattle.msr_making.specs.declared.answer.DayFault.TheVariants.{Gone as WasGone, Listing}
-use Rattle.msr_options.specs.declared.days.DayOptions.{DayOptions}
+use Rattle.msr_options.specs.declared.known.Known.{Known}
+use Rattle.msr_options.specs.declared.task.Archiving.{Archiving}
 use Rattle.msr_sds.specs.SdsPath.{HasDate, IsWaveform, ReadsAs, SdsPath}
 use Rattle.msr_sds.specs.declared.SdsFault.{SdsFault}
 use Rattle.msr_sds.specs.declared.SdsFault.TheVariants.{BadDay, NotSds, NotWaveform}
@@ -18,6 +19,7 @@ use Rattle.msr_tree.specs.declared.kind.FileKind.TheVariants.{Gone}
 use Rattle.msr_walk.proofs.Days.{told_until}
 use Rattle.msr_walk.proofs.Working.{works_none, works_then}
 use Rattle.msr_outcomes.specs.Entries.{Entry}
+use Rattle.msr_outcomes.specs.Known.{known_as}
 use Rattle.msr_walk.specs.Files.{day_names}
 use Rattle.msr_folders.specs.Paths.{told_folder}
 use Rattle.msr_walk.specs.Told.{IsToldOfVisit, TellsDay, TellsOutcomesOf, WorksWithin}
@@ -25,22 +27,22 @@ use Rattle.msr_outcomes.specs.declared.outcome.Outcome.{Outcome}
 use Rattle.msr_outcomes.specs.declared.outcome.Outcome.TheVariants.{Refused, Skipped}
 use Rattle.msr_outcomes.specs.declared.tally.Tally.{Tally}
 
-abbrev unlisted_entry : Path → Entry
-unlisted_entry path = record { path = path; channel = []; outcome = Refused Listing }
+abbrev unlisted_entry : Known → Path → Entry
+unlisted_entry known path = record { path = path; channel = []; outcome = known_as known path (Refused Listing) }
 
-module _ {P : Type 0} (tally : P → Tally) (days : DayOptions) (root outf reports : Path) where
+module _ {P : Type 0} (tally : P → Tally) (asked : Archiving) (root outf reports : Path) where
   abbrev pub TellsOf : Visit → (before after : List Step → Type 0) (out0 out : Device) (of0 of : P) → Type 0
-  TellsOf = TellsVisit (TellsOutcomesOf tally days) (IsToldOfVisit root outf reports days) (ChangesWithin outf reports)
+  TellsOf = TellsVisit (TellsOutcomesOf tally asked) (IsToldOfVisit root outf reports asked) (ChangesWithin outf reports)
 
   -- a day
   pub visited_day : {H E : Type 0} (outcome : H → Outcome) (handled : H) (path channel : Path) (kind : FileKind) (before mid after : List Step → Type 0) (out0 out : Device) (of0 of : P)
       → kind ≢ Gone → IsDay path
-      → Goes before mid (TellsDay {E = E} outcome days (day_names root outf reports path) outf reports (Ok handled))
+      → Goes before mid (TellsDay {E = E} outcome asked.days (day_names root outf reports path) outf reports (Ok handled))
       → Goes mid after (WorksWithin outf reports)
-      → TellsOutcomesOf tally days (record { path = path; channel = channel; outcome = outcome handled } ∷ []) out0 out of0 of
+      → TellsOutcomesOf tally asked (record { path = path; channel = channel; outcome = known_as asked.known path (outcome handled) } ∷ []) out0 out of0 of
       → TellsOf (Found path kind) before after out0 out of0 of
   visited_day outcome handled path channel kind before mid after out0 out of0 of there day one two told = record {
-    lines = record { path = path; channel = channel; outcome = outcome handled } ∷ [];
+    lines = record { path = path; channel = channel; outcome = known_as asked.known path (outcome handled) } ∷ [];
     told = told;
     goes = goes_then _ _ _ before mid after (λ old middle new first second. record {
       done = works_then outf reports old middle new first.works second;
@@ -65,8 +67,8 @@ module _ {P : Type 0} (tally : P → Tally) (days : DayOptions) (root outf repor
 
   -- where nothing is done
   told_still : (visit : Visit) (entry : Entry) (before : List Step → Type 0) (out0 out : Device) (of0 of : P)
-      → ((past : List Step) → IsToldOfVisit root outf reports days past past visit (entry ∷ []))
-      → TellsOutcomesOf tally days (entry ∷ []) out0 out of0 of → TellsOf visit before before out0 out of0 of
+      → ((past : List Step) → IsToldOfVisit root outf reports asked past past visit (entry ∷ []))
+      → TellsOutcomesOf tally asked (entry ∷ []) out0 out of0 of → TellsOf visit before before out0 out of0 of
   told_still visit entry before out0 out of0 of so told = record {
     lines = entry ∷ [];
     told = told;
@@ -76,27 +78,27 @@ module _ {P : Type 0} (tally : P → Tally) (days : DayOptions) (root outf repor
   -- what is no day
   pub visited_other : (path : Path) (kind : FileKind) (fault : SdsFault) (before : List Step → Type 0) (out0 out : Device) (of0 of : P)
       → kind ≢ Gone → ¬ (IsDay path) → IsNoDay path fault
-      → TellsOutcomesOf tally days (record { path = path; channel = []; outcome = Skipped fault } ∷ []) out0 out of0 of
+      → TellsOutcomesOf tally asked (record { path = path; channel = []; outcome = known_as asked.known path (Skipped fault) } ∷ []) out0 out of0 of
       → TellsOf (Found path kind) before before out0 out of0 of
   visited_other path kind fault before out0 out of0 of there none is told =
-      told_still (Found path kind) (record { path = path; channel = []; outcome = Skipped fault }) before out0 out of0 of
+      told_still (Found path kind) (record { path = path; channel = []; outcome = known_as asked.known path (Skipped fault) }) before out0 out of0 of
       (λ past. ([], Skipped fault, refl, record { gone = λ gone. absurd (there gone); day = λ some day. absurd (none day); other = λ some no_day. (fault, is, refl) })) told
 
   -- what is gone
   pub visited_gone : (path : Path) (kind : FileKind) (before : List Step → Type 0) (out0 out : Device) (of0 of : P) → kind ≡ Gone
-      → TellsOutcomesOf tally days (record { path = path; channel = []; outcome = Refused WasGone } ∷ []) out0 out of0 of
+      → TellsOutcomesOf tally asked (record { path = path; channel = []; outcome = known_as asked.known path (Refused WasGone) } ∷ []) out0 out of0 of
       → TellsOf (Found path kind) before before out0 out of0 of
   visited_gone path kind before out0 out of0 of is told =
-      told_still (Found path kind) (record { path = path; channel = []; outcome = Refused WasGone }) before out0 out of0 of
+      told_still (Found path kind) (record { path = path; channel = []; outcome = known_as asked.known path (Refused WasGone) }) before out0 out of0 of
       (λ past. ([], Refused WasGone, refl, record { gone = λ gone. refl; day = λ some day. absurd (some is); other = λ some no_day. absurd (some is) })) told
 
   -- a folder that has no list
   pub visited_unlisted : (folder path : Path) (before : List Step → Type 0) (out0 out : Device) (of0 of : P) → path ≡ told_folder folder
-      → TellsOutcomesOf tally days (record { path = path; channel = []; outcome = Refused Listing } ∷ []) out0 out of0 of
+      → TellsOutcomesOf tally asked (record { path = path; channel = []; outcome = known_as asked.known path (Refused Listing) } ∷ []) out0 out of0 of
       → TellsOf (WithoutList folder) before before out0 out of0 of
   visited_unlisted folder path before out0 out of0 of is told =
-      told_still (WithoutList folder) (record { path = path; channel = []; outcome = Refused Listing }) before out0 out of0 of
-      (λ past. ap (λ p. unlisted_entry p ∷ []) is) told
+      told_still (WithoutList folder) (unlisted_entry asked.known path) before out0 out of0 of
+      (λ past. ap (λ p. unlisted_entry asked.known p ∷ []) is) told
 
 -- A path that is read as no day.
 module _ (path : List ℕ) (result : Result SdsPath SdsFault)

@@ -22,7 +22,8 @@ use Rattle.msr_tree.specs.Calls.{Goes}
 use Rattle.msr_tree.specs.Steps.{AtEachMoment, Path, Step, now}
 use Rattle.msr_tree.specs.declared.kind.FileKind.{FileKind}
 use Rattle.msr_tree.specs.declared.kind.FileKind.TheVariants.{Gone}
-use Rattle.msr_outcomes.specs.Entries.{Entry, IsEntry, IsTally}
+use Rattle.msr_outcomes.specs.Entries.{Entry, IsTally}
+use Rattle.msr_outcomes.specs.Known.{IsEntry, known_as}
 use Rattle.msr_walk.specs.Files.{AreNamesOfDay, DayNames, day_names, paths_of_names}
 use Rattle.msr_outcomes.specs.Lines.{IsEntryLine}
 use Rattle.msr_outcomes.specs.Outcomes.{IsForDay, of_day}
@@ -96,23 +97,26 @@ pub record IsToldOfPath (days : DayOptions) (names : DayNames) (out reports path
   pub day : kind ≢ Gone → IsDay path → IsDayTold days names out reports outcome old new
   pub other : kind ≢ Gone → ¬ (IsDay path) → (fault : SdsFault) × IsNoDay path fault × (outcome ≡ Skipped fault)
 
--- the one entry that is told of a visit
-abbrev pub IsToldOfVisit : (root out reports : Path) → DayOptions → (old new : List Step) → Visit → List Entry → Type 0
-IsToldOfVisit root out reports days old new (Found path kind) entries = (channel : Path) × (outcome : Outcome)
-    × (entries ≡ record { path = path; channel = channel; outcome = outcome } ∷ [])
-    × IsToldOfPath days (day_names root out reports path) out reports path kind outcome old new
-IsToldOfVisit root out reports days old new (WithoutList folder) entries =
-    entries ≡ record { path = told_folder folder; channel = []; outcome = Refused Listing } ∷ []
+-- the one entry that is told of a visit, as known if it is
+abbrev pub IsToldOfVisit : (root out reports : Path) → Archiving → (old new : List Step) → Visit → List Entry → Type 0
+IsToldOfVisit root out reports asked old new (Found path kind) entries = (channel : Path) × (outcome : Outcome)
+    × (entries ≡ record { path = path; channel = channel; outcome = known_as asked.known path outcome } ∷ [])
+    × IsToldOfPath asked.days (day_names root out reports path) out reports path kind outcome old new
+IsToldOfVisit root out reports asked old new (WithoutList folder) entries = entries ≡ record {
+  path = told_folder folder;
+  channel = [];
+  outcome = known_as asked.known (told_folder folder) (Refused Listing);
+} ∷ []
 
 -- these entries were told, and are counted in a part of what changes
-abbrev pub TellsOutcomesOf : {P : Type 0} → (P → Tally) → DayOptions → List Entry → Device → Device → P → P → Type 0
+abbrev pub TellsOutcomesOf : {P : Type 0} → (P → Tally) → Archiving → List Entry → Device → Device → P → P → Type 0
 TellsOutcomesOf tally asked = TellsThese (IsEntry asked) (IsEntryLine asked) (λ entries counted. IsTally entries (tally counted))
 
 -- What was told of an archive: of each entry, in order, by what its names led to.
 abbrev pub IsArchiveTold : Archiving → List Visit → List Entry → (old new : List Step) → Type 0
 IsArchiveTold archive visits entries old new =
     let folders = archive.folders in
-    IsWalked (IsToldOfVisit folders.root.now folders.out.now folders.reports.now archive.days) (ChangesWithin folders.out.now folders.reports.now)
+    IsWalked (IsToldOfVisit folders.root.now folders.out.now folders.reports.now archive) (ChangesWithin folders.out.now folders.reports.now)
     folders.root.now (λ past. AreEntriesOf past folders.root.now archive.below.items) visits entries old new
 
 -- The whole text was printed: a line for each entry of the archive, in order, but for those that are left out, and then what
@@ -122,7 +126,7 @@ pub record WalksTree (archive : Archiving) (before after : List Step → Type 0)
   pub entries : List Entry
   pub printed : List ℕ
   pub prints : Takes out0 out printed
-  pub text : IsWalk (IsEntry archive.days) (IsEntryLine archive.days) (summary archive.days) printed entries
+  pub text : IsWalk (IsEntry archive) (IsEntryLine archive) (summary archive) printed entries
   pub tells : TellsWalk entries walked
   pub goes : Goes before after (IsArchiveTold archive visits entries)
 

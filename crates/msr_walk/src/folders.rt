@@ -1,6 +1,5 @@
 //! The walk through the folders of an archive.
 ghost use Rattle.std.specs.Prelude.{◌≡◌, ◌≢◌, ◌↔◌, ◌∷◌, [], List, IfErr, IfOk, IsErrOf, OnOk, true};
-ghost use Rattle.std.specs.String.{string_bytes};
 ghost use Rattle.msr_devices.specs.Device.{CanCountCall, Device, HasFailed};
 ghost use Rattle.msr_sds.specs.SdsPath.{ReadsAsDay};
 ghost use Rattle.msr_folders.specs.Entries.{AreEntriesOf, Entry as Found};
@@ -14,7 +13,8 @@ ghost use Rattle.msr_tree.specs.Folders.{ChangesFiles};
 ghost use Rattle.msr_tree.specs.Steps.{Path};
 ghost use Rattle.msr_tree.specs.declared.kind.FileKind.{FileKind};
 ghost use Rattle.msr_tree.specs.declared.kind.FileKind.TheVariants.{Gone};
-ghost use Rattle.msr_outcomes.specs.Entries.{Entry, IsEntry, IsOutcomeOf, IsTally, channel_of};
+ghost use Rattle.msr_outcomes.specs.Entries.{Entry, IsOutcomeOf, IsTally};
+ghost use Rattle.msr_outcomes.specs.Known.{IsEntry, known_as};
 ghost use Rattle.msr_walk.specs.Files.{day_names};
 ghost use Rattle.msr_walk.specs.Handling.{AllWaitWithin, AreWaitingAt, WaitsWithin};
 ghost use Rattle.msr_outcomes.specs.Lines.{IsEntryLine};
@@ -32,7 +32,7 @@ use msr_folders::{EntryVisitor, EntryWalk, WalkFound, join, told_folder, visit_e
 use msr_making::{DayFault, DayOutcome, day_length, is_young};
 use msr_naming::Waiting;
 use msr_options::{Archiving, Unopened};
-use msr_outcomes::{Outcome, Tally, write_summary};
+use msr_outcomes::{Outcome, Tally, channel_text, write_summary};
 use msr_sds::SdsName;
 use msr_tool::ToolFault;
 use msr_tree::{FileKind, Time, Tree};
@@ -95,8 +95,8 @@ impl<K: Drop> Progress<K> {
     }
 }
 
-/// Prints the line of an entry, unless it is left out, and counts it. The channel is that of a day, the reason that of the
-/// system, if it did not list a folder.
+/// Prints the line of an entry, as known if it is, unless it is left out, and counts it. The channel is that of a day, the
+/// reason that of the system, if it did not list a folder.
 fn tell<K, C, O: Sink>(
     walker: &Walker<'_, C>,
     path: &str,
@@ -108,28 +108,19 @@ fn tell<K, C, O: Sink>(
 ) -> Result<(), DeviceFault>
     requires { CanCountCall (O.device out.old) }
     ensures told { IsOutcomeOf walker.now.archive.now.days path.now channel.now outcome →
-        OnOk result (TellsOutcomesOf (λ of. of.tally) walker.now.archive.now.days
-        (record { path = path.now; channel = channel.now; outcome = outcome } ∷ [])
+        OnOk result (TellsOutcomesOf (λ of. of.tally) walker.now.archive.now
+        (record { path = path.now; channel = channel.now; outcome = known_as walker.now.archive.now.known path.now outcome } ∷ [])
         (O.device out.old) (O.device out.new) progress.old progress.new) }
     ensures stops { IsOutcomeOf walker.now.archive.now.days path.now channel.now outcome →
-        IfErr result (StopsTellingOutcomes walker.now.archive.now.days (O.device out.old) (O.device out.new)) }
+        IfErr result (StopsTellingOutcomes walker.now.archive.now (O.device out.old) (O.device out.new)) }
     ensures batch { progress.new.batch ≡ progress.old.batch }
 {
-    let line = outcome.told(walker.alloc, &walker.archive.days, path, listing)?;
+    let archive = walker.archive;
+    let outcome = outcome.known_as(walker.alloc, archive.known, path)?;
+    let line = outcome.told(walker.alloc, &archive.days, path, listing)?;
     write_all(out, line.as_bytes())?;
     progress.tally.add(channel, outcome)?;
     Ok(())
-}
-
-/// NET.STA.LOC.CHAN
-fn channel_text(alloc: Global, name: &SdsName<'_>) -> Result<String, AllocError>
-    ensures { IfOk result (λ text. string_bytes text ≡ channel_of name.now) }
-{
-    let network = name.network();
-    let station = name.station();
-    let location = name.location();
-    let channel = name.channel();
-    format!(in alloc; "{network}.{station}.{location}.{channel}")
 }
 
 impl<'a, C: Claims> Walker<'a, C> {
@@ -201,10 +192,10 @@ impl<'a, C: Claims> Walker<'a, C> {
         requires day { ReadsAsDay path.now name.now }
         requires count { CanCountCall (O.device out.old) }
         requires days { AreWaitingAt (T.went tree.old) self.now.archive.now.folders.reports.now progress.old.batch.days.items }
-        ensures told { (kind : FileKind) → kind ≢ Gone → OnOk result (TellsVisit (TellsOutcomesOf (λ of. of.tally) self.now.archive.now.days)
-            (IsToldOfVisit self.now.archive.now.folders.root.now self.now.archive.now.folders.out.now self.now.archive.now.folders.reports.now self.now.archive.now.days) (ChangesWithin self.now.archive.now.folders.out.now self.now.archive.now.folders.reports.now) (Found path.now kind)
+        ensures told { (kind : FileKind) → kind ≢ Gone → OnOk result (TellsVisit (TellsOutcomesOf (λ of. of.tally) self.now.archive.now)
+            (IsToldOfVisit self.now.archive.now.folders.root.now self.now.archive.now.folders.out.now self.now.archive.now.folders.reports.now self.now.archive.now) (ChangesWithin self.now.archive.now.folders.out.now self.now.archive.now.folders.reports.now) (Found path.now kind)
             (T.went tree.old) (T.went tree.new) (O.device out.old) (O.device out.new) progress.old progress.new) }
-        ensures stops { IfErr result (StopsTellingOutcomes self.now.archive.now.days (O.device out.old) (O.device out.new)) }
+        ensures stops { IfErr result (StopsTellingOutcomes self.now.archive.now (O.device out.old) (O.device out.new)) }
         ensures works { Goes (T.went tree.old) (T.went tree.new) (WorksFor self.now.archive.now.folders) }
         ensures days { AreWaitingAt (T.went tree.new) self.now.archive.now.folders.reports.now progress.new.batch.days.items }
     {
@@ -234,10 +225,10 @@ impl<'a, C: Claims> Walker<'a, C> {
     ) -> Result<(), DeviceFault>
         requires count { CanCountCall (O.device out.old) }
         requires days { AreWaitingAt (T.went tree.old) self.now.archive.now.folders.reports.now progress.old.batch.days.items }
-        ensures told { (kind : FileKind) → kind ≢ Gone → OnOk result (TellsVisit (TellsOutcomesOf (λ of. of.tally) self.now.archive.now.days)
-            (IsToldOfVisit self.now.archive.now.folders.root.now self.now.archive.now.folders.out.now self.now.archive.now.folders.reports.now self.now.archive.now.days) (ChangesWithin self.now.archive.now.folders.out.now self.now.archive.now.folders.reports.now) (Found path.now kind)
+        ensures told { (kind : FileKind) → kind ≢ Gone → OnOk result (TellsVisit (TellsOutcomesOf (λ of. of.tally) self.now.archive.now)
+            (IsToldOfVisit self.now.archive.now.folders.root.now self.now.archive.now.folders.out.now self.now.archive.now.folders.reports.now self.now.archive.now) (ChangesWithin self.now.archive.now.folders.out.now self.now.archive.now.folders.reports.now) (Found path.now kind)
             (T.went tree.old) (T.went tree.new) (O.device out.old) (O.device out.new) progress.old progress.new) }
-        ensures stops { IfErr result (StopsTellingOutcomes self.now.archive.now.days (O.device out.old) (O.device out.new)) }
+        ensures stops { IfErr result (StopsTellingOutcomes self.now.archive.now (O.device out.old) (O.device out.new)) }
         ensures works { Goes (T.went tree.old) (T.went tree.new) (WorksFor self.now.archive.now.folders) }
         ensures days { AreWaitingAt (T.went tree.new) self.now.archive.now.folders.reports.now progress.new.batch.days.items }
     {
@@ -256,10 +247,10 @@ impl<'a, C: Claims> Walker<'a, C> {
     ) -> Result<(), DeviceFault>
         requires count { CanCountCall (O.device out.old) }
         requires days { AreWaitingAt (T.went tree.old) self.now.archive.now.folders.reports.now progress.old.batch.days.items }
-        ensures told { OnOk result (TellsVisits (TellsOutcomesOf (λ of. of.tally) self.now.archive.now.days) (IsToldOfVisit self.now.archive.now.folders.root.now self.now.archive.now.folders.out.now self.now.archive.now.folders.reports.now self.now.archive.now.days) (ChangesWithin self.now.archive.now.folders.out.now self.now.archive.now.folders.reports.now) self.now.archive.now.folders.root.now
+        ensures told { OnOk result (TellsVisits (TellsOutcomesOf (λ of. of.tally) self.now.archive.now) (IsToldOfVisit self.now.archive.now.folders.root.now self.now.archive.now.folders.out.now self.now.archive.now.folders.reports.now self.now.archive.now) (ChangesWithin self.now.archive.now.folders.out.now self.now.archive.now.folders.reports.now) self.now.archive.now.folders.root.now
             (λ past. AreEntriesOf past self.now.archive.now.folders.root.now self.now.archive.now.below.items)
             (T.went tree.old) (T.went tree.new) (O.device out.old) (O.device out.new) progress.old progress.new) }
-        ensures stops { IfErr result (StopsTellingOutcomes self.now.archive.now.days (O.device out.old) (O.device out.new)) }
+        ensures stops { IfErr result (StopsTellingOutcomes self.now.archive.now (O.device out.old) (O.device out.new)) }
         ensures does { Goes (T.went tree.old) (T.went tree.new) (ChangesWithin self.now.archive.now.folders.out.now self.now.archive.now.folders.reports.now) }
     {
         let archive = self.archive;
@@ -283,11 +274,11 @@ impl<'a, C: Claims> EntryVisitor for Walker<'a, C> {
 
     ghost Line = { Entry };
 
-    ghost tells = { λ walker. TellsOutcomesOf (λ of. of.tally) walker.archive.now.days };
+    ghost tells = { λ walker. TellsOutcomesOf (λ of. of.tally) walker.archive.now };
 
-    ghost stops = { λ walker. StopsTellingOutcomes walker.archive.now.days };
+    ghost stops = { λ walker. StopsTellingOutcomes walker.archive.now };
 
-    ghost says = { λ walker. IsToldOfVisit walker.archive.now.folders.root.now walker.archive.now.folders.out.now walker.archive.now.folders.reports.now walker.archive.now.days };
+    ghost says = { λ walker. IsToldOfVisit walker.archive.now.folders.root.now walker.archive.now.folders.out.now walker.archive.now.folders.reports.now walker.archive.now };
 
     ghost does = { λ walker. ChangesWithin walker.archive.now.folders.out.now walker.archive.now.folders.reports.now };
 
@@ -295,7 +286,7 @@ impl<'a, C: Claims> EntryVisitor for Walker<'a, C> {
 
     ghost spared = { λ walker. walker.archive.now.folders.root.now };
 
-    ghost laws = { within_laws (λ walker. IsEntry walker.archive.now.days) (λ walker. IsEntryLine walker.archive.now.days)
+    ghost laws = { within_laws (λ walker. IsEntry walker.archive.now) (λ walker. IsEntryLine walker.archive.now)
         (λ entries of. IsTally entries of.tally) (λ walker. walker.archive.now.folders.root.now) (λ walker. walker.archive.now.folders.out.now)
         (λ walker. walker.archive.now.folders.reports.now) (λ walker. walker.separate) };
 
@@ -366,7 +357,7 @@ pub fn walk<'a, T: Tree, C: Claims, O: Sink>(
 ) -> Result<Walked, ToolFault>
     requires apart { StandApart archive.now.folders }
     requires count { CanCountCall (O.device out.old) }
-    ensures answer { Walks (archive.now.days) (O.device out.old) (O.device out.new) result }
+    ensures answer { Walks archive.now (O.device out.old) (O.device out.new) result }
 
     // A failure of the sink is answered as such, and nothing else is.
     ensures write { IsErrOf result ToolFault.Write ↔ HasFailed (O.device out.old) (O.device out.new) }
@@ -387,9 +378,10 @@ pub fn walk<'a, T: Tree, C: Claims, O: Sink>(
     };
     walker.visit(tree, out, &mut progress)?;
     let tally = &progress.tally;
-    write_summary(alloc, out, &archive.days, tally)?;
+    write_summary(alloc, out, archive, tally)?;
     let made = tally.done.saturating_add(tally.larger);
     let days = made.saturating_add(tally.young);
+    let days = days.saturating_add(tally.known);
     Ok(Walked {
         found: WalkFound::of(tally.refused, days),
         unopened: tally.unopened,

@@ -14,7 +14,8 @@ returns-in_err-tell-in-Ok g c =
     let p = err_from_is_err_and c.from_residual.result c.from_residual.ensures.1 in
     let a = c.in-Ok.ensures.answer in
     let answer = as_asked c.args.asked.now.options _ a.0 a.1 (Ok c.in-Ok.comparison) (same c.args.asked.now.options c.tolerance.result c.tolerance.ensures.same) a.4 in
-    rw (p.1, p.2) (compare_untold c.args.asked.now.options c.args.asked.now _ _ _ _ a.0 a.1 c.in-Ok.comparison
+    rw (p.1, p.2) (compare_untold c.args.asked.now.options c.args.asked.now (g.One.Source.device c.args.one.now)
+    (g.Other.Source.device c.args.other.now) _ _ a.0 a.1 c.in-Ok.comparison
     c.in_err-tell-in-Ok.field-0.0 a.2 a.3 answer c.in_err-tell-in-Ok.ensures)
 
 pub returns-in-Err : goal.returns-in-Err

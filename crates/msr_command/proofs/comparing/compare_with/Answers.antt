@@ -1,21 +1,27 @@
 use Rattle.std.proofs.Common.{◌≡◌, codes, rules}
 use Rattle.std.proofs.lemmas.Result.{err_from_is_err_and}
+use Rattle.msr_command.specs.Named.{IsReaderOf}
 use Rattle.msr_command.proofs.Comparisons.{compare_unread, two_known}
+use Rattle.msr_command.proofs.Inputs.{comes_file, comes_standard}
 use Rattle.msr_command.proofs.comparing.compare_with.Goals as goal
 
-pub returns-in_err-open_input : goal.returns-in_err-open_input
-returns-in_err-open_input g c =
+pub returns-in_err-opened : goal.returns-in_err-opened
+returns-in_err-opened g c =
     let p = err_from_is_err_and c.from_residual.result c.from_residual.ensures.1 in
-    rw (p.1, p.2) (compare_unread _ _ c.args.asked.now.options c.args.asked.now (g.One.Source.device c.args.one.now)
-    (g.I.Source.device c.args.input.now) (g.O.Sink.device c.args.output.now)
-    c.in_err-open_input.field-0.0 c.in_err-open_input.ensures.stop)
+    rw (p.1, p.2) (compare_unread _ _ c.args.asked.now.options c.args.asked.now (g.O.Sink.device c.args.output.now)
+    c.in_err-opened.field-0.0 c.in_err-opened.ensures.stop)
 
 pub returns-in-None : goal.returns-in-None
 returns-in-None g c =
-    two_known c.compare_sources.ensures c.compare_sources.ensures.left_one (λ known. c.compare_sources.ensures.left_other tt)
+    let is : c.args.asked.now.other.now ≡ codes "-" = search rules in
+    let does = c.compare_sources.ensures in
+    two_known does (λ opened. does.come_one tt) (λ opened. comes_standard is (does.come_other tt))
 
 pub returns-in-Some : goal.returns-in-Some
 returns-in-Some g c =
     let no_other : c.args.asked.now.other.now ≡ codes "-" → ⊥ = search rules in
+    let reads : IsReaderOf (g.F.NamedFiles.went c.args.files.now) c.args.asked.now.other.now (g.F.Reader.Source.device c.in-Some.file) =
+    search rules in
     let does = c.compare_sources-in-Some.ensures in
-    two_known does does.left_one (λ known. absurd (no_other known))
+    two_known does (λ opened. does.come_one tt)
+    (λ opened. comes_file no_other reads (does.come_other tt))

@@ -12,12 +12,14 @@ returns-in_err-settle_standard_output g c =
     let p = err_from_is_err_and c.from_residual-in_err-settle_standard_output.result
     c.from_residual-in_err-settle_standard_output.ensures.1 in
     rw (p.1, p.2, c.in_err-settle_standard_output.ensures)
-    (feed_unsettled _ _ _ _ (feed_done _ _ _ _ _ _ _ c.in_ok-feed_and_report.ensures.answer))
+    (feed_unsettled c.args.options _ (g.I.Source.device c.args.input.now) (g.O.Sink.device c.args.output.now)
+    (g.O.Sink.device c.feed_and_report.new.records) (feed_done _ _ _ _ _ _ _ c.in_ok-feed_and_report.ensures.answer))
 
 pub returns-in_err-settle : goal.returns-in_err-settle
 returns-in_err-settle g c =
     let p = err_from_is_err_and c.from_residual-in_err-settle.result c.from_residual-in_err-settle.ensures.1 in
-    rw (p.1, p.2, c.in_err-settle.ensures) (feed_unsettled _ _ _ _
+    rw (p.1, p.2, c.in_err-settle.ensures) (feed_unsettled c.args.options _ (g.I.Source.device c.args.input.now) (g.O.Sink.device c.args.output.now)
+    (g.O.Sink.device c.feed_and_report.new.records)
     (feed_done _ _ _ _ _ _ _ c.in_ok-feed_and_report.ensures.answer))
 
 pub returns : goal.returns

@@ -20,12 +20,12 @@ returns-clause-told g c =
 
 pub returns-clause-stops : goal.returns-clause-stops
 returns-clause-stops g c =
-    let telling = c.args.archive.now.telling in
+    let asked = c.args.archive.now in
     let out0 = g.O.Sink.device c.args.out.now in
     let out1 = g.O.Sink.device c.walk_archive.new.out in
     let out = g.O.Sink.device c.walk_records.new.out in
-    if_err_as c.walk_records.result (StopsTellingJudged telling out1 out) (StopsTellingJudged telling out0 out)
-    (λ fault stopped. stops_more telling out0 out1 out _ _ fault c.in_ok-walk_archive.ensures.told.told.told stopped) c.walk_records.ensures.stops
+    if_err_as c.walk_records.result (StopsTellingJudged asked out1 out) (StopsTellingJudged asked out0 out)
+    (λ fault stopped. stops_more asked out0 out1 out _ _ fault c.in_ok-walk_archive.ensures.told.told.told stopped) c.walk_records.ensures.stops
 
 pub returns-clause-reads : goal.returns-clause-reads
 returns-clause-reads g c =

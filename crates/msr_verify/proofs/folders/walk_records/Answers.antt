@@ -9,7 +9,7 @@ use Rattle.msr_verify.proofs.folders.walk_records.Goals as goal
 pub returns-clause-told : goal.returns-clause-told
 returns-clause-told g c =
     let folders = c.args.archive.now.folders in
-    subst (λ below. OnOk c.visit_entries.result (TellsWalk (TellsEntries c.args.archive.now.telling) (IsToldOfOut folders.root.now folders.out.now) OnlyReads
+    subst (λ below. OnOk c.visit_entries.result (TellsWalk (TellsEntries c.args.archive.now) (IsToldOfOut c.args.archive.now.known folders.root.now folders.out.now) OnlyReads
     folders.out.now (λ past. AreEntriesOf past folders.out.now below) (g.T.Tree.went c.args.tree.now) (g.T.Tree.went c.visit_entries.new.tree)
     (g.O.Sink.device c.args.out.now) (g.O.Sink.device c.visit_entries.new.out) c.args.tally.now c.visit_entries.new.tally))
     c.as_slice.ensures.value c.visit_entries.ensures.told

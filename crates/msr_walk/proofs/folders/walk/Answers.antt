@@ -35,7 +35,7 @@ returns-in_err-write_summary-clause-answer g c =
     let p = err_from_is_err_and c.from_residual-in_err-write_summary.result
     c.from_residual-in_err-write_summary.ensures.1 in
     let fault = c.in_err-write_summary.field-0.0 in
-    let told : TellsOutcomes c.args.archive.now.days _ _ _ _ = told_among (λ of. of.tally) c.args.archive.now.days _ _ _ _ _ c.in_ok-visit.ensures.told.told in
+    let told : TellsOutcomes c.args.archive.now _ _ _ _ = told_among (λ of. of.tally) c.args.archive.now _ _ _ _ _ c.in_ok-visit.ensures.told.told in
     let front = c.in_err-write_summary.ensures.stops told.entries (told.counts [] c.new-progress.ensures.empty) in
     rw (p.1, p.2) (walk_stops _ _ _ fault (stops_summary _ _ _ _ _ _ fault told front))
 
@@ -44,7 +44,7 @@ returns-in_err-write_summary-clause-write g c =
     let p = err_from_is_err_and c.from_residual-in_err-write_summary.result
     c.from_residual-in_err-write_summary.ensures.1 in
     let fault = c.in_err-write_summary.field-0.0 in
-    let told : TellsOutcomes c.args.archive.now.days _ _ _ _ = told_among (λ of. of.tally) c.args.archive.now.days _ _ _ _ _ c.in_ok-visit.ensures.told.told in
+    let told : TellsOutcomes c.args.archive.now _ _ _ _ = told_among (λ of. of.tally) c.args.archive.now _ _ _ _ _ c.in_ok-visit.ensures.told.told in
     let front = c.in_err-write_summary.ensures.stops told.entries (told.counts [] c.new-progress.ensures.empty) in
     rw (p.1, p.2) (stop_tells _ _ _ fault (stops_summary _ _ _ _ _ _ fault told front))
 
@@ -55,14 +55,14 @@ returns-in_err-write_summary-clause-root g c =
 
 pub returns-clause-answer : goal.returns-clause-answer
 returns-clause-answer g c =
-    let told : TellsOutcomes c.args.archive.now.days _ _ _ _ = told_among (λ of. of.tally) c.args.archive.now.days _ _ _ _ _ c.in_ok-visit.ensures.told.told in
+    let told : TellsOutcomes c.args.archive.now _ _ _ _ = told_among (λ of. of.tally) c.args.archive.now _ _ _ _ _ c.in_ok-visit.ensures.told.told in
     let counts = told.counts [] c.new-progress.ensures.empty in
     walk_ends _ _ _ _ _ _ _ told (c.in_ok-write_summary.ensures.all told.entries counts)
-    (tells_end _ _ _ counts (rw c.saturating_add-made.ensures at (rw c.saturating_add-days.ensures at c.of.ensures))) counts.unopened
+    (tells_end _ _ _ counts (rw c.saturating_add-made.ensures at (rw c.saturating_add-days.ensures at (rw c.saturating_add-days-2.ensures at c.of.ensures)))) counts.unopened
 
 pub returns-clause-write : goal.returns-clause-write
 returns-clause-write g c =
-    let told : TellsOutcomes c.args.archive.now.days _ _ _ _ = told_among (λ of. of.tally) c.args.archive.now.days _ _ _ _ _ c.in_ok-visit.ensures.told.told in
+    let told : TellsOutcomes c.args.archive.now _ _ _ _ = told_among (λ of. of.tally) c.args.archive.now _ _ _ _ _ c.in_ok-visit.ensures.told.told in
     ok_tells _ _ _ _ (calm_calm _ _ _ told.calm c.in_ok-write_summary.ensures.calm).steady
 
 pub returns-clause-tree : goal.returns-clause-tree
@@ -70,7 +70,7 @@ returns-clause-tree g c =
     let visits = c.in_ok-visit.ensures.told in
     let counts = visits.told.told.counts [] c.new-progress.ensures.empty in
     tree_ends (λ of. of.tally) c.args.archive.now _ _ _ _ _ _ _ _ visits (c.in_ok-write_summary.ensures.all visits.told.told.entries counts)
-    (record { end = tells_end _ _ _ counts (rw c.saturating_add-made.ensures at (rw c.saturating_add-days.ensures at c.of.ensures)); first = counts.unopened })
+    (record { end = tells_end _ _ _ counts (rw c.saturating_add-made.ensures at (rw c.saturating_add-days.ensures at (rw c.saturating_add-days-2.ensures at c.of.ensures))); first = counts.unopened })
 
 pub returns-clause-root : goal.returns-clause-root
 returns-clause-root g c =

@@ -17,6 +17,12 @@ returns-in-Young c = λ before entry h channel outcome.
     kept_first c.args.self.now before entry h (ap unopened_of (outcome ∙ c.in-Young.is)) in
     grind (arith, common_steps)
 
+pub returns-in-Known : goal.returns-in-Known
+returns-in-Known c = λ before entry h channel outcome.
+    let first : c.args.self.now.unopened ≡ first_unopened (before ++ entry ∷ []) =
+    kept_first c.args.self.now before entry h (ap unopened_of (outcome ∙ c.in-Known.is)) in
+    grind (arith, common_steps)
+
 pub returns-in-Larger : goal.returns-in-Larger
 returns-in-Larger c = λ before entry h channel outcome.
     let first : c.args.self.now.unopened ≡ first_unopened (before ++ entry ∷ []) =

@@ -6,6 +6,7 @@ returns c = record {
   done = refl;
   skipped = refl;
   refused = refl;
+  known = refl;
   larger = refl;
   young = refl;
   channels = c.new.ensures;

@@ -9,13 +9,13 @@ pub returns-in_err-line-clause-stops : goal.returns-in_err-line-clause-stops
 returns-in_err-line-clause-stops g c =
     let p = err_from_is_err_and c.from_residual.result c.from_residual.ensures.1 in
     let out = g.O.Sink.device c.args.out.now in
-    rw (p.1, p.2) (front_piece out out (judged_end c.args.form c.args.self) 0 (takes_none out), (calm_same out).steady)
+    rw (p.1, p.2) (front_piece out out (judged_end c.args.asked.now c.args.self) 0 (takes_none out), (calm_same out).steady)
 
 pub returns-in_err-write_all-clause-stops : goal.returns-in_err-write_all-clause-stops
 returns-in_err-write_all-clause-stops g c =
     let p = err_from_is_err_and c.from_residual-in_err-write_all.result c.from_residual-in_err-write_all.ensures.1 in
     let part = c.in_err-write_all.ensures.part in
-    let text : c.as_bytes.result.now ≡ judged_end c.args.form c.args.self = search rules in
+    let text : c.as_bytes.result.now ≡ judged_end c.args.asked.now c.args.self = search rules in
     rw (p.1, p.2, ← text) (
       front_piece (g.O.Sink.device c.args.out.now)
           (g.O.Sink.device c.write_all.new.sink) c.as_bytes.result.now part.0 part.1,

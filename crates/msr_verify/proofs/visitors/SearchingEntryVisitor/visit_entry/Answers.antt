@@ -9,20 +9,20 @@ use Rattle.msr_verify.proofs.visitors.SearchingEntryVisitor.visit_entry.Goals as
 
 pub returns-in-Err-clause-told : goal.returns-in-Err-clause-told
 returns-in-Err-clause-told g c =
-    let folders = c.args.self.now.folders in
-    passed_other c.args.self.now.telling folders.root.now folders.out.now c.args.path.now c.args._kind
+    let folders = c.args.self.now.archive.now.folders in
+    passed_other c.args.self.now.archive.now folders.root.now folders.out.now c.args.path.now c.args._kind
     (g.T.Tree.went c.args.tree.now) (g.O.Sink.device c.args.out.now) c.args.tally.now
     (λ day. let one = c.parse.ensures.only day.0 day.1 in let other = c.in-Err.is in absurd cc)
 
 pub returns-in_err-file-in-Ok-clause-stops : goal.returns-in_err-file-in-Ok-clause-stops
 returns-in_err-file-in-Ok-clause-stops g c =
     let p = err_from_is_err_and c.from_residual.result c.from_residual.ensures.1 in
-    rw (p.1, p.2) (none_told c.args.self.now.telling (g.O.Sink.device c.args.out.now))
+    rw (p.1, p.2) (none_told c.args.self.now.archive.now (g.O.Sink.device c.args.out.now))
 
 pub returns-in_err-may_have-in-Ok-clause-stops : goal.returns-in_err-may_have-in-Ok-clause-stops
 returns-in_err-may_have-in-Ok-clause-stops g c =
     let p = err_from_is_err_and c.from_residual-in_err-may_have-in-Ok.result c.from_residual-in_err-may_have-in-Ok.ensures.1 in
-    rw (p.1, p.2, c.in_err-may_have-in-Ok.ensures.err) (none_told c.args.self.now.telling (g.O.Sink.device c.args.out.now))
+    rw (p.1, p.2, c.in_err-may_have-in-Ok.ensures.err) (none_told c.args.self.now.archive.now (g.O.Sink.device c.args.out.now))
 
 pub returns-in_err-may_have-in-Ok-clause-does : goal.returns-in_err-may_have-in-Ok-clause-does
 returns-in_err-may_have-in-Ok-clause-does g c =
@@ -30,9 +30,9 @@ returns-in_err-may_have-in-Ok-clause-does g c =
 
 pub returns-then-branch-clause-told : goal.returns-then-branch-clause-told
 returns-then-branch-clause-told g c =
-    let folders = c.args.self.now.folders in
+    let folders = c.args.self.now.archive.now.folders in
     let at : c.as_str.result.now ≡ joined folders.root.now c.args.path.now = search rules in
-    passed_day c.args.self.now.telling folders.root.now folders.out.now c.args.path.now c.args._kind
+    passed_day c.args.self.now.archive.now folders.root.now folders.out.now c.args.path.now c.args._kind
     (g.T.Tree.went c.args.tree.now) (g.T.Tree.went c.may_have.new.tree) (g.O.Sink.device c.args.out.now) c.args.tally.now
     (c.in-Ok.field-0, c.in-Ok.ensures.found) (rw (c.if-branch.true, at) at c.in_ok-may_have-in-Ok.ensures.goes)
 
@@ -42,9 +42,9 @@ returns-then-branch-clause-does g c =
 
 pub returns-else-branch-clause-told : goal.returns-else-branch-clause-told
 returns-else-branch-clause-told g c =
-    let folders = c.args.self.now.folders in
+    let folders = c.args.self.now.archive.now.folders in
     let at : c.as_str.result.now ≡ joined folders.root.now c.args.path.now = search rules in
-    on_ok_as c.tell.result (λ told. visited_orphan c.args.self.now.telling folders.root.now folders.out.now c.args.path.now c.args._kind
+    on_ok_as c.tell.result (λ told. visited_orphan c.args.self.now.archive.now folders.root.now folders.out.now c.args.path.now c.args._kind
     (g.T.Tree.went c.args.tree.now) (g.T.Tree.went c.may_have.new.tree) (g.O.Sink.device c.args.out.now) (g.O.Sink.device c.tell.new.out)
     c.args.tally.now c.tell.new.tally (c.in-Ok.field-0, c.in-Ok.ensures.found) (rw (c.if-branch.false, at) at c.in_ok-may_have-in-Ok.ensures.goes) told)
     (c.tell.ensures.told (record { day = (c.in-Ok.field-0, c.in-Ok.ensures.found); judgement_is = tt }))

@@ -10,7 +10,7 @@ use Rattle.msr_verify.proofs.visitors.SearchingEntryVisitor.visit_unlisted.Goals
 pub returns-in_err-may_have-clause-stops : goal.returns-in_err-may_have-clause-stops
 returns-in_err-may_have-clause-stops g c =
     let p = err_from_is_err_and c.from_residual.result c.from_residual.ensures.1 in
-    rw (p.1, p.2, c.in_err-may_have.ensures.err) (none_told c.args.self.now.telling (g.O.Sink.device c.args.out.now))
+    rw (p.1, p.2, c.in_err-may_have.ensures.err) (none_told c.args.self.now.archive.now (g.O.Sink.device c.args.out.now))
 
 pub returns-in_err-may_have-clause-does : goal.returns-in_err-may_have-clause-does
 returns-in_err-may_have-clause-does g c =
@@ -18,9 +18,9 @@ returns-in_err-may_have-clause-does g c =
 
 pub returns-then-not-branch-clause-told : goal.returns-then-not-branch-clause-told
 returns-then-not-branch-clause-told g c =
-    let folders = c.args.self.now.folders in
+    let folders = c.args.self.now.archive.now.folders in
     let at : c.args.place.now ≡ joined folders.out.now c.args.folder.now = c.requires.place in
-    passed_folder c.args.self.now.telling folders.root.now folders.out.now c.args.folder.now
+    passed_folder c.args.self.now.archive.now folders.root.now folders.out.now c.args.folder.now
     (g.T.Tree.went c.args.tree.now) (g.T.Tree.went c.may_have.new.tree) (g.O.Sink.device c.args.out.now) c.args.tally.now
     (rw (c.if-not-branch.true, at) at c.in_ok-may_have.ensures.goes)
 
@@ -30,9 +30,9 @@ returns-then-not-branch-clause-does g c =
 
 pub returns-clause-told : goal.returns-clause-told
 returns-clause-told g c =
-    let folders = c.args.self.now.folders in
+    let folders = c.args.self.now.archive.now.folders in
     let at : c.args.place.now ≡ joined folders.out.now c.args.folder.now = c.requires.place in
-    on_ok_as c.tell.result (λ told. visited_records c.args.self.now.telling folders.root.now folders.out.now c.args.folder.now
+    on_ok_as c.tell.result (λ told. visited_records c.args.self.now.archive.now folders.root.now folders.out.now c.args.folder.now
     (g.T.Tree.went c.args.tree.now) (g.T.Tree.went c.may_have.new.tree) (g.O.Sink.device c.args.out.now) (g.O.Sink.device c.tell.new.out)
     c.args.tally.now c.tell.new.tally (rw (c.if-not-branch.false, at) at c.in_ok-may_have.ensures.goes) told)
     (rw c.told_folder.ensures at c.tell.ensures.told tt)

@@ -6,6 +6,7 @@ use Rattle.msr_walk.proofs.EntriesTold.{counted_on, none_told}
 use Rattle.msr_walk.proofs.Visited.{visited_day}
 use Rattle.msr_walk.proofs.Working.{goes_works_none, goes_works_then, wait_after}
 use Rattle.msr_outcomes.specs.Entries.{Entry, IsDayOf}
+use Rattle.msr_outcomes.specs.Known.{known_as}
 use Rattle.msr_walk.proofs.walker.Walker.visit_day.Goals as goal
 
 pub returns-in_err-channel-clause-stops : goal.returns-in_err-channel-clause-stops
@@ -30,10 +31,10 @@ returns-in_err-handled-clause-days g c = wait_after c.args.self.now.archive.now.
 pub returns-clause-told : goal.returns-clause-told
 returns-clause-told g c =
     let day : IsDayOf c.args.path.now c.as_str.result.now = search rules in
-    let entry : Entry = record { path = c.args.path.now; channel = c.as_str.result.now; outcome = c.in_ok-handled.handled.outcome } in
-    let told = counted_on (λ of. of.tally) c.args.self.now.archive.now.days (entry ∷ []) (g.O.Sink.device c.args.out.now) (g.O.Sink.device c.tell-told.new.out) c.args.progress.now c.wait.new.self _ _ c.tell-told.result
+    let entry : Entry = record { path = c.args.path.now; channel = c.as_str.result.now; outcome = known_as c.args.self.now.archive.now.known c.args.path.now c.in_ok-handled.handled.outcome } in
+    let told = counted_on (λ of. of.tally) c.args.self.now.archive.now (entry ∷ []) (g.O.Sink.device c.args.out.now) (g.O.Sink.device c.tell-told.new.out) c.args.progress.now c.wait.new.self _ _ c.tell-told.result
     (c.tell-told.ensures.told (outcome_of _ _ _ _ day c.in_ok-handled.ensures.told)) refl c.wait.ensures.tally in
-    λ kind there. on_ok_as c.tell-told.result (λ told. visited_day (λ of. of.tally) c.args.self.now.archive.now.days c.args.self.now.archive.now.folders.root.now c.args.self.now.archive.now.folders.out.now c.args.self.now.archive.now.folders.reports.now (λ told. told.outcome) c.in_ok-handled.handled
+    λ kind there. on_ok_as c.tell-told.result (λ told. visited_day (λ of. of.tally) c.args.self.now.archive.now c.args.self.now.archive.now.folders.root.now c.args.self.now.archive.now.folders.out.now c.args.self.now.archive.now.folders.reports.now (λ told. told.outcome) c.in_ok-handled.handled
     c.args.path.now c.as_str.result.now kind (g.T.Tree.went c.args.tree.now) (g.T.Tree.went c.handle.new.tree) (g.T.Tree.went c.wait.new.tree)
     (g.O.Sink.device c.args.out.now) (g.O.Sink.device c.tell-told.new.out) c.args.progress.now c.wait.new.self
     there (c.args.name.now, c.requires.day) c.in_ok-handled.ensures.goes c.wait.ensures.works told) told

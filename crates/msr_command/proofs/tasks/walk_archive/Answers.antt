@@ -1,0 +1,11 @@
+use Rattle.std.proofs.lemmas.Result.{err_from_is_err_and}
+use Rattle.msr_command.proofs.Endings.{archive_done, archive_stops}
+use Rattle.msr_command.proofs.tasks.walk_archive.Goals as goal
+
+pub returns-in_err-walked : goal.returns-in_err-walked
+returns-in_err-walked g c =
+    let p = err_from_is_err_and c.from_residual.result c.from_residual.ensures.1 in
+    λ asked is. rw (p.1, p.2) (archive_stops asked c.args.archive.now _ _ _ is c.in_err-walked.ensures.answer)
+
+pub returns : goal.returns
+returns g c = λ asked is. archive_done asked c.args.archive.now _ _ _ is c.in_ok-walked.ensures.answer

@@ -1,0 +1,19 @@
+use Rattle.std.proofs.Common.{inl, inr, refl}
+use Rattle.std.proofs.lemmas.Result.{err_from_is_err_and}
+use Rattle.msr_command.proofs.Endings.{archive_unbegun, known_same, unread, unwalked}
+use Rattle.msr_command.specs.declared.task_fault.TaskFault.TheVariants.{Tool}
+use Rattle.msr_tool.specs.declared.fault.ToolFault.TheVariants as fault
+use Rattle.msr_command.proofs.tasks.walk_known.Goals as goal
+
+pub returns-in_err-lines-in-File : goal.returns-in_err-lines-in-File
+returns-in_err-lines-in-File g c =
+    let p = err_from_is_err_and c.from_residual.result c.from_residual.ensures.1 in
+    rw (p.1, p.2) (archive_unbegun c.args.asked.now (g.O.Sink.device c.args.output.now) _ (unread c.args.asked.now.known c.in-File.name _ c.in-File.is c.in_err-lines-in-File.ensures))
+
+pub returns-in_default : goal.returns-in_default
+returns-in_default g c =
+    c.walk_archive-in_default.ensures c.args.asked.now (record { days = refl; known = known_same c.args.asked.now.known c.in_default.not-File })
+
+pub returns-in_default-clone : goal.returns-in_default-clone
+returns-in_default-clone g c =
+    archive_unbegun c.args.asked.now (g.O.Sink.device c.args.output.now) (Tool fault.Memory) (unwalked c.args.asked.now.known (Tool fault.Memory) (inr refl))

@@ -1,0 +1,29 @@
+//! The task of a dry run: what repacking the days of an archive would give.
+ghost use Rattle.msr_command.specs.Ends.{TriesArchive};
+ghost use Rattle.msr_devices.specs.Device.{CanCountCall};
+
+use crate::clock::time_of_now;
+use crate::done::Done;
+use crate::task_fault::TaskFault;
+use msr_devices::Sink;
+use msr_options::Trying;
+use msr_system::SystemTree;
+use msr_trial::trial;
+use std::alloc::Global;
+use std::rt::Files;
+use std::time::Clock;
+
+/// Tells it of each day.
+pub(crate) fn try_archive<'a, R: Files + Clock, O: Sink>(
+    rt: &R,
+    alloc: Global,
+    asked: &Trying<'a>,
+    output: &mut O,
+) -> Result<Done, TaskFault<'a>>
+    requires output { CanCountCall (O.device output.old) }
+    ensures { TriesArchive asked.now (O.device output.old) (O.device output.new) result }
+{
+    let mut tree = SystemTree::new(rt, alloc);
+    let tried = trial(&mut tree, alloc, &*asked, time_of_now(rt), output)?;
+    Ok(Done::of_walk(tried.found, tried.unopened, asked.below.is_empty(), false))
+}

@@ -1,0 +1,4 @@
+pub mod Lined
+pub mod Packed
+pub mod Told
+pub mod Walked

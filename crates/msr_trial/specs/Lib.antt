@@ -1,0 +1,4 @@
+pub mod Days
+pub mod Entries
+pub mod Lines
+pub mod Walk
