@@ -10,3 +10,4 @@ pub mod Visits
 pub mod Walks
 pub mod Within
 pub mod Ages
+pub mod Opening
