@@ -1,5 +1,5 @@
 -- A walk, put together from visits.
-use Rattle.std.proofs.Common.{◌≡◌, ◌≢◌, ◌<◌, inl, inr, ⊎_elim, ℕ, zero, suc, ◌-◌, Bool, true, false, if◌then◌else◌, List, [], ◌∷◌, ◌++◌, refl, sym, ◌∙◌, ap, subst, append_assoc, arith, get_or, length, Ok, Err, OnOk, Result, Option, unwrap_or}
+use Rattle.std.proofs.Common.{◌≡◌, ◌≢◌, ◌<◌, ◌==◌, inl, inr, ⊎_elim, ℕ, zero, suc, ◌-◌, Bool, true, false, if◌then◌else◌, List, [], ◌∷◌, ◌++◌, refl, sym, ◌∙◌, ap, subst, append_assoc, arith, get_or, length, Ok, Err, OnOk, Result, Option, unwrap_or}
 use Rattle.std.proofs.lemmas.List.{append-nil}
 use Rattle.std.specs.Borrow.{Bor}
 use Rattle.std.specs.Prelude.{String, string_bytes}
@@ -121,6 +121,10 @@ pub name_at : {Z : Type 0} (items : List (String Z)) (i : ℕ) (item : String Z)
 name_at [] i item lt is = absurd (omega (arith, lt))
 name_at (first ∷ items) zero item lt is = ap (λ s. string_bytes s) is
 name_at (first ∷ items) (suc i) item lt is = name_at items i item (omega (arith, lt)) is
+
+pub is_nothing : {A : Type 0} (items : List A) (answer : Bool) → answer ≡ (length items == 0) → answer ≡ true → items ≡ []
+is_nothing [] answer is yes = refl
+is_nothing (item ∷ items) answer is yes = absurd cc
 
 module _ {V L T : Type 0} (tells : V → List L → (out0 out : Device) → (tally0 tally : T) → Type 0)
     (stops : V → (out0 out : Device) → DeviceFault → Type 0) (says : V → (old new : List Step) → Visit → List L → Type 0)
@@ -276,17 +280,17 @@ module _ {V L T : Type 0} (tells : V → List L → (out0 out : Device) → (tal
       walk_visit (λ past. AreEntries (does visitor) past root levels folder) (Passed folder) before after out0 out tally0 tally refl (λ past went. inr (inl refl)) visit
 
   -- one that is begun with, and has no list
-  pub opens_unlisted : (levels : ℕ) (folder place : Path) (before mid then after : List Step → Type 0) (out0 out1 out : Device) (tally0 tally1 tally : T)
+  pub opens_unlisted : (levels : ℕ) (folder place : Path) (before mid listed_at after : List Step → Type 0) (out0 out1 out : Device) (tally0 tally1 tally : T)
       → tells visitor [] out0 out1 tally0 tally1 → Goes before mid (VisitDoes (does visitor) (listless visitor))
-      → place ≡ joined root folder → Goes mid then (IsUnlisted place)
-      → Visited (WithoutList folder) then after out1 out tally1 tally
+      → place ≡ joined root folder → Goes mid listed_at (IsUnlisted place)
+      → Visited (WithoutList folder) listed_at after out1 out tally1 tally
       → Walk (λ past. AreEntries (does visitor) past root levels folder) before after out0 out tally0 tally
-  opens_unlisted levels folder place before mid then after out0 out1 out tally0 tally1 tally told goes at lists visit =
+  opens_unlisted levels folder place before mid listed_at after out0 out1 out tally0 tally1 tally told goes at lists visit =
       walk_after (λ past. AreEntries (does visitor) past root levels folder) (λ past. AreEntries (does visitor) past root levels folder)
       before mid after out0 out1 out tally0 tally1 tally
       (λ old middle visits done are.
       entries_seen root (does visitor) (does visitor) old middle (earlier (does visitor) (laws.onward visitor) root old middle done) levels folder visits are)
-      told goes (walk_unlisted levels folder place mid then after out1 out tally1 tally at lists visit)
+      told goes (walk_unlisted levels folder place mid listed_at after out1 out tally1 tally at lists visit)
 
   -- one that has a list
   pub opens_listed : (levels : ℕ) (folder place : Path) (names : List Path) (before mid after : List Step → Type 0) (out0 out1 : Device) (tally0 tally1 : T)
@@ -380,6 +384,24 @@ module _ {V L T : Type 0} (tells : V → List L → (out0 out : Device) → (tal
 
   pub does_visit : (before after : List Step → Type 0) → Goes before after (VisitDoes (does visitor) (listless visitor)) → Goes before after (does visitor)
   does_visit before after goes = goes_so _ _ before after (λ old new went is. is.does) goes
+
+  pub does_walk : (Are : List Step → List Visit → Type 0) (before after : List Step → Type 0) (out0 out : Device) (tally0 tally : T)
+      → Walk Are before after out0 out tally0 tally → Goes before after (does visitor)
+  does_walk Are before after out0 out tally0 tally walk = goes_so _ _ before after (λ old new went is. is.does) walk.goes
+
+  -- a folder was listed, whatever is answered
+  pub does_listed : {N : Type 0} (place : Path) (names : N → List Path) (result : Result N TreeFault) (before after : List Step → Type 0)
+      → Goes before after (ListsFolder place names result) → Goes before after (does visitor)
+  does_listed {N = N} place names result before after goes = goes_so _ _ before after (λ old new went lists. by result old new lists) goes
+    where
+      same : (old new : List Step) → new ≡ old → does visitor old new
+      same old new is = subst (λ l. does visitor old l) (sym is) (laws.still visitor old)
+
+      by : (answer : Result N TreeFault) (old new : List Step) → ListsFolder place names answer old new → does visitor old new
+      by (Ok x) old new lists = same old new lists.0
+      by (Err tree_fault.Memory) old new lists = same old new lists
+      by (Err tree_fault.Failed) old new lists =
+          subst (λ l. does visitor old l) (sym (lists.2 ∙ ap (λ l. Failed ∷ l) lists.1)) (laws.unlisted visitor old place)
 
   -- before the first folder that is asked for
   pub no_folder_yet : (before : List Step → Type 0) (out : Device) (tally : T) → Walk (λ past. ForEach (AreEntriesBelow (does visitor) past root) []) before before out out tally tally

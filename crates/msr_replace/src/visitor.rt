@@ -65,11 +65,11 @@ fn failed_at(alloc: Global, path: &str, outcome: Outcome) -> Result<Option<Strin
         → AllByRecursion (λ entry. has_failed entry.outcome ≡ false) before
         → IsStoppedAt (before ++ entry_of path.now outcome ∷ []) failed) }
 {
-    if outcome.has_failed() {
-        Ok(Some(String::from_str(alloc, path)?))
-    } else {
-        Ok(None)
+    if !outcome.has_failed() {
+        return Ok(None);
     }
+    let at = String::from_str(alloc, path)?;
+    Ok(Some(at))
 }
 
 /// Tells of an entry. If the tree failed in it, nothing more is begun.
@@ -140,7 +140,8 @@ fn searched<T: Tree>(
 {
     let file = join(work.alloc, work.root, path)?;
     match tree.has(file.as_str()) {
-        Ok(there) => Ok((!there).then_some(Outcome::Orphan)),
+        Ok(true) => Ok(None),
+        Ok(false) => Ok(Some(Outcome::Orphan)),
         Err(TreeFault::Failed) => Ok(None),
         Err(TreeFault::Memory) => Err(DeviceFault::Memory),
     }
@@ -274,7 +275,8 @@ where
             return Ok(false);
         }
         match tree.has(place) {
-            Ok(there) => Ok(!there),
+            Ok(true) => Ok(false),
+            Ok(false) => Ok(true),
             Err(TreeFault::Failed) => Ok(false),
             Err(TreeFault::Memory) => Err(DeviceFault::Memory),
         }

@@ -3,7 +3,7 @@ use Rattle.std.proofs.Common.{refl}
 use Rattle.msr_folders.proofs.VisitLemmas.{part_line}
 use Rattle.msr_replace.specs.Entries.{IsExchangeEntry, IsExchangeEntryLine, entry_of}
 use Rattle.msr_replace.proofs.LinesTold.{none_told}
-use Rattle.msr_replace.proofs.walk.print.Goals as goal
+use Rattle.msr_replace.proofs.visitor.print.Goals as goal
 
 pub returns-in_err-line-clause-stops : goal.returns-in_err-line-clause-stops
 returns-in_err-line-clause-stops g c =
