@@ -1,5 +1,6 @@
 -- A walk, put together from visits.
 use Rattle.std.proofs.Common.{◌≡◌, ◌≢◌, ◌<◌, ◌==◌, inl, inr, ⊎_elim, ℕ, zero, suc, ◌-◌, Bool, true, false, if◌then◌else◌, List, [], ◌∷◌, ◌++◌, refl, sym, ◌∙◌, ap, subst, append_assoc, arith, get_or, length, Ok, Err, OnOk, Result, Option, unwrap_or}
+use Rattle.std.proofs.lemmas.Bool.Decides.{Decides-eqb}
 use Rattle.std.proofs.lemmas.List.{append-nil}
 use Rattle.std.specs.Borrow.{Bor}
 use Rattle.std.specs.Prelude.{String, string_bytes}
@@ -122,9 +123,12 @@ name_at [] i item lt is = absurd (omega (arith, lt))
 name_at (first ∷ items) zero item lt is = ap (λ s. string_bytes s) is
 name_at (first ∷ items) (suc i) item lt is = name_at items i item (omega (arith, lt)) is
 
+none_in : {A : Type 0} (items : List A) → length items ≡ 0 → items ≡ []
+none_in [] is = refl
+none_in (item ∷ items) is = absurd (omega (arith, is))
+
 pub is_nothing : {A : Type 0} (items : List A) (answer : Bool) → answer ≡ (length items == 0) → answer ≡ true → items ≡ []
-is_nothing [] answer is yes = refl
-is_nothing (item ∷ items) answer is yes = absurd cc
+is_nothing items answer is empty = none_in items ((Decides-eqb (length items) 0).0 (sym is ∙ empty))
 
 module _ {V L T : Type 0} (tells : V → List L → (out0 out : Device) → (tally0 tally : T) → Type 0)
     (stops : V → (out0 out : Device) → DeviceFault → Type 0) (says : V → (old new : List Step) → Visit → List L → Type 0)
@@ -177,8 +181,7 @@ module _ {V L T : Type 0} (tells : V → List L → (out0 out : Device) → (tal
     told = told;
     goes = record {
       from = λ new went.
-          let sooner = goes.from new went in
-          (
+          let sooner = goes.from new went in (
             sooner.0,
             sooner.1,
             record {

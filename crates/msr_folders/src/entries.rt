@@ -152,10 +152,7 @@ fn open_folder<T: Tree, V: EntryVisitor, O: Sink>(
     ensures does { Goes (T.went tree.old) (T.went tree.new) (V.does walk.now.visitor.now) }
     ensures holds { HoldsAt (T.went tree.new) (V.holds walk.now.visitor.now tally.new) }
 {
-    let Some(entered) = walk
-        .visitor
-        .enter_folder(tree, folder, levels, out, tally)?
-    else {
+    let Some(entered) = walk.visitor.enter_folder(tree, folder, levels, out, tally)? else {
         return Ok(None);
     };
     let place = join(walk.alloc, walk.root, folder)?;

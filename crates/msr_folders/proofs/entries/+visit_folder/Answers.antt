@@ -73,7 +73,7 @@ loop-name-preserved g t c =
             | then-levels-eq0 w' ↦ λ some. absurd (omega (arith, w'.if-levels-eq0.true, some))
             | else-levels-eq0 w' ↦
                 let place : w'.as_str-else-levels-eq0.result.now ≡ joined root (below folder name) =
-                w'.as_str-else-levels-eq0.ensures.value ∙ (c.in_ok-place-2.ensures ∙ ap (λ p. joined root p) (c.as_str-in-loop-name.ensures.value ∙ path)) in
+                w'.as_str-else-levels-eq0.ensures.value ∙ (c.in_ok-place.ensures ∙ ap (λ p. joined root p) (c.as_str-in-loop-name.ensures.value ∙ path)) in
                 λ some past went. rw w'.kind-is (subst (λ p. IsTold past p w'.kind-kind.result) place (w'.kind-kind.ensures past went))
           ] in
           let none : (levels ≡ 0 → kind ≡ Other) = elim c.if-levels-eq0.branch [
