@@ -11,3 +11,4 @@ pub mod Walks
 pub mod Within
 pub mod Ages
 pub mod Opening
+pub mod Stopping

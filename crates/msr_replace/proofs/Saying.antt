@@ -1,15 +1,17 @@
 -- What is said on a walk, visit by visit.
-use Rattle.std.proofs.Common.{◌≡◌, ◌<◌, inl, inr, ℕ, Bool, true, false, List, [], ◌∷◌, ◌++◌, refl, sym, ◌∙◌, ap, subst, append_assoc, arith, Option, None, Some, IsSome, String, Result, Ok, Err, IfErr, OnOk}
+use Rattle.std.proofs.Common.{◌≡◌, ◌<◌, inl, inr, ℕ, Bool, true, false, List, [], ◌∷◌, ◌++◌, refl, sym, ◌∙◌, ap, subst, append_assoc, arith, Option, None, Some, is_some, String, Result, Ok, Err, IfErr, OnOk}
 use Rattle.std.specs.Borrow.{Bor}
 use Rattle.std.specs.List.{AllByRecursion}
 use Rattle.msr_devices.specs.Device.{Device, Takes}
 use Rattle.msr_devices.proofs.Chaining.{takes_append}
 use Rattle.msr_devices.specs.declared.fault.DeviceFault.{DeviceFault}
 use Rattle.msr_exchange.specs.declared.work.DayWork.{DayWork}
-use Rattle.msr_folders.proofs.VisitLemmas.{these_more, these_none, these_one}
+use Rattle.msr_folders.proofs.StoppingLemmas.{later_still, later_then, not_both, until_line, until_more, until_none, until_stopped}
+use Rattle.msr_folders.proofs.VisitLemmas.{these_one}
 use Rattle.msr_folders.proofs.WalkedLemmas.{goes_none, goes_so, goes_then}
 use Rattle.msr_folders.specs.Entries.{AreEntriesSince, Visit}
-use Rattle.msr_folders.specs.Visits.{IsWalk, TellsThese}
+use Rattle.msr_folders.specs.Stopping.{IsLater, entries_of}
+use Rattle.msr_folders.specs.Visits.{IsWalk}
 use Rattle.msr_folders.specs.Walks.{TellsVisit, TellsWalk, VisitDoes, VisitLaws}
 use Rattle.msr_folders.specs.declared.found.WalkFound.{WalkFound}
 use Rattle.msr_options.specs.declared.task.Replacing.{Replacing}
@@ -17,9 +19,8 @@ use Rattle.msr_tree.specs.Calls.{Goes, Tells}
 use Rattle.msr_tree.specs.Steps.{ChangesOnly, Failed, Path, Step, Unlisted, failures}
 use Rattle.msr_tree.specs.declared.tree.TreeFault.{TreeFault}
 use Rattle.msr_tree.specs.declared.tree.TreeFault.TheVariants as fault
-use Rattle.msr_replace.proofs.LinesTold.{none_told, stops_more}
 use Rattle.msr_replace.specs.Entries.{ExchangeEntry, IsExchangeEntry, IsExchangeEntryLine, IsExchangeOf, IsExchangeTally, IsStoppedAt, entry_of, has_failed}
-use Rattle.msr_replace.specs.Said.{AreStopped, AreTold, AreToldFirst, Does, IsCourse, IsLater, IsSaid, IsSaidGoing, Line, Said, Stopped, TellsSaid, entries_of, line_of, walked}
+use Rattle.msr_replace.specs.Said.{Does, IsCourse, IsSaid, IsSaidGoing, Said, TellsSaid, line_of, walked}
 use Rattle.msr_replace.specs.Sums.{exchange_summary}
 use Rattle.msr_replace.specs.Tree.{IsWorkOf, ReplacesTree, TellsCourses}
 use Rattle.msr_replace.specs.Walk.{HasCome, Prints, StopsTellingExchanges, TellsFound}
@@ -28,65 +29,16 @@ use Rattle.msr_replace.specs.declared.progress.Progress.{Progress}
 use Rattle.msr_replace.specs.declared.replacer.Course.{Course}
 use Rattle.msr_replace.specs.declared.replacer.Course.TheVariants as course
 
-entries_append : (one two : List Said) → entries_of (one ++ two) ≡ entries_of one ++ entries_of two
-entries_append [] two = refl
-entries_append (Line entry ∷ one) two = ap (λ l. entry ∷ l) (entries_append one two)
-entries_append (Stopped ∷ one) two = entries_append one two
-
-both_told : (one two : List Said) → AreTold one → AreTold two → AreTold (one ++ two)
-both_told [] two a b = b
-both_told (Line entry ∷ one) two a b = both_told one two a b
-both_told (Stopped ∷ one) two a b = absurd a
-
-both_stopped : (one two : List Said) → AreStopped one → AreStopped two → AreStopped (one ++ two)
-both_stopped [] two a b = b
-both_stopped (Line entry ∷ one) two a b = absurd a
-both_stopped (Stopped ∷ one) two a b = both_stopped one two a b
-
-stopped_first : (said : List Said) → AreStopped said → AreToldFirst said
-stopped_first [] a = tt
-stopped_first (Line entry ∷ said) a = absurd a
-stopped_first (Stopped ∷ said) a = a
-
-told_then : (one two : List Said) → AreTold one → AreToldFirst two → AreToldFirst (one ++ two)
-told_then [] two a b = b
-told_then (Line entry ∷ one) two a b = told_then one two a b
-told_then (Stopped ∷ one) two a b = absurd a
-
-stopped_then : (one two : List Said) → AreToldFirst one → AreStopped two → AreToldFirst (one ++ two)
-stopped_then [] two a b = stopped_first two b
-stopped_then (Line entry ∷ one) two a b = stopped_then one two a b
-stopped_then (Stopped ∷ one) two a b = both_stopped one two a b
-
-is_none : {Z : Type 0} (failed : Option (String Z)) → failed ≡ None → IsSome failed → ⊥
-is_none None e some = some
-is_none (Some x) e some = absurd cc
-
--- nothing is said
-pub none_said : (out : Device) (progress : Progress) → TellsSaid [] out out progress progress
-none_said out progress = record {
-  told = these_none IsExchangeEntry IsExchangeEntryLine HasCome out progress;
-  first = tt;
-  after = λ is. (tt, is);
-  all = λ none. tt;
-}
-
--- nothing more is begun
-pub stop_said : (out : Device) (progress : Progress) → IsSome progress.failed → TellsSaid (Stopped ∷ []) out out progress progress
-stop_said out progress some = record {
-  told = these_none IsExchangeEntry IsExchangeEntryLine HasCome out progress;
-  first = tt;
-  after = λ is. (tt, is);
-  all = λ none. absurd (is_none progress.failed none some);
-}
-
-all_going : (before : List ExchangeEntry) (progress : Progress) → progress.failed ≡ None → HasCome before progress
+all_going : {Z : Type 0} (before : List ExchangeEntry) (failed : Option (String Z)) → is_some failed ≡ false → IsStoppedAt before failed
     → AllByRecursion (λ (e : ExchangeEntry). has_failed e.outcome ≡ false) before
-all_going before progress none come = by progress.failed none come.stopped
-  where
-    by : (failed : Option (String _)) → failed ≡ None → IsStoppedAt before failed → AllByRecursion (λ (e : ExchangeEntry). has_failed e.outcome ≡ false) before
-    by None e h = h
-    by (Some x) e h = absurd cc
+all_going before None e h = h
+all_going before (Some x) e h = absurd (not_both true refl e)
+
+none_failed : {Z : Type 0} (failed : Option (String Z)) → failed ≡ None → is_some failed ≡ false
+none_failed failed e = ap (λ f. is_some f) e
+
+pub none_said : (out : Device) (progress : Progress) → TellsSaid [] out out progress progress
+none_said = until_none IsExchangeEntry IsExchangeEntryLine HasCome (λ progress. is_some progress.failed)
 
 -- one line
 pub line_said : (path : Path) (outcome : Outcome) (out0 out : Device) (old new : Progress) → IsExchangeOf path outcome → Prints path outcome out0 out
@@ -94,55 +46,14 @@ pub line_said : (path : Path) (outcome : Outcome) (out0 out : Device) (old new :
     → old.failed ≡ None
     → ((before : List ExchangeEntry) → AllByRecursion (λ (e : ExchangeEntry). has_failed e.outcome ≡ false) before → IsStoppedAt (before ++ entry_of path outcome ∷ []) new.failed)
     → TellsSaid (line_of path outcome) out0 out old new
-line_said path outcome out0 out old new is printed counted none stopped = record {
-  told = these_one IsExchangeEntry IsExchangeEntryLine HasCome out0 out old new (entry_of path outcome) printed.line is printed.is_line printed.takes printed.calm
-      (λ before h. record { counted = counted before h.counted; stopped = stopped before (all_going before old none h) });
-  first = tt;
-  after = λ some. absurd (is_none old.failed none some);
-  all = λ x. tt;
-}
+line_said path outcome out0 out old new is printed counted none stopped =
+    until_line IsExchangeEntry IsExchangeEntryLine HasCome (λ progress. is_some progress.failed) (entry_of path outcome) out0 out old new (none_failed old.failed none)
+    (these_one IsExchangeEntry IsExchangeEntryLine HasCome out0 out old new (entry_of path outcome) printed.line is printed.is_line printed.takes printed.calm
+    (λ before h. record { counted = counted before h.counted; stopped = stopped before (all_going before old.failed (none_failed old.failed none) h.stopped) }))
 
 pub said_more : (one two : List Said) (out0 out1 out : Device) (old mid new : Progress) → TellsSaid one out0 out1 old mid → TellsSaid two out1 out mid new
     → TellsSaid (one ++ two) out0 out old new
-said_more one two out0 out1 out old mid new first second = record {
-  told = subst (λ l. TellsThese IsExchangeEntry IsExchangeEntryLine HasCome l out0 out old new) (sym (entries_append one two))
-      (these_more IsExchangeEntry IsExchangeEntryLine HasCome (entries_of one) (entries_of two) out0 out1 out old mid new first.told second.told);
-  first = in_order mid.failed refl;
-  after = λ some.
-      let a = first.after some in
-      let b = second.after a.1 in
-      (both_stopped one two a.0 b.0, b.1);
-  all = λ none. whole none mid.failed refl;
-}
-  where
-    in_order : (failed : Option (String _)) → mid.failed ≡ failed → AreToldFirst (one ++ two)
-    in_order None e = told_then one two (first.all e) second.first
-    in_order (Some x) e = stopped_then one two first.first (second.after (subst (λ f. IsSome f) (sym e) tt)).0
-
-    whole : new.failed ≡ None → (failed : Option (String _)) → mid.failed ≡ failed → AreTold (one ++ two)
-    whole none None e = both_told one two (first.all e) (second.all none)
-    whole none (Some x) e = absurd (is_none new.failed none (second.after (subst (λ f. IsSome f) (sym e) tt)).1)
-
-pub later_still : (past : List Step) → IsLater past past
-later_still past = record { made = []; since = refl }
-
-pub later_then : (old mid new : List Step) → IsLater old mid → IsLater mid new → IsLater old new
-later_then old mid new first second = record {
-  made = second.made ++ first.made;
-  since = second.since ∙ ap (λ l. second.made ++ l) first.since ∙ sym (append_assoc second.made first.made old);
-}
-
-pub said_laws : {V : Type 0} → VisitLaws {V = V} {L = Said} {T = Progress} (λ visitor. TellsSaid) (λ visitor. StopsTellingExchanges) (λ visitor. IsLater)
-said_laws = record {
-  calm = λ visitor said out0 out old new told. told.told.told.calm;
-  none = λ visitor. none_said;
-  more = λ visitor. said_more;
-  refused = λ visitor. none_told;
-  later = λ visitor said out0 out1 out old mid fault told stopped. stops_more out0 out1 out old mid fault told.told.told stopped;
-  still = λ visitor. later_still;
-  onward = λ visitor. later_then;
-  unlisted = λ visitor past folder. record { made = Failed ∷ Unlisted folder ∷ []; since = refl };
-}
+said_more = until_more IsExchangeEntry IsExchangeEntryLine HasCome (λ progress. is_some progress.failed)
 
 -- what is done of the tree
 pub does_by : (R : (old new : List Step) → Type 0) (before after : List Step → Type 0) → ((old new : List Step) → R old new → IsLater old new)
@@ -197,11 +108,11 @@ module _ (on : Course) (work : DayWork) where
   }
 
   -- where the tree has failed before
-  pub passed_by : (visit : Visit) (before : List Step → Type 0) (out : Device) (progress : Progress) → IsSome progress.failed
+  pub passed_by : (visit : Visit) (before : List Step → Type 0) (out : Device) (progress : Progress) → is_some progress.failed ≡ true
       → Visits visit before before out out progress progress
   passed_by visit before out progress some = record {
-    lines = Stopped ∷ [];
-    told = stop_said out progress some;
+    lines = None ∷ [];
+    told = until_stopped IsExchangeEntry IsExchangeEntryLine HasCome (λ p. is_some p.failed) out progress some;
     goes = goes_none _ before (λ past. record { done = record { does = later_still past; lists_none = λ none. absurd none }; says = inl refl });
   }
 

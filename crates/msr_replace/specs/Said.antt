@@ -1,5 +1,5 @@
 -- What is told of the entries of a walk, by what the names lead to.
-use Rattle.std.specs.Prelude.{◌<◌, ◌≡◌, ◌≢◌, ◌⊎◌, ⊤, Bool, true, false, List, [], ◌∷◌, ◌++◌, Option, None, Some, Result, Ok, Err, IfOk, IsSome}
+use Rattle.std.specs.Prelude.{◌<◌, ◌≡◌, ◌≢◌, ◌⊎◌, ⊤, Bool, true, false, List, [], ◌∷◌, ◌++◌, Option, None, Some, is_some, Result, Ok, Err, IfOk}
 use Rattle.std.specs.Borrow.{Bor}
 use Rattle.msr_devices.specs.Device.{Device}
 use Rattle.msr_devices.specs.declared.fault.DeviceFault.{DeviceFault}
@@ -8,7 +8,7 @@ use Rattle.msr_exchange.specs.declared.work.DayWork.{DayWork}
 use Rattle.msr_folders.specs.Days.{IsDay, IsNoDay}
 use Rattle.msr_folders.specs.Entries.{AreEntriesSince, Entry, Left, Passed, Visit, WithoutList}
 use Rattle.msr_folders.specs.Paths.{joined, told_folder}
-use Rattle.msr_folders.specs.Visits.{TellsThese}
+use Rattle.msr_folders.specs.Stopping.{IsLater, TellsUntil}
 use Rattle.msr_folders.specs.Walks.{IsWalked}
 use Rattle.msr_sds.specs.declared.SdsFault.{SdsFault}
 use Rattle.msr_tree.specs.Listing.{is_there}
@@ -29,49 +29,21 @@ use Rattle.msr_replace.specs.declared.replacer.Course.{Course}
 use Rattle.msr_replace.specs.declared.replacer.Course.TheVariants as course
 
 -- what is said of a visit: the line of an entry, or that nothing more is begun
-pub data Said : Type 0 where
-  Line : ExchangeEntry → Said
-  Stopped : Said
+abbrev pub Said : Type 0
+Said = Option ExchangeEntry
 
 abbrev pub line_of : (path : Path) → Outcome → List Said
-line_of path outcome = Line (entry_of path outcome) ∷ []
+line_of path outcome = Some (entry_of path outcome) ∷ []
 
--- the entries of which a line tells
-abbrev pub entries_of : List Said → List ExchangeEntry
-entries_of [] = []
-entries_of (Line entry ∷ said) = entry ∷ entries_of said
-entries_of (Stopped ∷ said) = entries_of said
-
--- each has its line
-abbrev pub AreTold : List Said → Type 0
-AreTold [] = Unit {0}
-AreTold (Line entry ∷ said) = AreTold said
-AreTold (Stopped ∷ said) = ⊥
-
--- none has
-abbrev pub AreStopped : List Said → Type 0
-AreStopped [] = Unit {0}
-AreStopped (Line entry ∷ said) = ⊥
-AreStopped (Stopped ∷ said) = AreStopped said
-
--- after the first of which nothing is told there is no line
-abbrev pub AreToldFirst : List Said → Type 0
-AreToldFirst [] = Unit {0}
-AreToldFirst (Line entry ∷ said) = AreToldFirst said
-AreToldFirst (Stopped ∷ said) = AreStopped said
+-- the line of that path, if something is told
+abbrev pub said_of : (path : Path) → Option Outcome → List Said
+said_of path None = []
+said_of path (Some outcome) = line_of path outcome
 
 -- This was said: the lines were printed, and are counted; none of them after the tree has failed, and all of them if it has
 -- not.
-pub record TellsSaid (said : List Said) (out0 out : Device) (old new : Progress) : Type 0 where
-  pub told : TellsThese IsExchangeEntry IsExchangeEntryLine HasCome (entries_of said) out0 out old new
-  pub first : AreToldFirst said
-  pub after : IsSome old.failed → AreStopped said × IsSome new.failed
-  pub all : new.failed ≡ None → AreTold said
-
--- Steps were done, or none.
-pub record IsLater (old new : List Step) : Type 0 where
-  pub made : List Step
-  pub since : new ≡ made ++ old
+abbrev pub TellsSaid : List Said → (out0 out : Device) → (old new : Progress) → Type 0
+TellsSaid said out0 out old new = TellsUntil IsExchangeEntry IsExchangeEntryLine HasCome (λ progress. is_some progress.failed) said out0 out old new
 
 -- what is told of what is no day
 abbrev pub other_outcome : FileKind → SdsFault → Outcome
@@ -116,6 +88,12 @@ IsOfOther course.Root path kind outcome = (why : SdsFault) × IsNoDay path why �
 IsOfOther course.Out path kind outcome = outcome ≡ None
 IsOfOther course.Aside path kind outcome = outcome ≡ None
 
+-- What is no day was told.
+pub record TellsOther (on : Course) (path : Path) (kind : FileKind) (out0 out : Device) (old new : Progress) : Type 0 where
+  pub outcome : Option Outcome
+  pub told : TellsSaid (said_of path outcome) out0 out old new
+  pub is : IsOfOther on path kind outcome
+
 -- What is told of an entry.
 pub record IsOfEntry (on : Course) (work : DayWork) (path : Path) (kind : FileKind) (outcome : Option Outcome) (old new : List Step) : Type 0 where
   pub day : IsDay path → IsOfDay on work path outcome old new
@@ -139,11 +117,6 @@ IsWhyPassed (Refused refusal.NoFolder) = ⊤
 IsWhyPassed FolderFailed = ⊤
 IsWhyPassed outcome = ⊥
 
--- the line of that path, if something is told
-abbrev pub said_of : (path : Path) → Option Outcome → List Said
-said_of path None = []
-said_of path (Some outcome) = line_of path outcome
-
 -- what is said of a visit, if the tree has not failed before
 abbrev pub IsSaidGoing : Course → DayWork → (old new : List Step) → Visit → List Said → Type 0
 IsSaidGoing on work old new (Entry path kind) said = (outcome : Option Outcome) × (said ≡ said_of path outcome) × IsOfEntry on work path kind outcome old new
@@ -152,7 +125,7 @@ IsSaidGoing on work old new (Passed folder) said = (outcome : Outcome) × (said 
 IsSaidGoing on work old new (Left folder) said = (said ≡ []) ⊎ (said ≡ line_of folder FolderFailed)
 
 abbrev pub IsSaid : Course → DayWork → (old new : List Step) → Visit → List Said → Type 0
-IsSaid on work old new visit said = (said ≡ Stopped ∷ []) ⊎ IsSaidGoing on work old new visit said
+IsSaid on work old new visit said = (said ≡ None ∷ []) ⊎ IsSaidGoing on work old new visit said
 
 -- these entries of a folder were visited, each as it was at a moment of the walk, and this was said
 abbrev pub IsCourse : Course → DayWork → List (Bor Path) → List Visit → List Said → (old new : List Step) → Type 0

@@ -1,16 +1,17 @@
 -- What a walk to its end told of the folders, by what their names lead to.
-use Rattle.std.specs.Prelude.{◌<◌, ◌≡◌, ℕ, Bool, true, false, List, ◌++◌, Option, None, IsSome, Result, IfOk, String}
+use Rattle.std.specs.Prelude.{◌<◌, ◌≡◌, ℕ, Bool, true, false, List, ◌++◌, Option, is_some, String}
 use Rattle.std.specs.Borrow.{Bor}
 use Rattle.msr_devices.specs.Device.{Device, Takes}
 use Rattle.msr_exchange.specs.declared.work.DayWork.{DayWork}
 use Rattle.msr_folders.specs.Entries.{Visit}
+use Rattle.msr_folders.specs.Stopping.{AreTold, AreToldFirst, entries_of}
 use Rattle.msr_folders.specs.Visits.{IsWalk}
 use Rattle.msr_folders.specs.declared.found.WalkFound.{WalkFound}
 use Rattle.msr_options.specs.declared.task.Replacing.{Replacing}
 use Rattle.msr_tree.specs.Calls.{Goes}
 use Rattle.msr_tree.specs.Steps.{Step}
 use Rattle.msr_replace.specs.Entries.{IsExchangeEntry, IsExchangeEntryLine, IsStoppedAt}
-use Rattle.msr_replace.specs.Said.{AreTold, AreToldFirst, IsCourse, Said, TellsSaid, entries_of}
+use Rattle.msr_replace.specs.Said.{IsCourse, Said, TellsSaid}
 use Rattle.msr_replace.specs.Sums.{exchange_summary}
 use Rattle.msr_replace.specs.Walk.{TellsFound}
 use Rattle.msr_replace.specs.declared.progress.Progress.{Progress}
@@ -56,7 +57,7 @@ pub record ReplacesTree {Z : Type 0} (asked : Replacing) (before after : List St
   pub is_work : IsWorkOf asked work
   pub said : List Said
   pub first : AreToldFirst said
-  pub all : failed ≡ None → AreTold said
+  pub all : is_some failed ≡ false → AreTold said
   pub stopped : IsStoppedAt (entries_of said) failed
   pub printed : List ℕ
   pub prints : Takes out0 out printed

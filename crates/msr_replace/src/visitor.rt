@@ -1,21 +1,21 @@
 //! What is done of an entry of a folder, and told of it.
-ghost use Rattle.std.specs.Prelude.{◌≡◌, ◌≢◌, ◌∷◌, ◌++◌, [], IfErr, IfOk, IfSome, List, OnOk, false, true};
+ghost use Rattle.std.specs.Prelude.{◌≡◌, ◌≢◌, ◌∷◌, ◌++◌, [], IfErr, IfOk, IfSome, List, OnOk, false, is_some, true};
 ghost use Rattle.std.specs.List.{AllByRecursion};
 ghost use Rattle.msr_devices.specs.Device.{CanCountCall};
 ghost use Rattle.msr_devices.specs.declared.fault.DeviceFault.TheVariants.{Memory};
 ghost use Rattle.msr_folders.proofs.ReadingLemmas.{none_holds};
+ghost use Rattle.msr_folders.proofs.StoppingLemmas.{stopping_laws};
 ghost use Rattle.msr_folders.specs.Days.{IsDay, IsNoDay};
 ghost use Rattle.msr_folders.specs.Entries.{Entry};
+ghost use Rattle.msr_folders.specs.Stopping.{IsLater};
 ghost use Rattle.msr_folders.specs.Walks.{TellsVisit, VisitDoes};
-ghost use Rattle.msr_replace.proofs.Saying.{said_laws};
-ghost use Rattle.msr_replace.specs.Entries.{ExchangeEntry, IsExchangeTally, IsExchangeOf, IsStoppedAt, entry_of, has_failed};
-ghost use Rattle.msr_replace.specs.Said.{Does, IsLater, IsOfDay, IsOfReplaced, IsOfRestored, IsOfSearched, IsSaid, IsWhyPassed, Said, TellsSaid, line_of, other_outcome, walked};
-ghost use Rattle.msr_replace.specs.Walk.{Prints, StopsTellingExchanges};
+ghost use Rattle.msr_replace.specs.Entries.{ExchangeEntry, IsExchangeEntry, IsExchangeEntryLine, IsExchangeTally, IsExchangeOf, IsStoppedAt, entry_of, has_failed};
+ghost use Rattle.msr_replace.specs.Said.{Does, IsOfDay, IsOfReplaced, IsOfRestored, IsOfSearched, IsSaid, IsWhyPassed, Said, TellsOther, TellsSaid, line_of, other_outcome, walked};
+ghost use Rattle.msr_replace.specs.Walk.{HasCome, Prints, StopsTellingExchanges};
 ghost use Rattle.msr_sds.specs.declared.SdsFault.{SdsFault};
 ghost use Rattle.msr_exchange.specs.Work.{AreThreeFolders};
 ghost use Rattle.msr_tree.specs.Calls.{Goes};
 ghost use Rattle.msr_tree.specs.Listing.{is_there};
-ghost use Rattle.msr_tree.specs.Steps.{Step};
 ghost use Rattle.msr_tree.specs.declared.kind.FileKind.{FileKind};
 
 use crate::day::{replace_path, restore_path};
@@ -102,6 +102,7 @@ fn replaced<T: Tree>(
     requires apart { AreThreeFolders work.now }
     requires day { IsDay path.now }
     ensures goes { Goes (T.went tree.old) (T.went tree.new) (Does (λ outcome. IsOfReplaced work.now path.now outcome) result) }
+    ensures of { IfOk result (IsExchangeOf path.now) }
     ensures memory { IfErr result (λ fault. fault ≡ Memory) }
 {
     match replace_path(tree, work, path) {
@@ -120,6 +121,7 @@ fn restored<T: Tree>(
     requires apart { AreThreeFolders work.now }
     requires day { IsDay path.now }
     ensures goes { Goes (T.went tree.old) (T.went tree.new) (Does (λ outcome. IsOfRestored work.now path.now outcome) result) }
+    ensures of { IfOk result (IsExchangeOf path.now) }
     ensures memory { IfErr result (λ fault. fault ≡ Memory) }
 {
     match restore_path(tree, work, path) {
@@ -135,7 +137,9 @@ fn searched<T: Tree>(
     work: &DayWork<'_>,
     path: &str,
 ) -> Result<Option<Outcome>, DeviceFault>
+    requires { IsDay path.now }
     ensures goes { Goes (T.went tree.old) (T.went tree.new) (Does (λ outcome. IsOfSearched work.now path.now outcome) result) }
+    ensures of { IfOk result (λ outcome. IfSome outcome (IsExchangeOf path.now)) }
     ensures memory { IfErr result (λ fault. fault ≡ Memory) }
 {
     let file = join(work.alloc, work.root, path)?;
@@ -235,11 +239,10 @@ where
         progress: &mut Progress,
     ) -> Result<(), DeviceFault>
         requires other { IsNoDay path.now fault }
-        requires none { ¬ (IsDay path.now) }
         requires going { progress.old.failed ≡ None }
         requires count { CanCountCall (O.device out.old) }
-        ensures told { (went : List Step → Type 0) → OnOk result (TellsVisit TellsSaid (IsSaid self.now.course self.now.work) IsLater ⊥ (Entry path.now kind)
-            went went (O.device out.old) (O.device out.new) progress.old progress.new) }
+        ensures told { OnOk result (TellsOther self.now.course path.now kind (O.device out.old) (O.device out.new)
+            progress.old progress.new) }
         ensures stops { IfErr result (StopsTellingExchanges (O.device out.old) (O.device out.new)) }
     {
         match self.course {
@@ -308,7 +311,7 @@ where
 
     ghost root = { λ replacer. walked replacer.course replacer.work };
 
-    ghost laws = { said_laws };
+    ghost laws = { stopping_laws IsExchangeEntry IsExchangeEntryLine HasCome (λ progress. is_some progress.failed) };
 
     ghost listed = { none_holds };
 

@@ -3,10 +3,11 @@
 ghost use Rattle.std.specs.Prelude.{◌≡◌, ◌↔◌, ◌++◌, ◌∷◌, [], IfErr, IfOk, IfSome, IsErrOf, List, OnOk};
 ghost use Rattle.msr_devices.specs.Device.{CanCountCall, HasFailed};
 ghost use Rattle.msr_exchange.specs.Work.{AreThreeFolders};
+ghost use Rattle.msr_folders.specs.Stopping.{IsLater};
 ghost use Rattle.msr_folders.specs.Walks.{TellsWalk};
 ghost use Rattle.msr_folders.specs.Entries.{AreEntriesSince};
 ghost use Rattle.msr_options.specs.Tasks.{AreApartFrom, StandApart};
-ghost use Rattle.msr_replace.specs.Said.{IsLater, IsSaid, TellsSaid, walked};
+ghost use Rattle.msr_replace.specs.Said.{IsSaid, TellsSaid, walked};
 ghost use Rattle.msr_replace.specs.Tree.{IsWorkOf, ReplacesTree, TellsCourses};
 ghost use Rattle.msr_replace.specs.Walk.{HasCome, ReplacesDays, StopsTellingExchanges};
 ghost use Rattle.msr_tree.specs.Calls.{Goes};
