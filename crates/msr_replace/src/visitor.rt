@@ -250,7 +250,8 @@ where
                 let outcome = other_outcome(kind, fault);
                 tell(self.work.alloc, path, outcome, out, progress)
             }
-            Course::Out | Course::Aside => Ok(()),
+            Course::Out => Ok(()),
+            Course::Aside => Ok(()),
         }
     }
 

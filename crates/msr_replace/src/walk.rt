@@ -1,6 +1,6 @@
 //! The walk of a replace: through the folders of an archive, and then through those of its records; or through those of
 //! the originals that were set aside.
-ghost use Rattle.std.specs.Prelude.{◌≡◌, ◌↔◌, ◌++◌, ◌∷◌, [], IfErr, IfOk, IfSome, IsErrOf, List, OnOk};
+ghost use Rattle.std.specs.Prelude.{◌≡◌, ◌↔◌, ◌++◌, ◌∷◌, [], IfErr, IfOk, IfSome, IsErrOf, List, OnOk, false};
 ghost use Rattle.msr_devices.specs.Device.{CanCountCall, HasFailed};
 ghost use Rattle.msr_exchange.specs.Work.{AreThreeFolders};
 ghost use Rattle.msr_folders.specs.Stopping.{IsLater};
@@ -123,10 +123,9 @@ where
 {
     let below = asked.below.as_slice();
     if asked.undo {
-        walk_course(rt, tree, work, below, Course::Aside, out, progress)
-    } else {
-        walk_both(rt, tree, work, below, out, progress)
+        return walk_course(rt, tree, work, below, Course::Aside, out, progress);
     }
+    walk_both(rt, tree, work, below, out, progress)
 }
 
 /// Walks all that is asked for, and tells the sums.

@@ -39,7 +39,7 @@ returns-in-Some-2-clause-told g c =
     (g.T.Tree.went c.args.tree.now) (g.T.Tree.went c.begin.new.tree)
     (g.O.Sink.device c.args.out.now) (g.O.Sink.device c.tell-in-Some-2.new.out) c.args.progress.now c.tell-in-Some-2.new.progress
     (λ old new later. (later, (c.in-Some-2.outcome, refl, rw c.in-Some-2.is at c.in_ok-outcome.ensures.why)))
-    c.begin.ensures.goes c.in_ok-tell-in-Some-2.ensures.told
+    c.begin.ensures.goes c.in_ok-tell-2.ensures.told
 
 pub returns-clause-told : goal.returns-clause-told
 returns-clause-told g c = none_said (g.O.Sink.device c.args.out.now) c.args.progress.now

@@ -15,8 +15,8 @@ returns-then-is_some-clause-told g c =
 pub returns-in-Ok-clause-told : goal.returns-in-Ok-clause-told
 returns-in-Ok-clause-told g c = c.tell_day.ensures.told c.args.kind
 
-pub tell_other-in-Err-requires-clause-other : goal.tell_other-in-Err-requires-clause-other
-tell_other-in-Err-requires-clause-other g c =
+pub tell_other-requires-clause-other : goal.tell_other-requires-clause-other
+tell_other-requires-clause-other g c =
     let said = c.parse.ensures in
     no_day c.args.path.now c.parse.result said.not_sds said.not_waveform said.bad_day c.in-Err.fault c.in-Err.is
 
