@@ -20,7 +20,7 @@ use Rattle.msr_tree.specs.Steps.{ChangesOnly, Failed, Path, Step, Unlisted, fail
 use Rattle.msr_tree.specs.declared.tree.TreeFault.{TreeFault}
 use Rattle.msr_tree.specs.declared.tree.TreeFault.TheVariants as fault
 use Rattle.msr_replace.specs.Entries.{ExchangeEntry, IsExchangeEntry, IsExchangeEntryLine, IsExchangeOf, IsExchangeTally, IsStoppedAt, entry_of, has_failed}
-use Rattle.msr_replace.specs.Said.{Does, IsCourse, IsSaid, IsSaidGoing, Said, TellsSaid, line_of, walked}
+use Rattle.msr_replace.specs.Said.{Does, IsCourse, IsSaid, IsSaidGoing, Said, TellsSaid, only_line, walked}
 use Rattle.msr_replace.specs.Sums.{exchange_summary}
 use Rattle.msr_replace.specs.Tree.{IsWorkOf, ReplacesTree, TellsCourses}
 use Rattle.msr_replace.specs.Walk.{HasCome, Prints, StopsTellingExchanges, TellsFound}
@@ -45,7 +45,7 @@ pub line_said : (path : Path) (outcome : Outcome) (out0 out : Device) (old new :
     → ((before : List ExchangeEntry) → IsExchangeTally before old.tally → IsExchangeTally (before ++ entry_of path outcome ∷ []) new.tally)
     → old.failed ≡ None
     → ((before : List ExchangeEntry) → AllByRecursion (λ (e : ExchangeEntry). has_failed e.outcome ≡ false) before → IsStoppedAt (before ++ entry_of path outcome ∷ []) new.failed)
-    → TellsSaid (line_of path outcome) out0 out old new
+    → TellsSaid (only_line path outcome) out0 out old new
 line_said path outcome out0 out old new is printed counted none stopped =
     until_line IsExchangeEntry IsExchangeEntryLine HasCome (λ progress. is_some progress.failed) (entry_of path outcome) out0 out old new (none_failed old.failed none)
     (these_one IsExchangeEntry IsExchangeEntryLine HasCome out0 out old new (entry_of path outcome) printed.line is printed.is_line printed.takes printed.calm
@@ -56,16 +56,6 @@ pub said_more : (one two : List Said) (out0 out1 out : Device) (old mid new : Pr
 said_more = until_more IsExchangeEntry IsExchangeEntryLine HasCome (λ progress. is_some progress.failed)
 
 -- what is done of the tree
-pub does_by : (R : (old new : List Step) → Type 0) (before after : List Step → Type 0) → ((old new : List Step) → R old new → IsLater old new)
-    → Goes before after R → Goes before after (VisitDoes IsLater ⊥)
-does_by R before after so goes = goes_so _ _ before after (λ old new went is. record { does = so old new is; lists_none = λ none. absurd none }) goes
-
-pub does_none : (before : List Step → Type 0) → Goes before before (VisitDoes IsLater ⊥)
-does_none before = goes_none _ before (λ past. record { does = later_still past; lists_none = λ none. absurd none })
-
-pub later_none : (before : List Step → Type 0) → Goes before before IsLater
-later_none before = goes_none _ before later_still
-
 pub later_changes : (names : List Path) (old new : List Step) → ChangesOnly names old new → IsLater old new
 later_changes names old new changes = record { made = changes.made; since = changes.since }
 

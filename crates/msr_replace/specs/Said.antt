@@ -32,13 +32,13 @@ use Rattle.msr_replace.specs.declared.replacer.Course.TheVariants as course
 abbrev pub Said : Type 0
 Said = Option ExchangeEntry
 
-abbrev pub line_of : (path : Path) → Outcome → List Said
-line_of path outcome = Some (entry_of path outcome) ∷ []
+abbrev pub only_line : (path : Path) → Outcome → List Said
+only_line path outcome = Some (entry_of path outcome) ∷ []
 
 -- the line of that path, if something is told
 abbrev pub said_of : (path : Path) → Option Outcome → List Said
 said_of path None = []
-said_of path (Some outcome) = line_of path outcome
+said_of path (Some outcome) = only_line path outcome
 
 -- This was said: the lines were printed, and are counted; none of them after the tree has failed, and all of them if it has
 -- not.
@@ -121,8 +121,8 @@ IsWhyPassed outcome = ⊥
 abbrev pub IsSaidGoing : Course → DayWork → (old new : List Step) → Visit → List Said → Type 0
 IsSaidGoing on work old new (Entry path kind) said = (outcome : Option Outcome) × (said ≡ said_of path outcome) × IsOfEntry on work path kind outcome old new
 IsSaidGoing on work old new (WithoutList folder) said = (outcome : Option Outcome) × (said ≡ said_of (told_folder folder) outcome) × IsOfUnlisted on work folder outcome old
-IsSaidGoing on work old new (Passed folder) said = (outcome : Outcome) × (said ≡ line_of folder outcome) × IsWhyPassed outcome
-IsSaidGoing on work old new (Left folder) said = (said ≡ []) ⊎ (said ≡ line_of folder FolderFailed)
+IsSaidGoing on work old new (Passed folder) said = (outcome : Outcome) × (said ≡ only_line folder outcome) × IsWhyPassed outcome
+IsSaidGoing on work old new (Left folder) said = (said ≡ []) ⊎ (said ≡ only_line folder FolderFailed)
 
 abbrev pub IsSaid : Course → DayWork → (old new : List Step) → Visit → List Said → Type 0
 IsSaid on work old new visit said = (said ≡ None ∷ []) ⊎ IsSaidGoing on work old new visit said

@@ -10,7 +10,7 @@ ghost use Rattle.msr_folders.specs.Entries.{Entry};
 ghost use Rattle.msr_folders.specs.Stopping.{IsLater};
 ghost use Rattle.msr_folders.specs.Walks.{TellsVisit, VisitDoes};
 ghost use Rattle.msr_replace.specs.Entries.{ExchangeEntry, IsExchangeEntry, IsExchangeEntryLine, IsExchangeTally, IsExchangeOf, IsStoppedAt, entry_of, has_failed};
-ghost use Rattle.msr_replace.specs.Said.{Does, IsOfDay, IsOfReplaced, IsOfRestored, IsOfSearched, IsSaid, IsWhyPassed, Said, TellsOther, TellsSaid, line_of, other_outcome, walked};
+ghost use Rattle.msr_replace.specs.Said.{Does, IsOfDay, IsOfReplaced, IsOfRestored, IsOfSearched, IsSaid, IsWhyPassed, Said, TellsOther, TellsSaid, only_line, other_outcome, walked};
 ghost use Rattle.msr_replace.specs.Walk.{HasCome, Prints, StopsTellingExchanges};
 ghost use Rattle.msr_sds.specs.declared.SdsFault.{SdsFault};
 ghost use Rattle.msr_exchange.specs.Work.{AreThreeFolders};
@@ -83,7 +83,7 @@ fn tell<O: Sink>(
     requires count { CanCountCall (O.device out.old) }
     requires entry { IsExchangeOf path.now outcome }
     requires going { progress.old.failed ≡ None }
-    ensures told { OnOk result (TellsSaid (line_of path.now outcome) (O.device out.old) (O.device out.new)
+    ensures told { OnOk result (TellsSaid (only_line path.now outcome) (O.device out.old) (O.device out.new)
         progress.old progress.new) }
     ensures stops { IfErr result (StopsTellingExchanges (O.device out.old) (O.device out.new)) }
 {

@@ -2,7 +2,7 @@ use Rattle.std.proofs.Common.{[], inl, inr, refl}
 use Rattle.msr_folders.proofs.WalkedLemmas.{on_ok_as}
 use Rattle.msr_folders.specs.Entries.{Left}
 use Rattle.msr_tree.specs.Steps.{ChangesOnly}
-use Rattle.msr_replace.specs.Said.{line_of}
+use Rattle.msr_replace.specs.Said.{only_line}
 use Rattle.msr_replace.specs.declared.lines.Outcome.TheVariants.{FolderFailed}
 use Rattle.msr_replace.proofs.LinesTold.{none_told}
 use Rattle.msr_replace.proofs.Saying.{later_changes, none_said, visited, visited_still}
@@ -26,7 +26,7 @@ returns-in-Err-Memory-clause-stops g c = none_told (g.O.Sink.device c.args.out.n
 
 pub returns-in-Err-Failed-clause-told : goal.returns-in-Err-Failed-clause-told
 returns-in-Err-Failed-clause-told g c =
-    on_ok_as c.tell.result (λ told. visited c.args.self.now.course c.args.self.now.work (Left c.args.folder.now) (line_of c.args.folder.now FolderFailed) (ChangesOnly [])
+    on_ok_as c.tell.result (λ told. visited c.args.self.now.course c.args.self.now.work (Left c.args.folder.now) (only_line c.args.folder.now FolderFailed) (ChangesOnly [])
     (g.T.Tree.went c.args.tree.now) (g.T.Tree.went c.end_folder.new.tree)
     (g.O.Sink.device c.args.out.now) (g.O.Sink.device c.tell.new.out) c.args.progress.now c.tell.new.progress
     (λ old new is. (later_changes [] old new is, inr refl)) c.end_folder.ensures told) c.tell.ensures.told

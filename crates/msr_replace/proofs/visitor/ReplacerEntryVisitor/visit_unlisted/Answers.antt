@@ -6,7 +6,7 @@ use Rattle.msr_folders.specs.Paths.{told_folder}
 use Rattle.msr_tree.specs.Listing.{is_there}
 use Rattle.msr_tree.specs.Steps.{Step}
 use Rattle.std.specs.Prelude.{List}
-use Rattle.msr_replace.specs.Said.{Does, line_of, unlisted_of}
+use Rattle.msr_replace.specs.Said.{Does, only_line, unlisted_of}
 use Rattle.msr_replace.specs.declared.lines.Outcome.TheVariants.{Refused}
 use Rattle.msr_replace.specs.declared.replacer.Course.TheVariants as course
 use Rattle.msr_replace.proofs.LinesTold.{none_told}
@@ -41,7 +41,7 @@ returns-clause-told g c =
     let on = c.args.self.now.course in
     let work = c.args.self.now.work in
     let Lacks : Bool → (past new : List Step) → Type 0 = λ lacks past new. lacks ≡ true → (on ≢ course.Root) × (is_there past c.args.place.now ≡ false) in
-    on_ok_as c.tell.result (λ told. visited on work (WithoutList c.args.folder.now) (line_of (told_folder c.args.folder.now) (Refused (unlisted_of on)))
+    on_ok_as c.tell.result (λ told. visited on work (WithoutList c.args.folder.now) (only_line (told_folder c.args.folder.now) (Refused (unlisted_of on)))
     (Does Lacks (Ok c.in_ok-may_lack.field-0))
     (g.T.Tree.went c.args.tree.now) (g.T.Tree.went c.may_lack.new.tree) (g.O.Sink.device c.args.out.now) (g.O.Sink.device c.tell.new.out)
     c.args.progress.now c.tell.new.progress
