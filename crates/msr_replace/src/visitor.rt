@@ -94,11 +94,7 @@ fn tell<O: Sink>(
 }
 
 /// Gives a day's records the place of its file.
-fn replaced<T: Tree>(
-    tree: &mut T,
-    work: &DayWork<'_>,
-    path: &str,
-) -> Result<Outcome, DeviceFault>
+fn replaced<T: Tree>(tree: &mut T, work: &DayWork<'_>, path: &str) -> Result<Outcome, DeviceFault>
     requires apart { AreThreeFolders work.now }
     requires day { IsDay path.now }
     ensures goes { Goes (T.went tree.old) (T.went tree.new) (Does (λ outcome. IsOfReplaced work.now path.now outcome) result) }
@@ -113,11 +109,7 @@ fn replaced<T: Tree>(
 }
 
 /// Gives a day's original its place again.
-fn restored<T: Tree>(
-    tree: &mut T,
-    work: &DayWork<'_>,
-    path: &str,
-) -> Result<Outcome, DeviceFault>
+fn restored<T: Tree>(tree: &mut T, work: &DayWork<'_>, path: &str) -> Result<Outcome, DeviceFault>
     requires apart { AreThreeFolders work.now }
     requires day { IsDay path.now }
     ensures goes { Goes (T.went tree.old) (T.went tree.new) (Does (λ outcome. IsOfRestored work.now path.now outcome) result) }
@@ -376,13 +368,7 @@ where
             return Ok(());
         }
         let outcome = Outcome::Refused(self.course.unlisted());
-        tell(
-            self.work.alloc,
-            told_folder(folder),
-            outcome,
-            out,
-            progress,
-        )
+        tell(self.work.alloc, told_folder(folder), outcome, out, progress)
     }
 
     fn leave_folder<T: Tree, O: Sink>(

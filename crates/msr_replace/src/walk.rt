@@ -1,6 +1,6 @@
 //! The walk of a replace: through the folders of an archive, and then through those of its records; or through those of
 //! the originals that were set aside.
-ghost use Rattle.std.specs.Prelude.{◌≡◌, ◌↔◌, ◌++◌, ◌∷◌, [], IfErr, IfOk, IfSome, IsErrOf, List, OnOk, false};
+ghost use Rattle.std.specs.Prelude.{◌↔◌, [], IfErr, IfOk, IsErrOf, OnOk, false};
 ghost use Rattle.msr_devices.specs.Device.{CanCountCall, HasFailed};
 ghost use Rattle.msr_exchange.specs.Work.{AreThreeFolders};
 ghost use Rattle.msr_folders.specs.Stopping.{IsLater};
@@ -10,7 +10,6 @@ ghost use Rattle.msr_options.specs.Tasks.{AreApartFrom, StandApart};
 ghost use Rattle.msr_replace.specs.Said.{IsSaid, TellsSaid, walked};
 ghost use Rattle.msr_replace.specs.Tree.{IsWorkOf, ReplacesTree, TellsCourses};
 ghost use Rattle.msr_replace.specs.Walk.{HasCome, ReplacesDays, StopsTellingExchanges};
-ghost use Rattle.msr_tree.specs.Calls.{Goes};
 
 use crate::progress::Progress;
 use crate::replacer::{Course, Replacer};

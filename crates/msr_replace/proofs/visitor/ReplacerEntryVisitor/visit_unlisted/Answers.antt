@@ -32,8 +32,8 @@ returns-then-branch-clause-told g c =
     (g.T.Tree.went c.args.tree.now) (g.T.Tree.went c.may_lack.new.tree) (g.O.Sink.device c.args.out.now) (g.O.Sink.device c.args.out.now)
     c.args.progress.now c.args.progress.now
     (λ old new is.
-      let both = is.says refl in
-      (is.later, (None, refl, (both.0, subst (λ p. is_there old p ≡ false) c.requires.place both.1))))
+    let both = is.says refl in
+    (is.later, (None, refl, (both.0, subst (λ p. is_there old p ≡ false) c.requires.place both.1))))
     (rw c.if-branch.true at c.in_ok-may_lack.ensures.goes) (none_said (g.O.Sink.device c.args.out.now) c.args.progress.now)
 
 pub returns-clause-told : goal.returns-clause-told
