@@ -5,6 +5,7 @@ mod days;
 mod errors;
 mod files;
 mod hint;
+mod names;
 mod options;
 mod task;
 mod telling;
@@ -13,6 +14,7 @@ pub use days::DayOptions;
 pub use errors::{Errors, complain, write_complaint};
 pub use files::{hint_of_file, hint_of_folder, hint_of_report};
 pub use hint::{Hint, Side, Unopened, write_hint};
+pub use names::{DayName, Names};
 pub use options::Options;
 pub use task::{
     Archiving, Checking, Comparing, Ending, Feeding, Folders, ListForm, Listing, NoTask, Repacking,
