@@ -9,6 +9,7 @@ ghost use Rattle.msr_folders.specs.Totals.{saturated};
 ghost use Rattle.msr_making.specs.Day.{IsReportLeft, RepacksDay, samples_in, VerifiesRepack, told_of_report, told_of};
 
 use crate::answer::{DayFault, Repacked};
+use msr_belonging::misplaced;
 use msr_compare::{CompareFault, Comparison};
 use msr_devices::{DeviceFault, ReadBuffer, Sink, Source};
 use msr_header::{read_header, record_length};
@@ -75,48 +76,55 @@ pub(crate) fn first_length<S: Source>(
     Ok(own.unwrap_or(other))
 }
 
-/// Repacks a day, and counts its records and bytes.
+/// Repacks a day, and counts its records and bytes. If that is asked for, its segments have to belong to it.
 pub(crate) fn repack_day_of<S: Source, W: Sink, T: Sink>(
     alloc: Global,
     source: &mut S,
     bytes_read: u64,
     records: &mut W,
     text: &mut T,
-    options: Options,
-) -> Result<Repacked, ToolFault>
+    asked: &DayOptions,
+) -> Result<Repacked, DayFault>
     requires source { CanCountCall (S.device source.old) }
     requires records { CanCountCall (W.device records.old) }
     requires text { CanCountCall (T.device text.old) }
     ensures read { IfOk result (λ repacked. repacked.bytes_read ≡ bytes_read) }
-    ensures repacks { RepacksDay options (S.device source.old) (W.device records.old) (W.device records.new)
+    ensures repacks { RepacksDay asked.now (S.device source.old) (W.device records.old) (W.device records.new)
         (T.device text.old) (T.device text.new) result }
 {
-    let report = repack_and_report(alloc, source, records, text, options)?;
+    let report = match repack_and_report(alloc, source, records, text, asked.options) {
+        Ok(report) => report,
+        Err(fault) => return Err(DayFault::Tool(fault)),
+    };
+    if let Some(found) = misplaced(&report, asked.names) {
+        return Err(DayFault::Misplaced(found));
+    }
     let written = records_written(&report);
     Ok(Repacked {
         read: report.counts.read,
         written,
         bytes_read,
-        bytes_written: bytes_of_records(written, options),
+        bytes_written: bytes_of_records(written, asked.options),
         samples: samples_reported(&report),
     })
 }
 
-/// The counts of the report that the source has, if it is one of these options, with the bytes that the input has. A
-/// report does not say whether reading was strict, and a strict repack writes what any other does that counts no mismatch.
+/// The counts of the report that the source has, if it is one of these options, and its segments belong to the day if that
+/// is asked for, with the bytes that the input has. A report does not say whether reading was strict, and a strict repack writes what any other does that counts no mismatch.
 pub(crate) fn counts_kept<S: Source>(
     alloc: Global,
     source: &mut S,
-    options: Options,
+    asked: &DayOptions,
     bytes_read: u64,
 ) -> Option<Repacked>
     requires { CanCountCall (S.device source.old) }
-    ensures left { IfSome result (λ repacked. IsReportLeft options (S.device source.old) repacked) }
+    ensures left { IfSome result (λ repacked. IsReportLeft asked.now (S.device source.old) repacked) }
     ensures read { IfSome result (λ repacked. repacked.bytes_read ≡ bytes_read) }
 {
     let Ok(report) = read_report(alloc, source) else {
         return None;
     };
+    let options = asked.options;
     if report.length.bytes() != options.length().bytes()
         || report.kinds != options.form().kinds
         || report.tolerance != options.tolerance()
@@ -124,6 +132,9 @@ pub(crate) fn counts_kept<S: Source>(
         return None;
     }
     if options.is_strict() && report.counts.mismatched != 0 {
+        return None;
+    }
+    if misplaced(&report, asked.names).is_some() {
         return None;
     }
     let written = records_written(&report);

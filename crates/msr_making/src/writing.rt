@@ -32,17 +32,16 @@ fn repack_to<S: Source, W: Sink>(
     ensures goes { RepacksParts asked.now bytes_read (S.device source.old) (W.device parts.old.records) (W.device parts.new.records)
         (W.device parts.old.report) (W.device parts.new.report) result }
 {
-    let options = asked.options;
     let repacked = match repack_day_of(
         alloc,
         source,
         bytes_read,
         &mut parts.records,
         &mut parts.report,
-        options,
+        asked,
     ) {
         Ok(repacked) => repacked,
-        Err(fault) => return Err(Stop::Refused(DayFault::Tool(fault))),
+        Err(why) => return Err(Stop::Refused(why)),
     };
     if asked.only_smaller && repacked.bytes_read <= repacked.bytes_written {
         return Err(Stop::Refused(DayFault::Larger(repacked)));
