@@ -13,7 +13,7 @@ use clap::error::ErrorKind;
 use msr_kinds::{Kinds, Length};
 use msr_options::{
     Archiving, Checking, Comparing, DayOptions, Ending, Feeding, Folders, ListForm, Listing,
-    NoTask, Options, Repacking, Replacing, Task, Telling, Verb, Verifying, overlap,
+    Names, NoTask, Options, Repacking, Replacing, Task, Telling, Verb, Verifying, overlap,
 };
 use msr_sds::levels_below;
 use std::alloc::{AllocError, Global};
@@ -241,6 +241,7 @@ fn days_in<'a>(found: &ArgMatches<'a>) -> Result<DayOptions, LineFault<'a>>
         only_smaller: flag_in(found, "only-smaller"),
         keep_old: flag_in(found, "keep-old"),
         older_than: older_than_in(found),
+        names: Names::asked(flag_in(found, "names")),
         bytes: flag_in(found, "bytes"),
         telling: telling_in(found),
     })
@@ -278,6 +279,7 @@ fn verifying_in<'a>(alloc: Global, found: &ArgMatches<'a>) -> Result<Verifying<'
     Ok(Verifying {
         folders,
         below,
+        names: flag_in(found, "names"),
         telling: telling_in(found),
     })
 }

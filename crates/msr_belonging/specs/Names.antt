@@ -1,5 +1,6 @@
 -- The names of days and of segments.
-use Rattle.std.specs.Prelude.{◌≡◌, ℕ, ◌-◌, List, ◌∷◌, ◌++◌, replicate, length, flat_map}
+use Rattle.std.specs.Prelude.{◌≡◌, ℕ, ◌-◌, List, ◌∷◌, ◌++◌, codes, replicate, length, flat_map}
+use Rattle.std.specs.Fmt.{decimal}
 use Rattle.std.specs.Str.Parse.{digits_value}
 use Rattle.msr_options.specs.declared.names.DayName.{DayName}
 use Rattle.msr_report.specs.Json.{unpadded}
@@ -42,3 +43,13 @@ id_text name =
 -- YEAR,DAY
 abbrev pub day_text : DayName → List ℕ
 day_text name = padded_decimal 4 name.year ++ (44 ∷ padded_decimal 3 name.day)
+
+-- what a line says of a segment that does not belong to a day, in words
+abbrev pub found_words : DayName → List ℕ
+found_words found = codes " " ++ (id_text found ++ (codes " " ++ day_text found))
+
+-- the members of JSON that tell it
+abbrev pub found_json : DayName → List ℕ
+found_json found =
+    codes ",\"id\":\"" ++ (id_text found ++ (codes "\",\"year\":" ++ (decimal found.year
+    ++ (codes ",\"day\":" ++ decimal found.day))))

@@ -6,4 +6,4 @@ mod names;
 mod times;
 
 pub use belonging::misplaced;
-pub use names::{day_name, day_text, id_text};
+pub use names::{day_name, found_json, found_words};

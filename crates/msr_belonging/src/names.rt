@@ -1,7 +1,7 @@
 //! The names of days and of segments, and their texts.
 ghost use Rattle.std.specs.Prelude.{◌≡◌, ◌++◌, ◌≤◌, ◌<◌, ◌↔◌, IfOk, IsTrue, OnOk, false, length, string_bytes};
 ghost use Rattle.std.specs.Fmt.{digit_glyph};
-ghost use Rattle.msr_belonging.specs.Names.{IsOfChannel, code_text, day_name, day_text, id_text, padded};
+ghost use Rattle.msr_belonging.specs.Names.{IsOfChannel, code_text, day_name, day_text, found_json, found_words, id_text, padded};
 ghost use Rattle.msr_report.specs.Json.{unpadded};
 ghost use Rattle.msr_report.specs.Text.{byte_text, hex_text, padded_decimal};
 ghost use Rattle.msr_sds.specs.SdsPath.{HasForm};
@@ -107,7 +107,7 @@ fn code_text(alloc: Global, code: &[u8]) -> Result<String, AllocError>
 }
 
 /// NET.STA.LOC.CHAN
-pub fn id_text(alloc: Global, name: &DayName) -> Result<String, AllocError>
+fn id_text(alloc: Global, name: &DayName) -> Result<String, AllocError>
     ensures { IfOk result (λ text. string_bytes text ≡ id_text name.now) }
 {
     let network = code_text(alloc, &name.network)?;
@@ -131,7 +131,7 @@ fn push_padded(text: &mut String, n: u16, width: usize) -> Result<(), AllocError
 }
 
 /// YEAR,DAY
-pub fn day_text(alloc: Global, name: &DayName) -> Result<String, AllocError>
+fn day_text(alloc: Global, name: &DayName) -> Result<String, AllocError>
     ensures { IfOk result (λ text. string_bytes text ≡ day_text name.now) }
 {
     let mut text = String::new(alloc);
@@ -139,4 +139,22 @@ pub fn day_text(alloc: Global, name: &DayName) -> Result<String, AllocError>
     text.push(',')?;
     push_padded(&mut text, name.day, 3)?;
     Ok(text)
+}
+
+/// What a line says of a segment that does not belong to a day, in words.
+pub fn found_words(alloc: Global, found: &DayName) -> Result<String, AllocError>
+    ensures { IfOk result (λ text. string_bytes text ≡ found_words found.now) }
+{
+    let id = id_text(alloc, found)?;
+    let day = day_text(alloc, found)?;
+    format!(in alloc; " {id} {day}")
+}
+
+/// The members of JSON that tell it.
+pub fn found_json(alloc: Global, found: &DayName) -> Result<String, AllocError>
+    ensures { IfOk result (λ text. string_bytes text ≡ found_json found.now) }
+{
+    let id = id_text(alloc, found)?;
+    let DayName { year, day, .. } = *found;
+    format!(in alloc; ",\"id\":\"{id}\",\"year\":{year},\"day\":{day}")
 }

@@ -19,17 +19,17 @@ use Rattle.msr_making.specs.Shrinking.{IsStopOfReading, counts_of}
 use Rattle.msr_making.specs.Verifying.{WasVerifiedAs}
 use Rattle.msr_making.specs.Writing.{IsFit, WasRepacked}
 use Rattle.msr_making.specs.declared.answer.DayFault.{DayFault}
-use Rattle.msr_making.specs.declared.answer.DayFault.TheVariants.{CannotOpen, Changed, ClaimedByAnother, Differs, Larger, NotShown, Tool}
+use Rattle.msr_making.specs.declared.answer.DayFault.TheVariants.{CannotOpen, Changed, ClaimedByAnother, Differs, Larger, Misplaced, NotShown, Tool}
 use Rattle.msr_making.specs.declared.answer.DayOutcome.{DayOutcome}
 use Rattle.msr_making.specs.declared.answer.DayOutcome.TheVariants as outcomes
 use Rattle.msr_making.specs.declared.answer.Repacked.{Repacked}
 use Rattle.msr_making.specs.declared.answer.Stop.{Stop}
 use Rattle.msr_making.specs.declared.answer.Stop.TheVariants.{Memory, Refused}
 
-pub day_stops : (choice : Choice) (source records0 records text0 text : Device) (why : ToolFault) →
-    Reports choice source records0 records text0 text (Err why)
-    → RepacksDay choice source records0 records text0 text (Err why)
-day_stops choice source records0 records text0 text why does = record {
+pub day_stops : (asked : DayOptions) (source records0 records text0 text : Device) (why : ToolFault) →
+    Reports asked.options source records0 records text0 text (Err why)
+    → RepacksDay asked source records0 records text0 text (Err (Tool why))
+day_stops asked source records0 records text0 text why does = record {
   input = does.input;
   written = does.written;
   told = does.told;
@@ -101,6 +101,7 @@ day_unkept asked repacked _ does check is = absurd is
 pub unfit_as : (asked : DayOptions) (stop : Stop) → WasRepacked asked (Err stop) → IsRepackedAs asked (Err stop)
 unfit_as asked (Refused (CannotOpen unopened)) is = tt
 unfit_as asked (Refused (Larger repacked)) is = is
+unfit_as asked (Refused (Misplaced found)) is = is
 unfit_as asked (Refused (Tool why)) is = is
 unfit_as asked (Refused why) is = absurd is
 unfit_as asked Memory is = tt

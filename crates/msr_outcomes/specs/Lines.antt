@@ -6,8 +6,9 @@ use Rattle.msr_folders.specs.Members.{IsReasonMember, IsReasonOf, skip_text}
 use Rattle.msr_folders.specs.Paths.{shown_path, text_json}
 use Rattle.msr_input.specs.declared.fault.ReadFault.TheVariants as stop
 use Rattle.msr_making.specs.declared.answer.DayFault.{DayFault}
-use Rattle.msr_making.specs.declared.answer.DayFault.TheVariants.{CannotOpen, Changed, ClaimedByAnother, Differs, Gone, Larger, Listing, NotShown, Shrunk, Tool}
+use Rattle.msr_making.specs.declared.answer.DayFault.TheVariants.{CannotOpen, Changed, ClaimedByAnother, Differs, Gone, Larger, Listing, Misplaced, NotShown, Shrunk, Tool}
 use Rattle.msr_making.specs.declared.answer.Repacked.{Repacked}
+use Rattle.msr_belonging.specs.Names.{found_json, found_words}
 use Rattle.msr_options.specs.declared.days.DayOptions.{DayOptions}
 use Rattle.msr_options.specs.declared.hint.Side.{Side}
 use Rattle.msr_options.specs.declared.hint.Side.TheVariants as side
@@ -31,6 +32,7 @@ outcome_word (Refused Differs) = codes "differs"
 outcome_word (Refused Changed) = codes "changed"
 outcome_word (Refused (Larger repacked)) = codes "larger"
 outcome_word (Refused (Shrunk shrinkage)) = codes "shrunk"
+outcome_word (Refused (Misplaced found)) = codes "misplaced"
 outcome_word (Refused why) = codes "refused"
 
 -- what a line says of bytes that were read and written: nothing, unless that is asked for
@@ -72,6 +74,7 @@ outcome_rest bytes (Refused Differs) = []
 outcome_rest bytes (Refused Changed) = []
 outcome_rest bytes (Refused (Larger repacked)) = counts_told bytes repacked
 outcome_rest bytes (Refused (Shrunk shrinkage)) = codes " samples " ++ (decimal shrinkage.was ++ (codes " " ++ decimal shrinkage.is))
+outcome_rest bytes (Refused (Misplaced found)) = found_words found
 outcome_rest bytes (Refused why) = codes ": " ++ day_refusal_text why
 
 abbrev pub outcome_words : (bytes : Bool) → List ℕ → Outcome → List ℕ
@@ -118,6 +121,7 @@ outcome_members bytes (Refused Differs) = []
 outcome_members bytes (Refused Changed) = []
 outcome_members bytes (Refused (Larger repacked)) = repacked_json bytes repacked
 outcome_members bytes (Refused (Shrunk shrinkage)) = codes ",\"samples_was\":" ++ (decimal shrinkage.was ++ (codes ",\"samples\":" ++ decimal shrinkage.is))
+outcome_members bytes (Refused (Misplaced found)) = found_json found
 outcome_members bytes (Refused why) = day_refusal_json why
 
 -- The last member, with the system's reason: exactly if it gave one why a day could not be opened or made. No entry tells

@@ -4,6 +4,7 @@ ghost use Rattle.std.specs.String.{string_bytes};
 ghost use Rattle.msr_outcomes.specs.Lines.{IsOutcomeJson, IsOutcomeLine, IsOutcomeReason, IsEntryLine, bytes_json, bytes_told, repacked_json, counts_told, is_to_look_at, day_place_json, day_refusal_json, day_refusal_text, unopened_json, outcome_word, outcome_members, outcome_rest, outcome_words};
 ghost use Rattle.msr_outcomes.specs.Outcomes.{of_day};
 
+use msr_belonging::{found_json, found_words};
 use msr_folders::{JsonText, Shown, ToldFault, fault_json, reason_json, skip_text};
 use msr_input::ReadFault;
 use msr_making::{DayFault, DayOutcome, Repacked, Shrinkage};
@@ -102,7 +103,8 @@ fn day_refusal_text(alloc: Global, why: DayFault) -> Result<String, AllocError>
         | DayFault::Differs
         | DayFault::Changed
         | DayFault::Larger(_)
-        | DayFault::Shrunk(_) => "",
+        | DayFault::Shrunk(_)
+        | DayFault::Misplaced(_) => "",
     };
     String::from_str(alloc, text)
 }
@@ -186,6 +188,7 @@ impl Outcome {
             Outcome::Refused(DayFault::Changed) => "changed",
             Outcome::Refused(DayFault::Larger(_)) => "larger",
             Outcome::Refused(DayFault::Shrunk(_)) => "shrunk",
+            Outcome::Refused(DayFault::Misplaced(_)) => "misplaced",
             Outcome::Refused(_) => "refused",
         }
     }
@@ -206,6 +209,7 @@ impl Outcome {
             Outcome::Refused(DayFault::Shrunk(Shrinkage { was, is })) => {
                 format!(in alloc; " samples {was} {is}")
             }
+            Outcome::Refused(DayFault::Misplaced(found)) => found_words(alloc, &found),
             Outcome::Refused(why) => {
                 let text = day_refusal_text(alloc, why)?;
                 format!(in alloc; ": {text}")
@@ -244,6 +248,7 @@ impl Outcome {
             Outcome::Refused(DayFault::Shrunk(Shrinkage { was, is })) => {
                 format!(in alloc; ",\"samples_was\":{was},\"samples\":{is}")
             }
+            Outcome::Refused(DayFault::Misplaced(found)) => found_json(alloc, &found),
             Outcome::Refused(why) => day_refusal_json(alloc, why),
         }
     }

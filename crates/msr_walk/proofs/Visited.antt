@@ -15,6 +15,8 @@ use Rattle.msr_tree.specs.Calls.{Goes}
 use Rattle.msr_tree.specs.Steps.{Path, Step}
 use Rattle.msr_tree.specs.declared.kind.FileKind.{FileKind}
 use Rattle.msr_tree.specs.declared.kind.FileKind.TheVariants.{Gone}
+use Rattle.msr_belonging.specs.Names.{day_name}
+use Rattle.msr_options.specs.Days.{named}
 use Rattle.msr_walk.proofs.Days.{told_until}
 use Rattle.msr_walk.proofs.Working.{works_none, works_then}
 use Rattle.msr_outcomes.specs.Entries.{Entry}
@@ -34,8 +36,8 @@ module _ {P : Type 0} (tally : P → Tally) (days : DayOptions) (root outf repor
 
   -- a day
   pub visited_day : {H E : Type 0} (outcome : H → Outcome) (handled : H) (path channel : Path) (kind : FileKind) (before mid after : List Step → Type 0) (out0 out : Device) (of0 of : P)
-      → kind ≢ Gone → IsDay path
-      → Goes before mid (TellsDay {E = E} outcome days (day_names root outf reports path) outf reports (Ok handled))
+      → kind ≢ Gone → (day : IsDay path)
+      → Goes before mid (TellsDay {E = E} outcome (named (day_name day.0) days) (day_names root outf reports path) outf reports (Ok handled))
       → Goes mid after (WorksWithin outf reports)
       → TellsOutcomesOf tally days (record { path = path; channel = channel; outcome = outcome handled } ∷ []) out0 out of0 of
       → TellsOf (Found path kind) before after out0 out of0 of
@@ -50,13 +52,17 @@ module _ {P : Type 0} (tally : P → Tally) (days : DayOptions) (root outf repor
         refl,
         record {
           gone = λ is. absurd (there is);
-          day = λ some one_day. record {
-            asked = first.says.asked;
-            for_day = first.says.for_day;
-            of = first.says.of;
-            same = first.says.same;
-            there = λ are. told_until first.says.asked (day_names root outf reports path) outf reports first.says.of old middle new (first.says.there are) second.does;
-          };
+          day = λ some one_day. (
+            day.0,
+            day.1,
+            record {
+              asked = first.says.asked;
+              for_day = first.says.for_day;
+              of = first.says.of;
+              same = first.says.same;
+              there = λ are. told_until first.says.asked (day_names root outf reports path) outf reports first.says.of old middle new (first.says.there are) second.does;
+            },
+          );
           other = λ some none. absurd (none day);
         },
       );
