@@ -81,22 +81,22 @@ other_is path Folder fault none = none
 other_is path Other fault none = none
 
 -- a day of the archive
-pub visited_day : (telling : Telling) (root out_root reports path : Path) (kind : FileKind) (judgement : Judgement) (before after : List Step → Type 0) (out0 out : Device) (tally0 tally : VerifyTally)
-    → IsDay path → Goes before after (JudgesDay (day_places root out_root reports path) (Ok judgement))
+pub visited_day : (telling : Telling) (names : Names) (root out_root reports path : Path) (kind : FileKind) (judgement : Judgement) (before after : List Step → Type 0) (out0 out : Device) (tally0 tally : VerifyTally)
+    → (day : IsDay path) → Goes before after (JudgesNamed (names_of (day_name day.0) names) (day_places root out_root reports path) (Ok judgement))
     → TellsEntries telling (record { path = path; judgement = judgement } ∷ []) out0 out tally0 tally
-    → TellsVisit (TellsEntries telling) (IsToldOfRoot root out_root reports) OnlyReads (Entry path kind) before after out0 out tally0 tally
-visited_day telling root out_root reports path kind judgement before after out0 out tally0 tally day goes told =
-    visited telling (IsToldOfRoot root out_root reports) (Entry path kind) (record { path = path; judgement = judgement } ∷ [])
-    (JudgesDay (day_places root out_root reports path) (Ok judgement)) before after out0 out tally0 tally
-    (λ old new is. (is.looks, (judgement, refl, record { day = λ one. is.says; other = λ none. absurd (none day) }))) goes told
+    → TellsVisit (TellsEntries telling) (IsToldOfRoot names root out_root reports) OnlyReads (Entry path kind) before after out0 out tally0 tally
+visited_day telling names root out_root reports path kind judgement before after out0 out tally0 tally day goes told =
+    visited telling (IsToldOfRoot names root out_root reports) (Entry path kind) (record { path = path; judgement = judgement } ∷ [])
+    (JudgesNamed (names_of (day_name day.0) names) (day_places root out_root reports path) (Ok judgement)) before after out0 out tally0 tally
+    (λ old new is. (is.looks, (judgement, refl, record { day = λ one. (day.0, day.1, is.says); other = λ none. absurd (none day) }))) goes told
 
 -- what is no day
-pub visited_other : (telling : Telling) (root out_root reports path : Path) (kind : FileKind) (fault : SdsFault) (before : List Step → Type 0) (out0 out : Device) (tally0 tally : VerifyTally)
+pub visited_other : (telling : Telling) (names : Names) (root out_root reports path : Path) (kind : FileKind) (fault : SdsFault) (before : List Step → Type 0) (out0 out : Device) (tally0 tally : VerifyTally)
     → ¬ (IsDay path) → IsNoDay path fault
     → TellsEntries telling (record { path = path; judgement = other_judgement kind fault } ∷ []) out0 out tally0 tally
-    → TellsVisit (TellsEntries telling) (IsToldOfRoot root out_root reports) OnlyReads (Entry path kind) before before out0 out tally0 tally
-visited_other telling root out_root reports path kind fault before out0 out tally0 tally none is told =
-    visited_still telling (IsToldOfRoot root out_root reports) (Entry path kind) (record { path = path; judgement = other_judgement kind fault } ∷ [])
+    → TellsVisit (TellsEntries telling) (IsToldOfRoot names root out_root reports) OnlyReads (Entry path kind) before before out0 out tally0 tally
+visited_other telling names root out_root reports path kind fault before out0 out tally0 tally none is told =
+    visited_still telling (IsToldOfRoot names root out_root reports) (Entry path kind) (record { path = path; judgement = other_judgement kind fault } ∷ [])
     before out0 out tally0 tally
     (λ past. (other_judgement kind fault, refl, record { day = λ day. absurd (none day); other = λ no_day. (fault, is, refl) })) told
 

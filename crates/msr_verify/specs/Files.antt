@@ -1,5 +1,5 @@
 -- What is told of an archive, by what the names in its folders lead to.
-use Rattle.std.specs.Prelude.{◌≡◌, ◌<◌, ◌⊎◌, ℕ, true, false, List, [], ◌∷◌, ◌++◌, Some, Result, Ok, Err, codes, IfOk}
+use Rattle.std.specs.Prelude.{◌≡◌, ◌<◌, ◌⊎◌, ℕ, Bool, true, false, List, [], ◌∷◌, ◌++◌, Option, None, Some, Result, Ok, Err, codes, IfOk}
 use Rattle.std.specs.Borrow.{Bor}
 use Rattle.msr_devices.specs.declared.fault.DeviceFault.{DeviceFault}
 use Rattle.msr_tree.specs.Calls.{AreOneFile}
@@ -8,6 +8,15 @@ use Rattle.msr_tree.specs.Reads.{OnlyLooks, OnlyReads}
 use Rattle.msr_tree.specs.Steps.{Path, Step, failures, seen}
 use Rattle.msr_tree.specs.declared.kind.FileKind.{FileKind}
 use Rattle.msr_tree.specs.declared.kind.FileKind.TheVariants.{Gone}
+use Rattle.msr_options.specs.Days.{names_of}
+use Rattle.msr_options.specs.declared.names.DayName.{DayName}
+use Rattle.msr_options.specs.declared.names.Names.{Names}
+use Rattle.msr_options.specs.declared.names.Names.TheVariants.{Any, Own}
+use Rattle.msr_report.specs.declared.report.Report.{Report}
+use Rattle.msr_report_reader.specs.Reading.{IsReadFrom}
+use Rattle.msr_belonging.specs.Belonging.{IsFoundFor, listed}
+use Rattle.msr_belonging.specs.Names.{day_name}
+use Rattle.msr_sds.specs.SdsPath.{ReadsAsDay, SdsPath}
 use Rattle.msr_sds.specs.declared.SdsFault.{SdsFault}
 use Rattle.msr_folders.specs.Days.{IsDay, IsNoDay}
 use Rattle.msr_folders.specs.Entries.{AreEntriesOf, Entry, ForEach, Visit, WithoutList, unlisted_in}
@@ -18,7 +27,7 @@ use Rattle.msr_verify.specs.declared.judging.Finding.{Finding}
 use Rattle.msr_verify.specs.declared.judging.Finding.TheVariants as finding
 use Rattle.msr_verify.specs.declared.judging.VerifyFault.{VerifyFault}
 use Rattle.msr_verify.specs.declared.judgement.Judgement.{Judgement}
-use Rattle.msr_verify.specs.declared.judgement.Judgement.TheVariants.{Verified, InPlace, Missing, NotShown, Differs, Refused, Skipped, Orphan}
+use Rattle.msr_verify.specs.declared.judgement.Judgement.TheVariants.{Verified, InPlace, Missing, NotShown, Differs, Misplaced, Refused, Skipped, Orphan}
 use Rattle.msr_verify.specs.declared.judgement.Refusal.TheVariants.{FileUnopened, RecordsUnopened, ReportUnopened, SameFile, Listing, RecordsListing, Day}
 
 -- Where the files of a day stand.
@@ -78,6 +87,7 @@ IsJudgementThere places (Refused ReportUnopened) old new = failures old < failur
 IsJudgementThere places (Refused Listing) old new = ⊥
 IsJudgementThere places (Refused RecordsListing) old new = ⊥
 IsJudgementThere places (Skipped fault) old new = ⊥
+IsJudgementThere places (Misplaced found) old new = ⊥
 IsJudgementThere places Orphan old new = ⊥
 
 -- what is answered of a day
@@ -85,21 +95,49 @@ pub record JudgesDay (places : DayPlaces) (result : Result Judgement DeviceFault
   pub looks : OnlyLooks old new
   pub says : IfOk result (λ judgement. IsJudgementThere places judgement old new)
 
+-- the names that are asked of all days: each its own, or any
+abbrev pub names_asked : (own : Bool) → Names
+names_asked true = Own
+names_asked false = Any
+
+-- The report tells segments of which this is found.
+pub record TellsSegments (names : Names) (place : Path) (found : Option DayName) (past : List Step) : Type 0 where
+  pub text : List ℕ
+  pub report : Report
+  pub has_report : seen past place ≡ Some text
+  pub read : IsReadFrom report text
+  pub is : IsFoundFor names (listed report.segments.items) found
+
+-- What a judgement says of the files of a day of which it may be asked that its segments belong to it: one that would be
+-- verified or in place is misplaced exactly if they do not.
+abbrev pub IsNamedThere : Names → DayPlaces → Judgement → (old new : List Step) → Type 0
+IsNamedThere names places Verified old new = IsJudgementThere places Verified old new × TellsSegments names places.report None old
+IsNamedThere names places InPlace old new = IsJudgementThere places InPlace old new × TellsSegments names places.report None old
+IsNamedThere names places (Misplaced found) old new =
+    (IsJudgementThere places Verified old new ⊎ IsJudgementThere places InPlace old new) × TellsSegments names places.report (Some found) old
+IsNamedThere names places judgement old new = IsJudgementThere places judgement old new
+
+-- what is answered of such a day
+pub record JudgesNamed (names : Names) (places : DayPlaces) (result : Result Judgement DeviceFault) (old new : List Step) : Type 0 where
+  pub looks : OnlyLooks old new
+  pub says : IfOk result (λ judgement. IsNamedThere names places judgement old new)
+
 -- what is told of what is no day: that it could not be opened, if it is gone
 abbrev pub other_judgement : FileKind → SdsFault → Judgement
 other_judgement Gone fault = Refused FileUnopened
 other_judgement kind fault = Skipped fault
 
--- What is told of an entry of the archive: of a day what its files show, of anything else why it is no day.
-pub record IsToldOfEntry (places : DayPlaces) (path : Path) (kind : FileKind) (judgement : Judgement) (old new : List Step) : Type 0 where
-  pub day : IsDay path → IsJudgementThere places judgement old new
+-- What is told of an entry of the archive: of a day what its files show, of anything else why it is no day. It may be asked
+-- that the segments of a day are those of its path.
+pub record IsToldOfEntry (names : Names) (places : DayPlaces) (path : Path) (kind : FileKind) (judgement : Judgement) (old new : List Step) : Type 0 where
+  pub day : IsDay path → (name : SdsPath) × ReadsAsDay path name × IsNamedThere (names_of (day_name name) names) places judgement old new
   pub other : (¬ (IsDay path)) → (fault : SdsFault) × IsNoDay path fault × (judgement ≡ other_judgement kind fault)
 
 -- the one entry that is told of a visit of the archive
-abbrev pub IsToldOfRoot : (root out reports : Path) → (old new : List Step) → Visit → List JudgedEntry → Type 0
-IsToldOfRoot root out reports old new (Entry path kind) entries = (judgement : Judgement)
-    × (entries ≡ record { path = path; judgement = judgement } ∷ []) × IsToldOfEntry (day_places root out reports path) path kind judgement old new
-IsToldOfRoot root out reports old new (WithoutList folder) entries =
+abbrev pub IsToldOfRoot : Names → (root out reports : Path) → (old new : List Step) → Visit → List JudgedEntry → Type 0
+IsToldOfRoot names root out reports old new (Entry path kind) entries = (judgement : Judgement)
+    × (entries ≡ record { path = path; judgement = judgement } ∷ []) × IsToldOfEntry names (day_places root out reports path) path kind judgement old new
+IsToldOfRoot names root out reports old new (WithoutList folder) entries =
     entries ≡ record { path = told_folder folder; judgement = Refused Listing } ∷ []
 
 -- Of a visit of the records it is told if it is a day that the archive does not have, or a folder that is there.
@@ -115,10 +153,10 @@ IsToldOfOut root out old new (WithoutList folder) entries =
     ⊎ ((entries ≡ []) × (is_there old (joined out folder) ≡ false))
 
 -- What was told of an archive, and of its records: of each entry, in order. Nothing was changed.
-pub record IsArchiveVerified (root out reports : Path) (below : List (Bor Path)) (entries orphans : List JudgedEntry) (old new : List Step) : Type 0 where
+pub record IsArchiveVerified (names : Names) (root out reports : Path) (below : List (Bor Path)) (entries orphans : List JudgedEntry) (old new : List Step) : Type 0 where
   pub visits : List Visit
   pub are : AreEntriesOf old root below visits
-  pub told : ForEach (IsToldOfRoot root out reports old new) visits entries
+  pub told : ForEach (IsToldOfRoot names root out reports old new) visits entries
   pub records : List Visit
   pub are_records : AreEntriesOf old out below records
   pub told_records : ForEach (IsToldOfOut root out old new) records orphans

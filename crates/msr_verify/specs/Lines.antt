@@ -5,6 +5,7 @@ use Rattle.msr_input.specs.declared.fault.ReadFault.TheVariants as stop
 use Rattle.msr_folders.specs.Faults.{fault_json, read_fault_text}
 use Rattle.msr_folders.specs.Members.{IsReasonMember, skip_text}
 use Rattle.msr_folders.specs.Paths.{shown_path, text_json}
+use Rattle.msr_belonging.specs.Names.{found_json, found_words}
 use Rattle.msr_options.specs.declared.task.ListForm.{ListForm}
 use Rattle.msr_options.specs.declared.task.ListForm.TheVariants.{Words, Json}
 use Rattle.msr_options.specs.declared.telling.Telling.{Telling}
@@ -12,7 +13,7 @@ use Rattle.msr_verify.specs.Entries.{JudgedEntry, is_unverified}
 use Rattle.msr_verify.specs.declared.judging.VerifyFault.{VerifyFault}
 use Rattle.msr_verify.specs.declared.judging.VerifyFault.TheVariants as fault
 use Rattle.msr_verify.specs.declared.judgement.Judgement.{Judgement}
-use Rattle.msr_verify.specs.declared.judgement.Judgement.TheVariants.{Verified, InPlace, Missing, NotShown, Differs, Refused, Skipped, Orphan}
+use Rattle.msr_verify.specs.declared.judgement.Judgement.TheVariants.{Verified, InPlace, Missing, NotShown, Differs, Misplaced, Refused, Skipped, Orphan}
 use Rattle.msr_verify.specs.declared.judgement.Refusal.{Refusal}
 use Rattle.msr_verify.specs.declared.judgement.Refusal.TheVariants.{FileUnopened, RecordsUnopened, ReportUnopened, SameFile, Listing, RecordsListing, Day}
 
@@ -40,12 +41,14 @@ what_text InPlace = codes "inplace"
 what_text Missing = codes "missing"
 what_text NotShown = codes "notshown"
 what_text Differs = codes "differs"
+what_text (Misplaced found) = codes "misplaced"
 what_text (Refused refusal) = codes "refused"
 what_text (Skipped why) = codes "skipped"
 what_text Orphan = codes "orphan"
 
 -- what stands after the path
 abbrev pub why_text : Judgement → List ℕ
+why_text (Misplaced found) = found_words found
 why_text (Refused refusal) = codes ": " ++ refusal_text refusal
 why_text (Skipped why) = codes ": " ++ skip_text why
 why_text _ = []
@@ -81,6 +84,7 @@ refusal_json refusal = side_json refusal
     ++ (place_json refusal ++ (codes ",\"text\":\"" ++ (text_json (refusal_text refusal) ++ codes "\"")))
 
 abbrev pub why_json : Judgement → List ℕ
+why_json (Misplaced found) = found_json found
 why_json (Refused refusal) = refusal_json refusal
 why_json (Skipped why) = codes ",\"text\":\"" ++ (text_json (skip_text why) ++ codes "\"")
 why_json _ = []

@@ -15,7 +15,7 @@ use Rattle.msr_tool.specs.declared.fault.ToolFault.TheVariants.{Input, Report, R
 use Rattle.msr_verify.specs.Entries.{IsJudgedEntry, IsVerifyTally, JudgedEntry, is_unverified, is_verified, judged_count, verify_tally_of}
 use Rattle.msr_tree.specs.Calls.{Goes}
 use Rattle.msr_tree.specs.Steps.{Step}
-use Rattle.msr_verify.specs.Files.{IsArchiveVerified}
+use Rattle.msr_verify.specs.Files.{IsArchiveVerified, names_asked}
 use Rattle.msr_verify.specs.Lines.{IsToldLine}
 use Rattle.msr_verify.specs.declared.tally.VerifyTally.{VerifyTally}
 
@@ -68,7 +68,7 @@ pub record TellsArchive (archive : Verifying) (before after : List Step → Type
   pub entries : List JudgedEntry
   pub orphans : List JudgedEntry
   pub these : TellsEntries archive.telling (entries ++ orphans) out0 out tally0 tally
-  pub goes : Goes before after (IsArchiveVerified archive.folders.root.now archive.folders.out.now archive.folders.reports.now archive.below.items entries orphans)
+  pub goes : Goes before after (IsArchiveVerified (names_asked archive.names) archive.folders.root.now archive.folders.out.now archive.folders.reports.now archive.below.items entries orphans)
 
 -- that was printed when the walk stopped
 abbrev pub StopsTellingJudged : Telling → Device → Device → DeviceFault → Type 0
@@ -104,4 +104,4 @@ pub record VerifiesTree (archive : Verifying) (before after : List Step → Type
   pub prints : Takes out0 out printed
   pub text : IsWalk IsJudgedEntry (IsToldLine archive.telling) (judged_summary archive.telling.form) printed (entries ++ orphans)
   pub tells : TellsVerified (entries ++ orphans) found
-  pub goes : Goes before after (IsArchiveVerified archive.folders.root.now archive.folders.out.now archive.folders.reports.now archive.below.items entries orphans)
+  pub goes : Goes before after (IsArchiveVerified (names_asked archive.names) archive.folders.root.now archive.folders.out.now archive.folders.reports.now archive.below.items entries orphans)

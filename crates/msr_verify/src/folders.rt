@@ -5,14 +5,14 @@ ghost use Rattle.msr_folders.specs.Entries.{AreEntriesOf};
 ghost use Rattle.msr_folders.specs.Walks.{TellsWalk};
 ghost use Rattle.msr_tree.specs.Calls.{Goes};
 ghost use Rattle.msr_tree.specs.Reads.{OnlyReads};
-ghost use Rattle.msr_verify.specs.Files.{IsToldOfOut, IsToldOfRoot};
+ghost use Rattle.msr_verify.specs.Files.{IsToldOfOut, IsToldOfRoot, names_asked};
 ghost use Rattle.msr_verify.specs.Walk.{StopsTellingJudged, TellsArchive, TellsEntries, Verifies, VerifiesTree};
 
 use crate::tally::VerifyTally;
 use crate::visitors::{Judging, Searching};
 use msr_devices::{DeviceFault, Sink};
 use msr_folders::{EntryWalk, WalkFound, visit_entries};
-use msr_options::Verifying;
+use msr_options::{Names, Verifying};
 use msr_tool::ToolFault;
 use msr_tree::Tree;
 use std::alloc::Global;
@@ -27,7 +27,7 @@ fn walk_archive<T: Tree, O: Sink>(
 ) -> Result<(), DeviceFault>
     requires { CanCountCall (O.device out.old) }
     ensures told { OnOk result (TellsWalk (TellsEntries archive.now.telling)
-        (IsToldOfRoot archive.now.folders.root.now archive.now.folders.out.now archive.now.folders.reports.now) OnlyReads
+        (IsToldOfRoot (names_asked archive.now.names) archive.now.folders.root.now archive.now.folders.out.now archive.now.folders.reports.now) OnlyReads
         archive.now.folders.root.now (λ past. AreEntriesOf past archive.now.folders.root.now archive.now.below.items)
         (T.went tree.old) (T.went tree.new) (O.device out.old) (O.device out.new) tally.old tally.new) }
     ensures stops { IfErr result (StopsTellingJudged archive.now.telling (O.device out.old) (O.device out.new)) }
@@ -40,6 +40,7 @@ fn walk_archive<T: Tree, O: Sink>(
         visitor: &Judging {
             alloc,
             folders: archive.folders,
+            names: Names::asked(archive.names),
             telling: archive.telling,
         },
     };

@@ -5,9 +5,10 @@ ghost use Rattle.msr_verify.specs.Entries.{is_unverified, judgement_alone, judge
 ghost use Rattle.msr_verify.specs.Lines.{IsJudgementJson, IsJudgementLine, IsOfSystem, IsReasonJson, IsToldLine, place_json, refusal_json, side_json, what_text, why_json, why_text, words_line};
 
 use crate::judging::{Finding, VerifyFault};
+use msr_belonging::{found_json, found_words};
 use msr_folders::{JsonText, Shown, fault_json, reason_json, skip_text};
 use msr_input::ReadFault;
-use msr_options::{ListForm, Telling};
+use msr_options::{DayName, ListForm, Telling};
 use msr_sds::SdsFault;
 use std::alloc::{AllocError, Global};
 use std::{fmt, io};
@@ -123,6 +124,8 @@ pub(crate) enum Judgement {
     NotShown,
     /// The records have other data than the day's own file.
     Differs,
+    /// Its segments do not belong to it, by the one of this name. Else it would be verified, or in place.
+    Misplaced(DayName),
     Refused(Refusal),
     Skipped(SdsFault),
     /// Records of a day that the archive does not have.
@@ -163,6 +166,7 @@ impl Judgement {
             Judgement::Missing => "missing",
             Judgement::NotShown => "notshown",
             Judgement::Differs => "differs",
+            Judgement::Misplaced(_) => "misplaced",
             Judgement::Refused(_) => "refused",
             Judgement::Skipped(_) => "skipped",
             Judgement::Orphan => "orphan",
@@ -174,6 +178,7 @@ impl Judgement {
         ensures { IfOk result (λ text. string_bytes text ≡ why_text self) }
     {
         match self {
+            Judgement::Misplaced(found) => found_words(alloc, &found),
             Judgement::Refused(refusal) => format!(in alloc; ": {refusal}"),
             Judgement::Skipped(fault) => format!(in alloc; ": {}", skip_text(fault)),
             _ => Ok(String::new(alloc)),
@@ -195,6 +200,7 @@ impl Judgement {
         ensures { IfOk result (λ text. string_bytes text ≡ why_json self) }
     {
         match self {
+            Judgement::Misplaced(found) => found_json(alloc, &found),
             Judgement::Refused(refusal) => refusal.json(alloc),
             Judgement::Skipped(fault) => {
                 let text = JsonText {

@@ -9,12 +9,13 @@ ghost use Rattle.msr_verify.specs.Files.{IsToldOfOut, IsToldOfRoot, other_judgem
 ghost use Rattle.msr_verify.specs.Lines.{IsToldLine};
 ghost use Rattle.msr_verify.specs.Walk.{StopsTellingJudged, TellsEntries};
 
-use crate::day::{judge_day, may_have};
+use crate::day::{judge_named, may_have};
 use crate::judgement::{Judgement, Refusal};
 use crate::tally::VerifyTally;
+use msr_belonging::day_name;
 use msr_devices::{DeviceFault, Sink, write_all};
 use msr_folders::{EntryVisitor, join, told_folder};
-use msr_options::{Folders, Telling};
+use msr_options::{Folders, Names, Telling};
 use msr_sds::{SdsFault, SdsName};
 use msr_tree::{FileKind, Tree};
 use std::alloc::{AllocError, Global};
@@ -58,6 +59,7 @@ fn other_judgement(kind: FileKind, fault: SdsFault) -> Judgement
 pub(crate) struct Judging<'a> {
     pub(crate) alloc: Global,
     pub(crate) folders: Folders<'a>,
+    pub(crate) names: Names,
     pub(crate) telling: Telling,
 }
 
@@ -72,7 +74,7 @@ impl EntryVisitor for Judging<'_> {
 
     ghost stops = { λ judging. StopsTellingJudged judging.telling };
 
-    ghost says = { λ judging. IsToldOfRoot judging.folders.root.now judging.folders.out.now judging.folders.reports.now };
+    ghost says = { λ judging. IsToldOfRoot judging.names judging.folders.root.now judging.folders.out.now judging.folders.reports.now };
 
     ghost does = { λ _. OnlyReads };
 
@@ -98,8 +100,9 @@ impl EntryVisitor for Judging<'_> {
         tally: &mut VerifyTally,
     ) -> Result<(), DeviceFault> {
         match SdsName::parse(path) {
-            Ok(_) => {
-                let judgement = judge_day(tree, self.alloc, self.folders, path)?;
+            Ok(name) => {
+                let names = self.names.of_day(day_name(&name));
+                let judgement = judge_named(tree, self.alloc, self.folders, path, names)?;
                 let reason = tree.reason();
                 tell(
                     self.alloc,

@@ -2,14 +2,14 @@ use Rattle.std.proofs.Common.{subst, OnOk}
 use Rattle.msr_folders.specs.Entries.{AreEntriesOf}
 use Rattle.msr_folders.specs.Walks.{TellsWalk}
 use Rattle.msr_tree.specs.Reads.{OnlyReads}
-use Rattle.msr_verify.specs.Files.{IsToldOfRoot}
+use Rattle.msr_verify.specs.Files.{IsToldOfRoot, names_asked}
 use Rattle.msr_verify.specs.Walk.{TellsEntries}
 use Rattle.msr_verify.proofs.folders.walk_archive.Goals as goal
 
 pub returns-clause-told : goal.returns-clause-told
 returns-clause-told g c =
     let folders = c.args.archive.now.folders in
-    subst (λ below. OnOk c.visit_entries.result (TellsWalk (TellsEntries c.args.archive.now.telling) (IsToldOfRoot folders.root.now folders.out.now folders.reports.now) OnlyReads
+    subst (λ below. OnOk c.visit_entries.result (TellsWalk (TellsEntries c.args.archive.now.telling) (IsToldOfRoot (names_asked c.args.archive.now.names) folders.root.now folders.out.now folders.reports.now) OnlyReads
     folders.root.now (λ past. AreEntriesOf past folders.root.now below) (g.T.Tree.went c.args.tree.now) (g.T.Tree.went c.visit_entries.new.tree)
     (g.O.Sink.device c.args.out.now) (g.O.Sink.device c.visit_entries.new.out) c.args.tally.now c.visit_entries.new.tally))
     c.as_slice.ensures.value c.visit_entries.ensures.told
