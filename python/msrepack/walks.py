@@ -30,6 +30,7 @@ def archive(
     only_smaller: bool = False,
     keep_old: bool = False,
     older_than: int = 0,
+    names: bool = False,
     bytes: bool = False,
     timeout: Optional[float] = None,
 ) -> Iterator[ArchiveLine]:
@@ -57,6 +58,7 @@ def archive(
         "--check": check,
         "--only-smaller": only_smaller,
         "--keep-old": keep_old,
+        "--names": names,
         "--bytes": bytes,
     }
     words = ["archive", "--json", f"--length={length}", f"--tolerance={tolerance}", *options(chosen)]
@@ -67,7 +69,13 @@ def archive(
 
 
 def verify(
-    root: Path, out: Path, reports: Path, *, below: Optional[Iterable[str]] = None, timeout: Optional[float] = None
+    root: Path,
+    out: Path,
+    reports: Path,
+    *,
+    names: bool = False,
+    below: Optional[Iterable[str]] = None,
+    timeout: Optional[float] = None,
 ) -> Iterator[VerifyLine]:
     """Says of each day below `root` whether its records below `out` and its report below `reports` hold, the totals last.
 
@@ -80,7 +88,7 @@ def verify(
     (4, 0, 0)
     """
     nothing = VerifyTotals(0, 0, 0, 0, 0, 0, 0)
-    words = ["verify", "--json"]
+    words = ["verify", "--json", *options({"--names": names})]
     return cast(Iterator[VerifyLine], _walk(words, below, (root, out, reports), nothing, timeout))
 
 

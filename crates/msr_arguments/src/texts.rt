@@ -441,8 +441,8 @@ const NAMES: Argument = Argument::Flag(
     "names",
     "Tell files whose segments are not of the channel and the day of their path",
     "Tell files whose segments do not belong to their path: of a file that would be verified
-or inplace, each is to be of its network, station, location and channel, and one to have a
-sample on its day. Else `misplaced PATH NET.STA.LOC.CHAN YEAR,DAY` is printed, as by
+or inplace, each is to be of its network, station, location and channel, and one to have
+a sample on its day. Else `misplaced PATH NET.STA.LOC.CHAN YEAR,DAY` is printed, as by
 `archive`; it is one of those refused",
 );
 

@@ -5,4 +5,4 @@ use Rattle.msr_belonging.proofs.belonging.first_of_another.Given as goal
 
 -- the segments so far are of the channel
 abbrev pub invariant-loop-line : goal.invariant-loop-line
-invariant-loop-line l = All (λ line. IsOfChannel l.name.now (listed_of line)) (take l.line-index l.lines)
+invariant-loop-line l = All (λ line. IsOfChannel l.name (listed_of line)) (take l.line-index l.lines)

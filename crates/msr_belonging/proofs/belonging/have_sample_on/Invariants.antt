@@ -5,4 +5,4 @@ use Rattle.msr_belonging.proofs.belonging.have_sample_on.Given as goal
 
 -- none of the segments so far has a sample on the day
 abbrev pub invariant-loop-line : goal.invariant-loop-line
-invariant-loop-line l = All (λ line. HasSampleOn l.name.now.year l.name.now.day (listed_of line) → ⊥) (take l.line-index l.lines)
+invariant-loop-line l = All (λ line. HasSampleOn l.name.year l.name.day (listed_of line) → ⊥) (take l.line-index l.lines)
