@@ -23,9 +23,11 @@ use Rattle.msr_tree.specs.Steps.{Path, Step, failures, seen}
 use Rattle.msr_verify.specs.Entries.{IsJudgedEntry, IsVerifyTally, JudgedEntry}
 use Rattle.msr_verify.specs.Files.{AnswerThere, DayPlaces, IsArchiveVerified, IsInPlace, IsJudgementThere, IsNamedThere, IsToldOfOut, IsToldOfRoot, TellsSegments, day_places, names_asked}
 use Rattle.msr_verify.specs.Lines.{IsToldLine}
+use Rattle.msr_verify.specs.Opening.{IsToldAgain}
 use Rattle.msr_verify.specs.Walk.{TellsArchive, TellsEntries, TellsVerified, VerifiesTree, judged_summary}
 use Rattle.msr_verify.specs.declared.judging.Finding.{Finding}
 use Rattle.msr_verify.specs.declared.judging.VerifyFault.{VerifyFault}
+use Rattle.msr_verify.specs.declared.judging.VerifyFault.TheVariants.{ReportLine}
 use Rattle.msr_verify.specs.declared.judgement.Judgement.{Judgement}
 use Rattle.msr_verify.specs.declared.judgement.Judgement.TheVariants.{Verified, InPlace, Missing, NotShown, Differs, Misplaced, Refused, Skipped, Orphan}
 use Rattle.msr_verify.specs.declared.judgement.Refusal.TheVariants.{FileUnopened, RecordsUnopened, ReportUnopened, SameFile, Listing, RecordsListing, Day}
@@ -118,6 +120,13 @@ module _ (old from to new : List Step) (before : OnlyReads old from) (after : On
   named_there names places (Refused why) is = judged_there places (Refused why) is
   named_there names places (Skipped fault) is = judged_there places (Skipped fault) is
   named_there names places Orphan is = judged_there places Orphan is
+
+  pub again_there : (names : Names) (report : Path) (judgement told : Judgement) → IsToldAgain names report judgement told from to → IsToldAgain names report judgement told old new
+  again_there names report judgement (Misplaced found) is = segments_there names report (Some found) is
+  again_there names report judgement (Refused ReportUnopened) is = failed_there is
+  again_there names report judgement (Refused (Day (ReportLine line))) is = (is.0, sym (seen_there report) ∙ is.1, is.2)
+  again_there names report judgement (Refused (Day why)) is = is
+  again_there names report judgement told is = (is.0, segments_there names report None is.1)
 
   root_there : (names : Names) (root out reports : Path) (visit : Visit) (entries : List JudgedEntry) → IsToldOfRoot names root out reports from to visit entries → IsToldOfRoot names root out reports old new visit entries
   root_there names root out reports (Entry path kind) entries told = (
