@@ -10,12 +10,13 @@ const MICROS_PER_DAY: i64 = 86_400_000_000;
 
 /// The number of the first sample, counted from `start`, that is not before an instant.
 fn first_from(rate: Rate, start: i64, from: i64) -> u128
-    ensures { (n : ℕ) (r : ℤ) → IsRoundedNominal rate start n r → (from ≤ℤ r) ↔ (result ≤ n) }
+    ensures count { (n : ℕ) (r : ℤ) → IsRoundedNominal rate start n r → (from ≤ℤ r) ↔ (result ≤ n) }
+    ensures each { (n : ℕ) → (r : ℤ) × IsRoundedNominal rate start n r }
 {
+    let (numerator, denominator) = rate.period();
     if from <= start {
         return 0;
     }
-    let (numerator, denominator) = rate.period();
     let halves = 2 * from.abs_diff(start) as u128 - 1;
     let spans = 2 * numerator as u128;
     (halves * denominator as u128 + (spans - 1)) / spans

@@ -1,6 +1,8 @@
-use Rattle.std.proofs.Common.{arith}
+use Rattle.std.proofs.Common.{arith, ints}
+use Rattle.jiff_core.proofs.SignedLemmas.{signed_arith, one_part}
+use Rattle.msr_time.proofs.NominalLemmas.{nominal_exists}
 use Rattle.msr_belonging.proofs.Counting.{after_start, from_count}
 use Rattle.msr_belonging.proofs.times.first_from.Goals as goal
 
-pub returns : goal.returns
-returns c = absurd cc
+pub returns-clause-each : goal.returns-clause-each
+returns-clause-each c = λ n. nominal_exists c.args.rate c.args.start n c.period-numerator.result c.period-numerator.ensures.value c.period-numerator.ensures.not_zero.1
