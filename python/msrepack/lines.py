@@ -309,8 +309,8 @@ class VerifyTotals:
         )
 
 
-ArchiveLine = Union[Done, Same, Larger, Young, NotShown, Differs, Changed, Shrunk, Skipped, Refused, Channel, ArchiveTotals]
-VerifyLine = Union[Verified, InPlace, Missing, NotShown, Differs, Skipped, Refused, Orphan, VerifyTotals]
+ArchiveLine = Union[Done, Same, Larger, Young, NotShown, Differs, Changed, Shrunk, Misplaced, Skipped, Refused, Channel, ArchiveTotals]
+VerifyLine = Union[Verified, InPlace, Missing, NotShown, Differs, Misplaced, Skipped, Refused, Orphan, VerifyTotals]
 Line = Union[ArchiveLine, VerifyLine]
 
 N = "([0-9]+)"

@@ -1,8 +1,44 @@
-use Rattle.std.proofs.lemmas.Result.{err_from_is_err_and}
+use Rattle.std.proofs.Common.{Option, None, Some, subst}
+use Rattle.msr_options.specs.declared.names.DayName.{DayName}
+use Rattle.msr_belonging.specs.Belonging.{IsFoundFor, listed}
 use Rattle.msr_making.proofs.Days.{day_stops}
 use Rattle.msr_making.proofs.repacking.repack_day_of.Goals as goal
 
-pub returns-in_err-report-clause-repacks : goal.returns-in_err-report-clause-repacks
-returns-in_err-report-clause-repacks g c =
-    let p = err_from_is_err_and c.from_residual.result c.from_residual.ensures.1 in
-    rw (p.1, p.2) (day_stops _ _ _ _ _ _ _ c.in_err-report.ensures.answer)
+pub returns-in-Err-clause-repacks : goal.returns-in-Err-clause-repacks
+returns-in-Err-clause-repacks g c = day_stops c.args.asked.now _ _ _ _ _ c.in-Err.fault c.in-Err.ensures.answer
+
+pub returns-in-Some-clause-repacks : goal.returns-in-Some-clause-repacks
+returns-in-Some-clause-repacks g c =
+    let does = c.in-Ok.ensures.answer in
+    record {
+      input = does.input;
+      written = does.written;
+      told = does.told;
+      left = does.left;
+      wrote = does.wrote;
+      told_all = does.told_all;
+      answers = record { report = c.in-Ok.report; reported = does.answers; is = rw c.in-Some.is at c.misplaced.ensures };
+    }
+
+pub returns-clause-repacks : goal.returns-clause-repacks
+returns-clause-repacks g c =
+    let does = c.in-Ok.ensures.answer in
+    record {
+      input = does.input;
+      written = does.written;
+      told = does.told;
+      left = does.left;
+      wrote = does.wrote;
+      told_all = does.told_all;
+      answers = record {
+        counted = record {
+          report = c.in-Ok.report;
+          reported = does.answers;
+          read = refl;
+          written = c.records_written-written.ensures;
+          bytes = c.bytes_of_records.ensures;
+          samples = c.samples_reported.ensures;
+        };
+        belong = rw c.in_default.is at c.misplaced.ensures;
+      };
+    }
