@@ -9,12 +9,12 @@ use Rattle.msr_belonging.specs.Names.{IsOfChannel}
 use Rattle.msr_belonging.specs.Times.{HasSampleOn, IsOnDay}
 
 -- the segment of a line, without its samples
-abbrev pub listed_of : SegmentLine → ListedSegment
-listed_of line = record { key = line.key; start = line.start; count = line.samples }
+abbrev pub told_segment : SegmentLine → ListedSegment
+told_segment line = record { key = line.key; start = line.start; count = line.samples }
 
 -- the segments of the lines of a report
-abbrev pub listed : List SegmentLine → List ListedSegment
-listed lines = map listed_of lines
+abbrev pub told_segments : List SegmentLine → List ListedSegment
+told_segments lines = map told_segment lines
 
 -- The name is that of the segment: its channel, and the day of its first sample.
 pub record IsNameOf (segment : ListedSegment) (found : DayName) : Type 0 where

@@ -2,7 +2,7 @@
 ghost use Rattle.std.specs.Prelude.{◌≡◌, IfNone, IfSome, IsTrue, All, false, true};
 ghost use Rattle.msr_time.specs.Instant.{IsInstant};
 ghost use Rattle.msr_report.specs.Proper.{IsProper, IsProperLine};
-ghost use Rattle.msr_belonging.specs.Belonging.{HaveSampleOn, IsFirstOfAnother, IsFoundFor, IsFoundOf, IsNameOf, listed, listed_of};
+ghost use Rattle.msr_belonging.specs.Belonging.{HaveSampleOn, IsFirstOfAnother, IsFoundFor, IsFoundOf, IsNameOf, told_segments, told_segment};
 ghost use Rattle.msr_belonging.specs.Names.{IsOfChannel};
 ghost use Rattle.msr_belonging.specs.Times.{HasSampleOn};
 
@@ -13,8 +13,8 @@ use msr_report::{ListedSegment, Report, SegmentLine};
 use msr_time::split;
 
 /// The segment of a line.
-fn listed_of(line: &SegmentLine) -> ListedSegment
-    ensures { result ≡ listed_of line.now }
+fn told_segment(line: &SegmentLine) -> ListedSegment
+    ensures { result ≡ told_segment line.now }
 {
     ListedSegment {
         key: line.key,
@@ -43,11 +43,11 @@ fn name_of(segment: &ListedSegment) -> DayName
 /// The name of the first segment that is of another channel, if one is.
 fn first_of_another(name: &DayName, lines: &[SegmentLine]) -> Option<DayName>
     requires { All IsProperLine lines.now }
-    ensures another { IfSome result (λ found. IsFirstOfAnother name.now (listed lines.now) found) }
-    ensures same { IfNone result (All (IsOfChannel name.now) (listed lines.now)) }
+    ensures another { IfSome result (λ found. IsFirstOfAnother name.now (told_segments lines.now) found) }
+    ensures same { IfNone result (All (IsOfChannel name.now) (told_segments lines.now)) }
 {
     for line in lines {
-        let segment = listed_of(line);
+        let segment = told_segment(line);
         if !is_of_channel(name, &segment) {
             return Some(name_of(&segment));
         }
@@ -57,11 +57,11 @@ fn first_of_another(name: &DayName, lines: &[SegmentLine]) -> Option<DayName>
 
 /// Whether one of the segments has a sample on the day.
 fn have_sample_on(name: &DayName, lines: &[SegmentLine]) -> bool
-    ensures one { result ≡ true → HaveSampleOn name.now (listed lines.now) }
-    ensures none { result ≡ false → All (λ segment. HasSampleOn name.now.year name.now.day segment → ⊥) (listed lines.now) }
+    ensures one { result ≡ true → HaveSampleOn name.now (told_segments lines.now) }
+    ensures none { result ≡ false → All (λ segment. HasSampleOn name.now.year name.now.day segment → ⊥) (told_segments lines.now) }
 {
     for line in lines {
-        if has_sample_on(&listed_of(line), name.year, name.day) {
+        if has_sample_on(&told_segment(line), name.year, name.day) {
             return true;
         }
     }
@@ -71,7 +71,7 @@ fn have_sample_on(name: &DayName, lines: &[SegmentLine]) -> bool
 /// By which segment those of these lines do not belong to the day of that name, if they do not.
 fn found_of(name: &DayName, lines: &[SegmentLine]) -> Option<DayName>
     requires { All IsProperLine lines.now }
-    ensures { IsFoundOf name.now (listed lines.now) result }
+    ensures { IsFoundOf name.now (told_segments lines.now) result }
 {
     if let Some(found) = first_of_another(name, lines) {
         return Some(found);
@@ -80,13 +80,13 @@ fn found_of(name: &DayName, lines: &[SegmentLine]) -> Option<DayName>
     if have_sample_on(name, lines) {
         return None;
     }
-    Some(name_of(&listed_of(first)))
+    Some(name_of(&told_segment(first)))
 }
 
 /// By which segment those of a report do not belong to the day that is asked for, if they do not.
 pub fn misplaced(report: &Report, names: Names) -> Option<DayName>
     requires { IsProper report.now }
-    ensures { IsFoundFor names (listed report.now.segments.items) result }
+    ensures { IsFoundFor names (told_segments report.now.segments.items) result }
 {
     match names {
         Names::Of(name) => found_of(&name, report.segments.as_slice()),

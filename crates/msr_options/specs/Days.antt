@@ -31,11 +31,11 @@ in_length record_length days = record {
 }
 
 -- the names that are asked of the day that has this one
-abbrev pub names_of : DayName → Names → Names
-names_of name Any = Any
-names_of name Own = Of name
-names_of name (Of other) = Of other
+abbrev pub names_for : DayName → Names → Names
+names_for name Any = Any
+names_for name Own = Of name
+names_for name (Of other) = Of other
 
 -- what is asked of that day
-abbrev pub named : DayName → DayOptions → DayOptions
-named name days = record days { names = names_of name days.names }
+abbrev pub with_name : DayName → DayOptions → DayOptions
+with_name name days = record days { names = names_for name days.names }

@@ -31,7 +31,7 @@ pub struct DayOptions {
 }
 
 impl DayOptions {
-    ghost use Rattle.msr_options.specs.Days.{in_length, named};
+    ghost use Rattle.msr_options.specs.Days.{in_length, with_name};
 
     /// The same for records of another length.
     pub fn in_length(&self, length: Length) -> DayOptions
@@ -44,10 +44,10 @@ impl DayOptions {
         DayOptions { options, ..*self }
     }
     /// What is asked of the day that has this name.
-    pub fn named(&self, name: DayName) -> DayOptions
-        ensures { result ≡ named name self.now }
+    pub fn with_name(&self, name: DayName) -> DayOptions
+        ensures { result ≡ with_name name self.now }
     {
-        let names = self.names.of_day(name);
+        let names = self.names.for_day(name);
         DayOptions { names, ..*self }
     }
 }

@@ -25,7 +25,7 @@ pub enum Names {
 }
 
 impl Names {
-    ghost use Rattle.msr_options.specs.Days.{names_of};
+    ghost use Rattle.msr_options.specs.Days.{names_for};
 
     /// Those of each day's path, if that is asked for.
     pub fn asked(own: bool) -> Names
@@ -36,8 +36,8 @@ impl Names {
     }
 
     /// What is asked of the day that has this name.
-    pub fn of_day(self, name: DayName) -> Names
-        ensures { result ≡ names_of name self }
+    pub fn for_day(self, name: DayName) -> Names
+        ensures { result ≡ names_for name self }
     {
         match self {
             Names::Any => Names::Any,

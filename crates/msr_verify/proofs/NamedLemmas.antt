@@ -1,6 +1,6 @@
 -- Of a day of which it may be asked that its segments belong to it.
 use Rattle.std.proofs.Common.{◌≡◌, ◌<◌, ◌⊎◌, inl, inr, ⊎_elim, ℕ, List, Option, None, Some, refl, sym, ◌∙◌, ap, subst, Result, Ok, Err, IfOk, option_map, arith}
-use Rattle.msr_belonging.specs.Belonging.{IsFoundFor, listed}
+use Rattle.msr_belonging.specs.Belonging.{IsFoundFor, told_segments}
 use Rattle.msr_devices.specs.declared.fault.DeviceFault.{DeviceFault}
 use Rattle.msr_folders.proofs.WalkedLemmas.{goes_so, goes_then}
 use Rattle.msr_options.specs.declared.names.DayName.{DayName}
@@ -29,7 +29,7 @@ abbrev pub IsGood : Judgement → Type 0
 IsGood judgement = (judgement ≡ Verified) ⊎ (judgement ≡ InPlace)
 
 -- any name will do
-unasked : (names : Names) (lines : List SegmentLine) → ((name : DayName) → names ≡ Of name → ⊥) → IsFoundFor names (listed lines) None
+unasked : (names : Names) (lines : List SegmentLine) → ((name : DayName) → names ≡ Of name → ⊥) → IsFoundFor names (told_segments lines) None
 unasked Any lines not = refl
 unasked Own lines not = refl
 unasked (Of name) lines not = absurd (not name refl)

@@ -12,7 +12,7 @@ use Rattle.msr_folders.specs.Visits.{IsWalk}
 use Rattle.msr_folders.specs.Walks.{IsSaidBetween, IsWalked, TellsWalk}
 use Rattle.msr_folders.specs.declared.found.WalkFound.{WalkFound}
 use Rattle.msr_belonging.specs.Names.{day_name}
-use Rattle.msr_options.specs.Days.{names_of}
+use Rattle.msr_options.specs.Days.{names_for}
 use Rattle.msr_options.specs.declared.names.DayName.{DayName}
 use Rattle.msr_options.specs.declared.names.Names.{Names}
 use Rattle.msr_options.specs.declared.task.Verifying.{Verifying}
@@ -133,7 +133,7 @@ module _ (old from to new : List Step) (before : OnlyReads old from) (after : On
     told.0,
     told.1,
     record {
-      day = λ is. let so = told.2.day is in (so.0, so.1, named_there (names_of (day_name so.0) names) (day_places root out reports path) told.0 so.2);
+      day = λ is. let so = told.2.day is in (so.0, so.1, named_there (names_for (day_name so.0) names) (day_places root out reports path) told.0 so.2);
       other = told.2.other;
     },
   )

@@ -16,8 +16,11 @@ use Rattle.msr_tree.specs.Reads.{OnlyLooks, OnlyReads}
 use Rattle.msr_tree.specs.Steps.{Path, Step}
 use Rattle.msr_tree.specs.declared.kind.FileKind.{FileKind}
 use Rattle.msr_tree.specs.declared.kind.FileKind.TheVariants.{Folder, Gone, Other}
+use Rattle.msr_belonging.specs.Names.{day_name}
+use Rattle.msr_options.specs.Days.{names_for}
+use Rattle.msr_options.specs.declared.names.Names.{Names}
 use Rattle.msr_verify.specs.Entries.{IsJudgedEntry, IsJudgementOf, IsVerifyTally, JudgedEntry}
-use Rattle.msr_verify.specs.Files.{IsToldOfOut, IsToldOfRoot, JudgesDay, day_places, other_judgement}
+use Rattle.msr_verify.specs.Files.{IsToldOfOut, IsToldOfRoot, JudgesDay, JudgesNamed, day_places, other_judgement}
 use Rattle.msr_verify.specs.Opening.{MayHave}
 use Rattle.msr_options.specs.declared.telling.Telling.{Telling}
 use Rattle.msr_verify.specs.Lines.{IsToldLine}
@@ -82,12 +85,12 @@ other_is path Other fault none = none
 
 -- a day of the archive
 pub visited_day : (telling : Telling) (names : Names) (root out_root reports path : Path) (kind : FileKind) (judgement : Judgement) (before after : List Step → Type 0) (out0 out : Device) (tally0 tally : VerifyTally)
-    → (day : IsDay path) → Goes before after (JudgesNamed (names_of (day_name day.0) names) (day_places root out_root reports path) (Ok judgement))
+    → (day : IsDay path) → Goes before after (JudgesNamed (names_for (day_name day.0) names) (day_places root out_root reports path) (Ok judgement))
     → TellsEntries telling (record { path = path; judgement = judgement } ∷ []) out0 out tally0 tally
     → TellsVisit (TellsEntries telling) (IsToldOfRoot names root out_root reports) OnlyReads (Entry path kind) before after out0 out tally0 tally
 visited_day telling names root out_root reports path kind judgement before after out0 out tally0 tally day goes told =
     visited telling (IsToldOfRoot names root out_root reports) (Entry path kind) (record { path = path; judgement = judgement } ∷ [])
-    (JudgesNamed (names_of (day_name day.0) names) (day_places root out_root reports path) (Ok judgement)) before after out0 out tally0 tally
+    (JudgesNamed (names_for (day_name day.0) names) (day_places root out_root reports path) (Ok judgement)) before after out0 out tally0 tally
     (λ old new is. (is.looks, (judgement, refl, record { day = λ one. (day.0, day.1, is.says); other = λ none. absurd (none day) }))) goes told
 
 -- what is no day

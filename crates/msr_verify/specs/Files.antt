@@ -8,13 +8,13 @@ use Rattle.msr_tree.specs.Reads.{OnlyLooks, OnlyReads}
 use Rattle.msr_tree.specs.Steps.{Path, Step, failures, seen}
 use Rattle.msr_tree.specs.declared.kind.FileKind.{FileKind}
 use Rattle.msr_tree.specs.declared.kind.FileKind.TheVariants.{Gone}
-use Rattle.msr_options.specs.Days.{names_of}
+use Rattle.msr_options.specs.Days.{names_for}
 use Rattle.msr_options.specs.declared.names.DayName.{DayName}
 use Rattle.msr_options.specs.declared.names.Names.{Names}
 use Rattle.msr_options.specs.declared.names.Names.TheVariants.{Any, Own}
 use Rattle.msr_report.specs.declared.report.Report.{Report}
 use Rattle.msr_report_reader.specs.Reading.{IsReadFrom}
-use Rattle.msr_belonging.specs.Belonging.{IsFoundFor, listed}
+use Rattle.msr_belonging.specs.Belonging.{IsFoundFor, told_segments}
 use Rattle.msr_belonging.specs.Names.{day_name}
 use Rattle.msr_sds.specs.SdsPath.{ReadsAsDay, SdsPath}
 use Rattle.msr_sds.specs.declared.SdsFault.{SdsFault}
@@ -106,7 +106,7 @@ pub record TellsSegments (names : Names) (place : Path) (found : Option DayName)
   pub report : Report
   pub has_report : seen past place ≡ Some text
   pub read : IsReadFrom report text
-  pub is : IsFoundFor names (listed report.segments.items) found
+  pub is : IsFoundFor names (told_segments report.segments.items) found
 
 -- What a judgement says of the files of a day of which it may be asked that its segments belong to it: one that would be
 -- verified or in place is misplaced exactly if they do not.
@@ -130,7 +130,7 @@ other_judgement kind fault = Skipped fault
 -- What is told of an entry of the archive: of a day what its files show, of anything else why it is no day. It may be asked
 -- that the segments of a day are those of its path.
 pub record IsToldOfEntry (names : Names) (places : DayPlaces) (path : Path) (kind : FileKind) (judgement : Judgement) (old new : List Step) : Type 0 where
-  pub day : IsDay path → (name : SdsPath) × ReadsAsDay path name × IsNamedThere (names_of (day_name name) names) places judgement old new
+  pub day : IsDay path → (name : SdsPath) × ReadsAsDay path name × IsNamedThere (names_for (day_name name) names) places judgement old new
   pub other : (¬ (IsDay path)) → (fault : SdsFault) × IsNoDay path fault × (judgement ≡ other_judgement kind fault)
 
 -- the one entry that is told of a visit of the archive

@@ -101,7 +101,7 @@ impl EntryVisitor for Judging<'_> {
     ) -> Result<(), DeviceFault> {
         match SdsName::parse(path) {
             Ok(name) => {
-                let names = self.names.of_day(day_name(&name));
+                let names = self.names.for_day(day_name(&name));
                 let judgement = judge_named(tree, self.alloc, self.folders, path, names)?;
                 let reason = tree.reason();
                 tell(

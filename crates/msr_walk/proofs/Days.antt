@@ -19,7 +19,7 @@ use Rattle.msr_making.specs.declared.answer.Repacked.{Repacked}
 use Rattle.msr_naming.specs.Naming.{day_paths}
 use Rattle.msr_naming.specs.declared.files.DayFiles.{DayFiles}
 use Rattle.msr_belonging.specs.Names.{day_name}
-use Rattle.msr_options.specs.Days.{in_length, named}
+use Rattle.msr_options.specs.Days.{in_length, with_name}
 use Rattle.std.specs.declared.alloc.AllocError.{AllocError}
 use Rattle.msr_options.specs.declared.days.DayOptions.{DayOptions}
 use Rattle.msr_options.specs.declared.hint.Side.{Side}
@@ -205,22 +205,22 @@ young_there days names out reports old new asks leaves = record {
 
 -- what becomes of a day, told of an entry with its path
 pub outcome_of : (asked : DayOptions) (path channel : List ℕ) (outcome : Outcome) (day : IsDayOf path channel)
-    → IsOutcomeOfDay (named (day_name day.name) asked) outcome → IsOutcomeOf asked path channel outcome
+    → IsOutcomeOfDay (with_name (day_name day.name) asked) outcome → IsOutcomeOf asked path channel outcome
 outcome_of asked path channel outcome day is = subst (λ o. IsOutcomeOf asked path channel o) (sym is.same) (by is.of is.same is.is)
   where
     by : (of : DayOutcome) → outcome ≡ of_day of → IsDayOutcome is.asked of → IsOutcomeOf asked path channel (of_day of)
-    by (outcomes.Done repacked) same so = record { day = day; outcome_is = subst (λ o. IsOutcomeOfDay (named (day_name day.name) asked) o) same is }
-    by (outcomes.Same repacked) same so = record { day = day; outcome_is = subst (λ o. IsOutcomeOfDay (named (day_name day.name) asked) o) same is }
-    by outcomes.Young same so = record { day = day; outcome_is = subst (λ o. IsOutcomeOfDay (named (day_name day.name) asked) o) same is }
-    by (outcomes.Refused (CannotOpen unopened)) same so = record { day = day; outcome_is = subst (λ o. IsOutcomeOfDay (named (day_name day.name) asked) o) same is }
-    by (outcomes.Refused NotShown) same so = record { day = day; outcome_is = subst (λ o. IsOutcomeOfDay (named (day_name day.name) asked) o) same is }
-    by (outcomes.Refused Changed) same so = record { day = day; outcome_is = subst (λ o. IsOutcomeOfDay (named (day_name day.name) asked) o) same is }
-    by (outcomes.Refused Differs) same so = record { day = day; outcome_is = subst (λ o. IsOutcomeOfDay (named (day_name day.name) asked) o) same is }
-    by (outcomes.Refused (Shrunk shrinkage)) same so = record { day = day; outcome_is = subst (λ o. IsOutcomeOfDay (named (day_name day.name) asked) o) same is }
-    by (outcomes.Refused (Larger repacked)) same so = record { day = day; outcome_is = subst (λ o. IsOutcomeOfDay (named (day_name day.name) asked) o) same is }
-    by (outcomes.Refused (Misplaced found)) same so = record { day = day; outcome_is = subst (λ o. IsOutcomeOfDay (named (day_name day.name) asked) o) same is }
-    by (outcomes.Refused ClaimedByAnother) same so = record { day = day; outcome_is = subst (λ o. IsOutcomeOfDay (named (day_name day.name) asked) o) same is }
-    by (outcomes.Refused (Tool fault)) same so = record { day = day; outcome_is = subst (λ o. IsOutcomeOfDay (named (day_name day.name) asked) o) same is }
+    by (outcomes.Done repacked) same so = record { day = day; outcome_is = subst (λ o. IsOutcomeOfDay (with_name (day_name day.name) asked) o) same is }
+    by (outcomes.Same repacked) same so = record { day = day; outcome_is = subst (λ o. IsOutcomeOfDay (with_name (day_name day.name) asked) o) same is }
+    by outcomes.Young same so = record { day = day; outcome_is = subst (λ o. IsOutcomeOfDay (with_name (day_name day.name) asked) o) same is }
+    by (outcomes.Refused (CannotOpen unopened)) same so = record { day = day; outcome_is = subst (λ o. IsOutcomeOfDay (with_name (day_name day.name) asked) o) same is }
+    by (outcomes.Refused NotShown) same so = record { day = day; outcome_is = subst (λ o. IsOutcomeOfDay (with_name (day_name day.name) asked) o) same is }
+    by (outcomes.Refused Changed) same so = record { day = day; outcome_is = subst (λ o. IsOutcomeOfDay (with_name (day_name day.name) asked) o) same is }
+    by (outcomes.Refused Differs) same so = record { day = day; outcome_is = subst (λ o. IsOutcomeOfDay (with_name (day_name day.name) asked) o) same is }
+    by (outcomes.Refused (Shrunk shrinkage)) same so = record { day = day; outcome_is = subst (λ o. IsOutcomeOfDay (with_name (day_name day.name) asked) o) same is }
+    by (outcomes.Refused (Larger repacked)) same so = record { day = day; outcome_is = subst (λ o. IsOutcomeOfDay (with_name (day_name day.name) asked) o) same is }
+    by (outcomes.Refused (Misplaced found)) same so = record { day = day; outcome_is = subst (λ o. IsOutcomeOfDay (with_name (day_name day.name) asked) o) same is }
+    by (outcomes.Refused ClaimedByAnother) same so = record { day = day; outcome_is = subst (λ o. IsOutcomeOfDay (with_name (day_name day.name) asked) o) same is }
+    by (outcomes.Refused (Tool fault)) same so = record { day = day; outcome_is = subst (λ o. IsOutcomeOfDay (with_name (day_name day.name) asked) o) same is }
     by (outcomes.Refused Gone) same so = absurd so
     by (outcomes.Refused Listing) same so = absurd so
 

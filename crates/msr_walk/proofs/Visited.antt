@@ -16,7 +16,7 @@ use Rattle.msr_tree.specs.Steps.{Path, Step}
 use Rattle.msr_tree.specs.declared.kind.FileKind.{FileKind}
 use Rattle.msr_tree.specs.declared.kind.FileKind.TheVariants.{Gone}
 use Rattle.msr_belonging.specs.Names.{day_name}
-use Rattle.msr_options.specs.Days.{named}
+use Rattle.msr_options.specs.Days.{with_name}
 use Rattle.msr_walk.proofs.Days.{told_until}
 use Rattle.msr_walk.proofs.Working.{works_none, works_then}
 use Rattle.msr_outcomes.specs.Entries.{Entry}
@@ -37,7 +37,7 @@ module _ {P : Type 0} (tally : P → Tally) (days : DayOptions) (root outf repor
   -- a day
   pub visited_day : {H E : Type 0} (outcome : H → Outcome) (handled : H) (path channel : Path) (kind : FileKind) (before mid after : List Step → Type 0) (out0 out : Device) (of0 of : P)
       → kind ≢ Gone → (day : IsDay path)
-      → Goes before mid (TellsDay {E = E} outcome (named (day_name day.0) days) (day_names root outf reports path) outf reports (Ok handled))
+      → Goes before mid (TellsDay {E = E} outcome (with_name (day_name day.0) days) (day_names root outf reports path) outf reports (Ok handled))
       → Goes mid after (WorksWithin outf reports)
       → TellsOutcomesOf tally days (record { path = path; channel = channel; outcome = outcome handled } ∷ []) out0 out of0 of
       → TellsOf (Found path kind) before after out0 out of0 of

@@ -15,7 +15,7 @@ use Rattle.msr_making.specs.declared.answer.DayFault.TheVariants.{CannotOpen, Go
 use Rattle.msr_making.specs.declared.answer.DayOutcome.{DayOutcome}
 use Rattle.msr_making.specs.declared.answer.DayOutcome.TheVariants as outcomes
 use Rattle.msr_belonging.specs.Names.{day_name}
-use Rattle.msr_options.specs.Days.{named}
+use Rattle.msr_options.specs.Days.{with_name}
 use Rattle.msr_options.specs.declared.days.DayOptions.{DayOptions}
 use Rattle.msr_options.specs.declared.task.Archiving.{Archiving}
 use Rattle.msr_options.specs.declared.task.Folders.{Folders}
@@ -97,7 +97,7 @@ pub record TellsDay {H E : Type 0} (outcome : H → Outcome) (days : DayOptions)
 -- may be that its segments are those of its path.
 pub record IsToldOfPath (days : DayOptions) (names : DayNames) (out reports path : Path) (kind : FileKind) (outcome : Outcome) (old new : List Step) : Type 0 where
   pub gone : kind ≡ Gone → outcome ≡ Refused WasGone
-  pub day : kind ≢ Gone → IsDay path → (name : SdsPath) × ReadsAsDay path name × IsDayTold (named (day_name name) days) names out reports outcome old new
+  pub day : kind ≢ Gone → IsDay path → (name : SdsPath) × ReadsAsDay path name × IsDayTold (with_name (day_name name) days) names out reports outcome old new
   pub other : kind ≢ Gone → ¬ (IsDay path) → (fault : SdsFault) × IsNoDay path fault × (outcome ≡ Skipped fault)
 
 -- the one entry that is told of a visit

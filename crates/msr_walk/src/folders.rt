@@ -20,7 +20,7 @@ ghost use Rattle.msr_walk.specs.Handling.{AllWaitWithin, AreWaitingAt, WaitsWith
 ghost use Rattle.msr_outcomes.specs.Lines.{IsEntryLine};
 ghost use Rattle.msr_outcomes.specs.Outcomes.{IsOutcomeOfDay};
 ghost use Rattle.msr_belonging.specs.Names.{day_name};
-ghost use Rattle.msr_options.specs.Days.{named};
+ghost use Rattle.msr_options.specs.Days.{with_name};
 ghost use Rattle.msr_walk.specs.Told.{IsToldOfVisit, StaysWithin, TellsDay, TellsOutcomesOf, WalksTree, WorksFor};
 ghost use Rattle.msr_walk.specs.Walk.{StopsTellingOutcomes, Walks};
 
@@ -158,9 +158,9 @@ impl<'a, C: Claims> Walker<'a, C> {
         made: &mut String,
     ) -> Result<Told<C::Claim>, AllocError>
         requires { ReadsAsDay path.now name.now }
-        ensures told { IfOk result (λ told. IsOutcomeOfDay (named (day_name name.now) self.now.archive.now.days) told.outcome) }
+        ensures told { IfOk result (λ told. IsOutcomeOfDay (with_name (day_name name.now) self.now.archive.now.days) told.outcome) }
         ensures waits { IfOk result (λ told. WaitsWithin self.now.archive.now.folders.reports.now told.waiting) }
-        ensures goes { Goes (T.went tree.old) (T.went tree.new) (TellsDay (λ told. told.outcome) (named (day_name name.now) self.now.archive.now.days)
+        ensures goes { Goes (T.went tree.old) (T.went tree.new) (TellsDay (λ told. told.outcome) (with_name (day_name name.now) self.now.archive.now.days)
             (day_names self.now.archive.now.folders.root.now self.now.archive.now.folders.out.now self.now.archive.now.folders.reports.now path.now) self.now.archive.now.folders.out.now self.now.archive.now.folders.reports.now result) }
     {
         if self.is_young(tree, path)? {
@@ -176,7 +176,7 @@ impl<'a, C: Claims> Walker<'a, C> {
                 waiting: None,
             });
         }
-        let days = self.archive.days.named(day_name(name));
+        let days = self.archive.days.with_name(day_name(name));
         let day = Day::new(self.alloc, self.archive.folders, path)?;
         let length = day_length(tree, self.alloc, day.input(), &days)?;
         let work = Work {

@@ -1,7 +1,4 @@
-use Rattle.std.proofs.Common.{arith, ints}
-use Rattle.jiff_core.proofs.SignedLemmas.{signed_arith, one_part}
 use Rattle.msr_time.proofs.NominalLemmas.{nominal_exists}
-use Rattle.msr_belonging.proofs.Counting.{after_start, from_count}
 use Rattle.msr_belonging.proofs.times.first_from.Goals as goal
 
 pub returns-clause-each : goal.returns-clause-each

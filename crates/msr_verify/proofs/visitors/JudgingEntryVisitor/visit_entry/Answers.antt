@@ -3,7 +3,7 @@ use Rattle.std.proofs.lemmas.Result.{err_from_is_err_and}
 use Rattle.msr_folders.proofs.WalkedLemmas.{on_ok_as}
 use Rattle.msr_belonging.specs.Names.{day_name}
 use Rattle.msr_folders.specs.Days.{IsNoDay}
-use Rattle.msr_options.specs.Days.{names_of}
+use Rattle.msr_options.specs.Days.{names_for}
 use Rattle.msr_verify.proofs.EntriesFound.{judged, none_told}
 use Rattle.msr_verify.proofs.VisitedLemmas.{no_day, other_is, visit_by, visited_day, visited_other}
 use Rattle.msr_verify.specs.Files.{JudgesNamed, day_places}
@@ -17,7 +17,7 @@ returns-in_err-judgement-in-Ok-clause-stops g c =
 pub returns-in_err-judgement-in-Ok-clause-does : goal.returns-in_err-judgement-in-Ok-clause-does
 returns-in_err-judgement-in-Ok-clause-does g c =
     let folders = c.args.self.now.folders in
-    visit_by (JudgesNamed (names_of (day_name c.in-Ok.name.now) c.args.self.now.names) (day_places folders.root.now folders.out.now folders.reports.now c.args.path.now) (Err c.in_err-judgement-in-Ok.field-0.0)) _ _
+    visit_by (JudgesNamed (names_for (day_name c.in-Ok.name.now) c.args.self.now.names) (day_places folders.root.now folders.out.now folders.reports.now c.args.path.now) (Err c.in_err-judgement-in-Ok.field-0.0)) _ _
     (λ old new is. is.looks) c.in_err-judgement-in-Ok.ensures.goes
 
 pub returns-in_ok-judgement-in-Ok-clause-told : goal.returns-in_ok-judgement-in-Ok-clause-told
@@ -35,7 +35,7 @@ returns-in_ok-judgement-in-Ok-clause-stops g c =
 pub returns-in_ok-judgement-in-Ok-clause-does : goal.returns-in_ok-judgement-in-Ok-clause-does
 returns-in_ok-judgement-in-Ok-clause-does g c =
     let folders = c.args.self.now.folders in
-    visit_by (JudgesNamed (names_of (day_name c.in-Ok.name.now) c.args.self.now.names) (day_places folders.root.now folders.out.now folders.reports.now c.args.path.now) (Ok c.in_ok-judgement-in-Ok.judgement)) _ _
+    visit_by (JudgesNamed (names_for (day_name c.in-Ok.name.now) c.args.self.now.names) (day_places folders.root.now folders.out.now folders.reports.now c.args.path.now) (Ok c.in_ok-judgement-in-Ok.judgement)) _ _
     (λ old new is. is.looks) c.in_ok-judgement-in-Ok.ensures.goes
 
 pub returns-in-Err-clause-told : goal.returns-in-Err-clause-told
