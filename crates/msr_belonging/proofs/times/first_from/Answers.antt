@@ -1,4 +1,4 @@
-use Rattle.std.proofs.Common.{◌≡◌, ◌+◌, ◌-◌, ◌*◌, ◌≤◌, ℕ, ◌-ℤ◌, ◌≤ℤ◌, arith, unsigned_abs}
+use Rattle.std.proofs.Common.{◌≡◌, ◌+◌, ◌-◌, ◌*◌, ◌≤◌, ℕ, ◌-ℤ◌, ◌≤ℤ◌, arith, to_z-of_z, unsigned_abs}
 use Rattle.jiff_core.proofs.SignedLemmas.{signed_arith, one_part}
 use Rattle.msr_time.proofs.NominalLemmas.{nominal_exists}
 use Rattle.msr_belonging.proofs.Counting.{after_start, from_count}
@@ -19,8 +19,9 @@ returns-clause-count c = λ n r is.
     let value = c.period-numerator.ensures.value in
     let some = rw value at c.period-numerator.ensures.not_zero.0 in
     let gap = c.abs_diff.result in
+    let diff : gap ≡ unsigned_abs (c.args.from -ℤ c.args.start) = rw (to_z-of_z c.ranges.from, to_z-of_z c.ranges.start) at c.abs_diff.ensures in
     let apart : up c.args.from + down c.args.start ≡ down c.args.from + up c.args.start + gap =
-    omega (arith, signed_arith, one_part (c.args.from -ℤ c.args.start), c.abs_diff.ensures, c.if-from-start.false) in
+    omega (arith, signed_arith, one_part (c.args.from -ℤ c.args.start), diff, c.if-from-start.false) in
     let twice : 2 * gap ≡ (2 * gap - 1) + 1 = omega (arith, signed_arith, apart, c.if-from-start.false) in
     rw value (from_count c.args.rate c.args.start c.args.from n r is gap (2 * gap - 1) (omega (arith, some)) apart twice)
 
