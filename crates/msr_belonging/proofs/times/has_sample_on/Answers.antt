@@ -1,4 +1,4 @@
-use Rattle.std.proofs.Common.{◌≡◌, ◌<◌, ◌≤◌, ℕ, ℤ, pos, ◌+ℤ◌, ◌≤ℤ◌, FitsSigned, w64, to_z-of_z, arith, sym}
+use Rattle.std.proofs.Common.{◌≡◌, ◌<◌, ◌≤◌, ℕ, ℤ, pos, ◌+ℤ◌, ◌≤ℤ◌, FitsSigned, w64, to_z-of_z, arith, rules}
 use Rattle.std.specs.Prelude.{◌↔◌}
 use Rattle.std.proofs.lemmas.Bool.Decides.{Decides-ltb}
 use Rattle.jiff_core.proofs.SignedLemmas.{signed_arith}
@@ -26,12 +26,15 @@ returns-then-first-after c =
     let both = fits c.args.year c.args.day c.in-Some.from is.0 is.1 in
     let first = c.first_from-first.result in
     let after = c.first_from-after.result in
-    let later = rw (to_z-of_z both.0, to_z-of_z both.1) at c.first_from-after.ensures.count in
+    let start : FitsSigned w64 c.args.segment.now.start = search rules in
+    let count = rw (to_z-of_z start, to_z-of_z both.0) at c.first_from-first.ensures.count in
+    let later = rw (to_z-of_z start, to_z-of_z both.0, to_z-of_z both.1) at c.first_from-after.ensures.count in
+    let each = rw (to_z-of_z start) at c.first_from-first.ensures.each in
     let test = Decides-ltb first c.args.segment.now.count in
     (
-      λ t. has_some c.args.segment.now c.args.year c.args.day first after c.in-Some.from is.0 is.1 c.first_from-first.ensures.count later
-          c.first_from-first.ensures.each c.if-first-after.true (test.0 t),
-      λ has. test.1 (has_first c.args.segment.now c.args.year c.args.day first after c.in-Some.from is.0 is.1 c.first_from-first.ensures.count later has).1,
+      λ t. has_some c.args.segment.now c.args.year c.args.day first after c.in-Some.from is.0 is.1 count later
+          each c.if-first-after.true (test.0 t),
+      λ has. test.1 (has_first c.args.segment.now c.args.year c.args.day first after c.in-Some.from is.0 is.1 count later has).1,
     )
 
 pub returns-else-first-after : goal.returns-else-first-after
@@ -40,9 +43,12 @@ returns-else-first-after c =
     let both = fits c.args.year c.args.day c.in-Some.from is.0 is.1 in
     let first = c.first_from-first.result in
     let after = c.first_from-after.result in
-    let later = rw (to_z-of_z both.0, to_z-of_z both.1) at c.first_from-after.ensures.count in
+    let start : FitsSigned w64 c.args.segment.now.start = search rules in
+    let count = rw (to_z-of_z start, to_z-of_z both.0) at c.first_from-first.ensures.count in
+    let later = rw (to_z-of_z start, to_z-of_z both.0, to_z-of_z both.1) at c.first_from-after.ensures.count in
+    let each = rw (to_z-of_z start) at c.first_from-first.ensures.each in
     let test = Decides-ltb first after in
     (
       λ t. let sooner = test.0 t in let not = c.if-first-after.false in absurd (omega arith),
-      λ has. test.1 (has_first c.args.segment.now c.args.year c.args.day first after c.in-Some.from is.0 is.1 c.first_from-first.ensures.count later has).0,
+      λ has. test.1 (has_first c.args.segment.now c.args.year c.args.day first after c.in-Some.from is.0 is.1 count later has).0,
     )
