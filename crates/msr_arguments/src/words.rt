@@ -12,8 +12,8 @@ use clap::ArgMatches;
 use clap::error::ErrorKind;
 use msr_kinds::{Kinds, Length};
 use msr_options::{
-    Archiving, Checking, Comparing, DayOptions, Ending, Feeding, Folders, ListForm, Listing,
-    Names, NoTask, Options, Repacking, Replacing, Task, Telling, Verb, Verifying, overlap,
+    Archiving, Checking, Comparing, DayOptions, Ending, Feeding, Folders, ListForm, Listing, Names,
+    NoTask, Options, Repacking, Replacing, Task, Telling, Verb, Verifying, overlap,
 };
 use msr_sds::levels_below;
 use std::alloc::{AllocError, Global};

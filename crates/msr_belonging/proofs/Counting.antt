@@ -13,8 +13,7 @@ use borrow.Author.Differences.{up, down}
 -- a quotient that is rounded up
 ceil_le : (x k n : ℕ) → 0 < k → ((x + (k - 1)) / k ≤ n) ↔ (x ≤ n * k)
 ceil_le x k n some =
-    let q = quotient_bounds (x + (k - 1)) k some in
-    (
+    let q = quotient_bounds (x + (k - 1)) k some in (
       λ le. let s = mul-le-mul_right k le in omega arith,
       λ le. elim (cases_lt n ((x + (k - 1)) / k)) [
         | inl lt ↦ let s : (n + 1) * k ≤ (x + (k - 1)) / k * k = mul-le-mul_right k (omega arith) in absurd (omega arith)
@@ -40,8 +39,7 @@ module _ (rate : SampleRate) (t0 from : ℤ) (n : ℕ) (r : ℤ) (is : IsRounded
   counted gap halves e twice =
       let parts = rounded_parts rate t0 n r is in
       let apart = ap (λ (x : ℕ). x * den) e in
-      let double = ap (λ (x : ℕ). x * den) twice in
-      (
+      let double = ap (λ (x : ℕ). x * den) twice in (
         λ le. let step : (up from + down r) * den ≤ (up r + down from) * den = mul-le-mul_right den (omega (arith, signed_arith)) in omega arith,
         λ many. by_lt_z r from
             (λ lt. let step : (up r + down from + 1) * den ≤ (up from + down r) * den = mul-le-mul_right den (omega (arith, signed_arith)) in absurd (omega arith))

@@ -77,14 +77,7 @@ pub(crate) fn kept<T: Tree>(
         return Ok(None);
     }
     let bytes = facts.input.bytes;
-    let found = kept_counts(
-        tree,
-        alloc,
-        places.report,
-        &facts.report,
-        asked,
-        bytes,
-    )?;
+    let found = kept_counts(tree, alloc, places.report, &facts.report, asked, bytes)?;
     let Some(repacked) = found else {
         return Ok(None);
     };

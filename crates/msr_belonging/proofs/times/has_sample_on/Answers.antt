@@ -30,8 +30,7 @@ returns-then-first-after c =
     let count = rw (to_z-of_z start, to_z-of_z both.0) at c.first_from-first.ensures.count in
     let later = rw (to_z-of_z start, to_z-of_z both.0, to_z-of_z both.1) at c.first_from-after.ensures.count in
     let each = rw (to_z-of_z start) at c.first_from-first.ensures.each in
-    let test = Decides-ltb first c.args.segment.now.count in
-    (
+    let test = Decides-ltb first c.args.segment.now.count in (
       λ t. has_some c.args.segment.now c.args.year c.args.day first after c.in-Some.from is.0 is.1 count later
           each c.if-first-after.true (test.0 t),
       λ has. test.1 (has_first c.args.segment.now c.args.year c.args.day first after c.in-Some.from is.0 is.1 count later has).1,
@@ -47,8 +46,7 @@ returns-else-first-after c =
     let count = rw (to_z-of_z start, to_z-of_z both.0) at c.first_from-first.ensures.count in
     let later = rw (to_z-of_z start, to_z-of_z both.0, to_z-of_z both.1) at c.first_from-after.ensures.count in
     let each = rw (to_z-of_z start) at c.first_from-first.ensures.each in
-    let test = Decides-ltb first after in
-    (
+    let test = Decides-ltb first after in (
       λ t. let sooner = test.0 t in let not = c.if-first-after.false in absurd (omega arith),
       λ has. test.1 (has_first c.args.segment.now c.args.year c.args.day first after c.in-Some.from is.0 is.1 count later has).0,
     )
