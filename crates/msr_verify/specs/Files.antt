@@ -10,7 +10,7 @@ use Rattle.msr_tree.specs.declared.kind.FileKind.{FileKind}
 use Rattle.msr_tree.specs.declared.kind.FileKind.TheVariants.{Gone}
 use Rattle.msr_sds.specs.declared.SdsFault.{SdsFault}
 use Rattle.msr_folders.specs.Days.{IsDay, IsNoDay}
-use Rattle.msr_folders.specs.Entries.{AreEntriesOf, Entry, ForEach, Visit, WithoutList, unlisted_in}
+use Rattle.msr_folders.specs.Entries.{AreEntriesOf, Entry, ForEach, Left, Passed, Visit, WithoutList, unlisted_in}
 use Rattle.msr_folders.specs.Paths.{ended, joined, told_folder}
 use Rattle.msr_verify.specs.Day.{DayAnswers, IsCut, IsShownLeast}
 use Rattle.msr_verify.specs.Entries.{JudgedEntry}
@@ -101,6 +101,8 @@ IsToldOfRoot root out reports old new (Entry path kind) entries = (judgement : J
     × (entries ≡ record { path = path; judgement = judgement } ∷ []) × IsToldOfEntry (day_places root out reports path) path kind judgement old new
 IsToldOfRoot root out reports old new (WithoutList folder) entries =
     entries ≡ record { path = told_folder folder; judgement = Refused Listing } ∷ []
+IsToldOfRoot root out reports old new (Passed folder) entries = ⊥
+IsToldOfRoot root out reports old new (Left folder) entries = entries ≡ []
 
 -- Of a visit of the records it is told if it is a day that the archive does not have, or a folder that is there.
 pub record IsToldOfRecord (root path : Path) (entries : List JudgedEntry) (old new : List Step) : Type 0 where
@@ -113,6 +115,8 @@ IsToldOfOut root out old new (Entry path kind) entries = IsToldOfRecord root pat
 IsToldOfOut root out old new (WithoutList folder) entries =
     (entries ≡ record { path = told_folder folder; judgement = Refused RecordsListing } ∷ [])
     ⊎ ((entries ≡ []) × (is_there old (joined out folder) ≡ false))
+IsToldOfOut root out old new (Passed folder) entries = ⊥
+IsToldOfOut root out old new (Left folder) entries = entries ≡ []
 
 -- What was told of an archive, and of its records: of each entry, in order. Nothing was changed.
 pub record IsArchiveVerified (root out reports : Path) (below : List (Bor Path)) (entries orphans : List JudgedEntry) (old new : List Step) : Type 0 where

@@ -27,7 +27,7 @@ fn walk_archive<T: Tree, O: Sink>(
 ) -> Result<(), DeviceFault>
     requires { CanCountCall (O.device out.old) }
     ensures told { OnOk result (TellsWalk (TellsEntries archive.now.telling)
-        (IsToldOfRoot archive.now.folders.root.now archive.now.folders.out.now archive.now.folders.reports.now) OnlyReads
+        (IsToldOfRoot archive.now.folders.root.now archive.now.folders.out.now archive.now.folders.reports.now) OnlyReads (Unit {0})
         archive.now.folders.root.now (λ past. AreEntriesOf past archive.now.folders.root.now archive.now.below.items)
         (T.went tree.old) (T.went tree.new) (O.device out.old) (O.device out.new) tally.old tally.new) }
     ensures stops { IfErr result (StopsTellingJudged archive.now.telling (O.device out.old) (O.device out.new)) }
@@ -56,7 +56,7 @@ fn walk_records<T: Tree, O: Sink>(
 ) -> Result<(), DeviceFault>
     requires { CanCountCall (O.device out.old) }
     ensures told { OnOk result (TellsWalk (TellsEntries archive.now.telling)
-        (IsToldOfOut archive.now.folders.root.now archive.now.folders.out.now) OnlyReads
+        (IsToldOfOut archive.now.folders.root.now archive.now.folders.out.now) OnlyReads (Unit {0})
         archive.now.folders.out.now (λ past. AreEntriesOf past archive.now.folders.out.now archive.now.below.items)
         (T.went tree.old) (T.went tree.new) (O.device out.old) (O.device out.new) tally.old tally.new) }
     ensures stops { IfErr result (StopsTellingJudged archive.now.telling (O.device out.old) (O.device out.new)) }

@@ -17,7 +17,7 @@ use msr_folders::{EntryVisitor, join, told_folder};
 use msr_options::{Folders, Telling};
 use msr_sds::{SdsFault, SdsName};
 use msr_tree::{FileKind, Tree};
-use std::alloc::{AllocError, Global};
+use std::alloc::Global;
 use std::io;
 
 /// Prints the line of an entry, unless it is left out, and counts it. The reason is that of the call of the system that
@@ -78,14 +78,23 @@ impl EntryVisitor for Judging<'_> {
 
     ghost holds = { λ _ _ _. Unit {0} };
 
-    ghost spared = { λ judging. judging.folders.root.now };
+    ghost listless = { λ _. Unit {0} };
 
-    ghost laws = { reading_laws IsJudgedEntry (λ judging. IsToldLine judging.telling) IsVerifyTally (λ judging. judging.folders.root.now) };
+    ghost root = { λ judging. judging.folders.root.now };
+
+    ghost laws = { reading_laws IsJudgedEntry (λ judging. IsToldLine judging.telling) IsVerifyTally };
 
     ghost listed = { none_holds };
 
-    fn enter_folder(&self, _folder: &str, _levels: u8) -> Result<(), AllocError> {
-        Ok(())
+    fn enter_folder<T: Tree, O: Sink>(
+        &self,
+        _tree: &mut T,
+        _folder: &str,
+        _levels: u8,
+        _out: &mut O,
+        _tally: &mut VerifyTally,
+    ) -> Result<Option<()>, DeviceFault> {
+        Ok(Some(()))
     }
 
     fn visit_entry<T: Tree, O: Sink>(
@@ -146,7 +155,16 @@ impl EntryVisitor for Judging<'_> {
         )
     }
 
-    fn leave_folder<T: Tree>(&self, _tree: &mut T, _tally: &mut VerifyTally) {}
+    fn leave_folder<T: Tree, O: Sink>(
+        &self,
+        _tree: &mut T,
+        _folder: &str,
+        _levels: u8,
+        _out: &mut O,
+        _tally: &mut VerifyTally,
+    ) -> Result<(), DeviceFault> {
+        Ok(())
+    }
 }
 
 /// Searches the records for days that the archive does not have.
@@ -174,14 +192,23 @@ impl EntryVisitor for Searching<'_> {
 
     ghost holds = { λ _ _ _. Unit {0} };
 
-    ghost spared = { λ searching. searching.folders.out.now };
+    ghost listless = { λ _. Unit {0} };
 
-    ghost laws = { reading_laws IsJudgedEntry (λ searching. IsToldLine searching.telling) IsVerifyTally (λ searching. searching.folders.out.now) };
+    ghost root = { λ searching. searching.folders.out.now };
+
+    ghost laws = { reading_laws IsJudgedEntry (λ searching. IsToldLine searching.telling) IsVerifyTally };
 
     ghost listed = { none_holds };
 
-    fn enter_folder(&self, _folder: &str, _levels: u8) -> Result<(), AllocError> {
-        Ok(())
+    fn enter_folder<T: Tree, O: Sink>(
+        &self,
+        _tree: &mut T,
+        _folder: &str,
+        _levels: u8,
+        _out: &mut O,
+        _tally: &mut VerifyTally,
+    ) -> Result<Option<()>, DeviceFault> {
+        Ok(Some(()))
     }
 
     /// What is no day is not told.
@@ -239,5 +266,14 @@ impl EntryVisitor for Searching<'_> {
         )
     }
 
-    fn leave_folder<T: Tree>(&self, _tree: &mut T, _tally: &mut VerifyTally) {}
+    fn leave_folder<T: Tree, O: Sink>(
+        &self,
+        _tree: &mut T,
+        _folder: &str,
+        _levels: u8,
+        _out: &mut O,
+        _tally: &mut VerifyTally,
+    ) -> Result<(), DeviceFault> {
+        Ok(())
+    }
 }
