@@ -17,10 +17,10 @@ reads_same folder old new reads = record {
 }
 
 -- the laws of a visitor that tells entries, and only reads
-pub reading_laws : {V E T : Type 0} (is_entry : E → Type 0) (is_line : V → E → List ℕ → Type 0) (is_tally : List E → T → Type 0) (spared : V → Path) →
+pub reading_laws : {V E T : Type 0} (is_entry : E → Type 0) (is_line : V → E → List ℕ → Type 0) (is_tally : List E → T → Type 0) →
     VisitLaws (λ visitor. TellsThese is_entry (is_line visitor) is_tally)
-    (λ visitor out0 out. StopsAt (TellsInPart is_entry (is_line visitor) out0 out) out0 out) (λ visitor. OnlyReads) spared
-reading_laws is_entry is_line is_tally spared = record {
+    (λ visitor out0 out. StopsAt (TellsInPart is_entry (is_line visitor) out0 out) out0 out) (λ visitor. OnlyReads)
+reading_laws is_entry is_line is_tally = record {
   calm = λ visitor lines out0 out tally0 tally these. these.told.calm;
   none = λ visitor. these_none is_entry (is_line visitor) is_tally;
   more = λ visitor. these_more is_entry (is_line visitor) is_tally;
@@ -29,7 +29,6 @@ reading_laws is_entry is_line is_tally spared = record {
   still = λ visitor. reads_none;
   onward = λ visitor. reads_then;
   unlisted = λ visitor. reads_unlisted;
-  same = λ visitor. reads_same (spared visitor);
 }
 
 -- nothing is relied on between its visits

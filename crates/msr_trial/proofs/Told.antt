@@ -6,7 +6,7 @@ use Rattle.msr_devices.specs.declared.fault.DeviceFault.TheVariants.{Memory}
 use Rattle.msr_folders.proofs.VisitLemmas.{part_none, these_none}
 use Rattle.msr_folders.proofs.WalkedLemmas.{goes_none, goes_so}
 use Rattle.msr_folders.specs.Days.{IsDay, IsNoDay}
-use Rattle.msr_folders.specs.Entries.{Entry as Found, Visit, WithoutList}
+use Rattle.msr_folders.specs.Entries.{Entry as Found, Left, Visit, WithoutList}
 use Rattle.msr_folders.specs.Paths.{joined, told_folder}
 use Rattle.msr_folders.specs.Walks.{TellsVisit, VisitDoes}
 use Rattle.msr_making.specs.declared.answer.DayFault.TheVariants.{Gone as WasGone, Listing}
@@ -37,25 +37,25 @@ none_told days out = (part_none (IsTrialEntry days) (IsTrialLine days) out, (cal
 pub none_told_yet : (days : DayOptions) (out : Device) (tally : Tally) → TellsTrial days [] out out tally tally
 none_told_yet days out tally = these_none (IsTrialEntry days) (IsTrialLine days) IsTally out tally
 
-pub visit_looks : (old new : List Step) → OnlyLooks old new → VisitDoes OnlyReads old new
-visit_looks old new looks = record { does = look_reads old new looks; lists_none = look_lists_none old new looks }
+pub visit_looks : (old new : List Step) → OnlyLooks old new → VisitDoes OnlyReads (Unit {0}) old new
+visit_looks old new looks = record { does = look_reads old new looks; lists_none = λ none. look_lists_none old new looks }
 
 -- where nothing is done
-pub visits_nothing : (before : List Step → Type 0) → Goes before before (VisitDoes OnlyReads)
-visits_nothing before = goes_none (VisitDoes OnlyReads) before (λ past. visit_looks past past (looks_none past))
+pub visits_nothing : (before : List Step → Type 0) → Goes before before (VisitDoes OnlyReads (Unit {0}))
+visits_nothing before = goes_none (VisitDoes OnlyReads (Unit {0})) before (λ past. visit_looks past past (looks_none past))
 
 -- a day was tried
 pub tries_looks : (days : DayOptions) (path : Path) (result : Result Outcome AllocError) (before after : List Step → Type 0)
-    → Goes before after (TriesDay days path result) → Goes before after (VisitDoes OnlyReads)
+    → Goes before after (TriesDay days path result) → Goes before after (VisitDoes OnlyReads (Unit {0}))
 tries_looks days path result before after goes =
-    goes_so (TriesDay days path result) (VisitDoes OnlyReads) before after (λ old new went is. visit_looks old new is.looks) goes
+    goes_so (TriesDay days path result) (VisitDoes OnlyReads (Unit {0})) before after (λ old new went is. visit_looks old new is.looks) goes
 
 abbrev unlisted_entry : Path → Entry
 unlisted_entry path = record { path = path; channel = []; outcome = Refused Listing }
 
 module _ (days : DayOptions) (root : Path) where
   abbrev pub TellsOf : Visit → (before after : List Step → Type 0) (out0 out : Device) (tally0 tally : Tally) → Type 0
-  TellsOf = TellsVisit (TellsTrial days) (IsTrialOfVisit root days) OnlyReads
+  TellsOf = TellsVisit (TellsTrial days) (IsTrialOfVisit root days) OnlyReads (Unit {0})
 
   -- a day
   pub visited_day : (path channel : Path) (outcome : Outcome) (kind : FileKind) (before after : List Step → Type 0) (out0 out : Device) (tally0 tally : Tally)
@@ -106,6 +106,14 @@ module _ (days : DayOptions) (root : Path) where
   visited_gone path kind before out0 out tally0 tally is told =
       told_still (Found path kind) (record { path = path; channel = []; outcome = Refused WasGone }) before out0 out tally0 tally
       (λ past. ([], Refused WasGone, refl, record { gone = λ gone. refl; day = λ some day. absurd (some is); other = λ some no_day. absurd (some is) })) told
+
+  -- a folder whose days were tried
+  pub visited_left : (folder : Path) (before : List Step → Type 0) (out : Device) (tally : Tally) → TellsOf (Left folder) before before out out tally tally
+  visited_left folder before out tally = record {
+    lines = [];
+    told = none_told_yet days out tally;
+    goes = goes_none _ before (λ past. record { done = visit_looks past past (looks_none past); says = refl });
+  }
 
   -- a folder that has no list
   pub visited_unlisted : (folder path : Path) (before : List Step → Type 0) (out0 out : Device) (tally0 tally : Tally) → path ≡ told_folder folder

@@ -3,7 +3,7 @@ use Rattle.msr_folders.proofs.ReadingLemmas.{reading_laws}
 use Rattle.msr_folders.specs.Walks.{VisitLaws}
 use Rattle.msr_options.specs.declared.task.Verifying.{Verifying}
 use Rattle.msr_tree.specs.Reads.{OnlyReads}
-use Rattle.msr_tree.specs.Steps.{Path, Step}
+use Rattle.msr_tree.specs.Steps.{Step}
 use Rattle.msr_verify.specs.Entries.{IsVerifyTally, JudgedEntry}
 use Rattle.msr_verify.specs.Known.{IsJudgedEntry}
 use Rattle.msr_verify.specs.Lines.{IsToldLine}
@@ -11,23 +11,22 @@ use Rattle.msr_verify.specs.Walk.{StopsTellingJudged, TellsEntries}
 use Rattle.msr_verify.specs.declared.tally.VerifyTally.{VerifyTally}
 
 -- what is asked for, by one visitor
-abbrev LawsOf : (asked : Verifying) (spared : Path) → Type 0
-LawsOf asked spared = VisitLaws {V = Unit {0}} {L = JudgedEntry} {T = VerifyTally} (λ v. TellsEntries asked) (λ v. StopsTellingJudged asked) (λ v. OnlyReads) (λ v. spared)
+abbrev LawsOf : (asked : Verifying) → Type 0
+LawsOf asked = VisitLaws {V = Unit {0}} {L = JudgedEntry} {T = VerifyTally} (λ v. TellsEntries asked) (λ v. StopsTellingJudged asked) (λ v. OnlyReads)
 
-laws_of : (asked : Verifying) (spared : Path) → LawsOf asked spared
-laws_of asked spared = reading_laws {V = Unit {0}} (IsJudgedEntry asked) (λ v. IsToldLine asked) IsVerifyTally (λ v. spared)
+laws_of : (asked : Verifying) → LawsOf asked
+laws_of asked = reading_laws {V = Unit {0}} (IsJudgedEntry asked) (λ v. IsToldLine asked) IsVerifyTally
 
-pub judged_laws : {V : Type 0} (asked : V → Verifying) (spared : V → Path) →
+pub judged_laws : {V : Type 0} (asked : V → Verifying) →
     VisitLaws {V = V} {L = JudgedEntry} {T = VerifyTally} (λ visitor. TellsEntries (asked visitor)) (λ visitor. StopsTellingJudged (asked visitor))
-    (λ visitor. OnlyReads) spared
-judged_laws asked spared = record {
-  calm = λ visitor. (laws_of (asked visitor) (spared visitor)).calm tt;
-  none = λ visitor. (laws_of (asked visitor) (spared visitor)).none tt;
-  more = λ visitor. (laws_of (asked visitor) (spared visitor)).more tt;
-  refused = λ visitor. (laws_of (asked visitor) (spared visitor)).refused tt;
-  later = λ visitor. (laws_of (asked visitor) (spared visitor)).later tt;
-  still = λ visitor. (laws_of (asked visitor) (spared visitor)).still tt;
-  onward = λ visitor. (laws_of (asked visitor) (spared visitor)).onward tt;
-  unlisted = λ visitor. (laws_of (asked visitor) (spared visitor)).unlisted tt;
-  same = λ visitor. (laws_of (asked visitor) (spared visitor)).same tt;
+    (λ visitor. OnlyReads)
+judged_laws asked = record {
+  calm = λ visitor. (laws_of (asked visitor)).calm tt;
+  none = λ visitor. (laws_of (asked visitor)).none tt;
+  more = λ visitor. (laws_of (asked visitor)).more tt;
+  refused = λ visitor. (laws_of (asked visitor)).refused tt;
+  later = λ visitor. (laws_of (asked visitor)).later tt;
+  still = λ visitor. (laws_of (asked visitor)).still tt;
+  onward = λ visitor. (laws_of (asked visitor)).onward tt;
+  unlisted = λ visitor. (laws_of (asked visitor)).unlisted tt;
 }

@@ -18,7 +18,7 @@ use msr_folders::{EntryVisitor, join, told_folder};
 use msr_options::Verifying;
 use msr_sds::{SdsFault, SdsName};
 use msr_tree::{FileKind, Tree};
-use std::alloc::{AllocError, Global};
+use std::alloc::Global;
 use std::io;
 
 /// Prints the line of an entry, as known if it is, unless it is left out, and counts it. The reason is that of the call of the system that
@@ -79,14 +79,23 @@ impl EntryVisitor for Judging<'_> {
 
     ghost holds = { λ _ _ _. Unit {0} };
 
-    ghost spared = { λ judging. judging.archive.now.folders.root.now };
+    ghost listless = { λ _. Unit {0} };
 
-    ghost laws = { judged_laws (λ judging. judging.archive.now) (λ judging. judging.archive.now.folders.root.now) };
+    ghost root = { λ judging. judging.archive.now.folders.root.now };
+
+    ghost laws = { judged_laws (λ judging. judging.archive.now) };
 
     ghost listed = { none_holds };
 
-    fn enter_folder(&self, _folder: &str, _levels: u8) -> Result<(), AllocError> {
-        Ok(())
+    fn enter_folder<T: Tree, O: Sink>(
+        &self,
+        _tree: &mut T,
+        _folder: &str,
+        _levels: u8,
+        _out: &mut O,
+        _tally: &mut VerifyTally,
+    ) -> Result<Option<()>, DeviceFault> {
+        Ok(Some(()))
     }
 
     fn visit_entry<T: Tree, O: Sink>(
@@ -148,7 +157,16 @@ impl EntryVisitor for Judging<'_> {
         )
     }
 
-    fn leave_folder<T: Tree>(&self, _tree: &mut T, _tally: &mut VerifyTally) {}
+    fn leave_folder<T: Tree, O: Sink>(
+        &self,
+        _tree: &mut T,
+        _folder: &str,
+        _levels: u8,
+        _out: &mut O,
+        _tally: &mut VerifyTally,
+    ) -> Result<(), DeviceFault> {
+        Ok(())
+    }
 }
 
 /// Searches the records for days that the archive does not have.
@@ -175,14 +193,23 @@ impl EntryVisitor for Searching<'_> {
 
     ghost holds = { λ _ _ _. Unit {0} };
 
-    ghost spared = { λ searching. searching.archive.now.folders.out.now };
+    ghost listless = { λ _. Unit {0} };
 
-    ghost laws = { judged_laws (λ searching. searching.archive.now) (λ searching. searching.archive.now.folders.out.now) };
+    ghost root = { λ searching. searching.archive.now.folders.out.now };
+
+    ghost laws = { judged_laws (λ searching. searching.archive.now) };
 
     ghost listed = { none_holds };
 
-    fn enter_folder(&self, _folder: &str, _levels: u8) -> Result<(), AllocError> {
-        Ok(())
+    fn enter_folder<T: Tree, O: Sink>(
+        &self,
+        _tree: &mut T,
+        _folder: &str,
+        _levels: u8,
+        _out: &mut O,
+        _tally: &mut VerifyTally,
+    ) -> Result<Option<()>, DeviceFault> {
+        Ok(Some(()))
     }
 
     /// What is no day is not told.
@@ -241,5 +268,14 @@ impl EntryVisitor for Searching<'_> {
         )
     }
 
-    fn leave_folder<T: Tree>(&self, _tree: &mut T, _tally: &mut VerifyTally) {}
+    fn leave_folder<T: Tree, O: Sink>(
+        &self,
+        _tree: &mut T,
+        _folder: &str,
+        _levels: u8,
+        _out: &mut O,
+        _tally: &mut VerifyTally,
+    ) -> Result<(), DeviceFault> {
+        Ok(())
+    }
 }

@@ -68,12 +68,12 @@ removes_only path (Err fault.Failed) old new does = ⊎_elim
 
 module _ (out reports : Path) where
   pub works_none : (past : List Step) → WorksWithin out reports past past
-  works_none past = record { does = within_none out reports past; lists_none = refl }
+  works_none past = record { does = within_none out reports past; lists_none = λ none. refl }
 
   pub works_then : (old mid new : List Step) → WorksWithin out reports old mid → WorksWithin out reports mid new → WorksWithin out reports old new
   works_then old mid new one two = record {
     does = within_then out reports old mid new one.does two.does;
-    lists_none = two.lists_none ∙ one.lists_none;
+    lists_none = λ none. two.lists_none none ∙ one.lists_none none;
   }
 
   -- names within the two folders were changed, and no others
@@ -86,7 +86,7 @@ module _ (out reports : Path) where
       spares = λ name lacks none. changes.spares name (apart name lacks none);
       folders = leaves.folders;
     };
-    lists_none = leaves.unlisted;
+    lists_none = λ none. leaves.unlisted;
   }
 
   pub goes_works_none : (before : List Step → Type 0) → Goes before before (WorksWithin out reports)
