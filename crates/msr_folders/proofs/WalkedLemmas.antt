@@ -14,11 +14,10 @@ use Rattle.msr_tree.specs.declared.kind.FileKind.{FileKind}
 use Rattle.msr_tree.specs.declared.tree.TreeFault.{TreeFault}
 use Rattle.msr_tree.specs.declared.tree.TreeFault.TheVariants as tree_fault
 use Rattle.msr_tree.specs.declared.kind.FileKind.TheVariants.{Folder, Gone, Other}
-use Rattle.msr_folders.specs.Entries.{AreEntriesBelow, AreEntries, AreEntriesOf, AreEntriesSince, AreOfEntry, Entry, ForEach, IsAlone, IsSameWithin, Left, Passed, Visit, WithoutList, unlisted_in}
-use Rattle.msr_folders.specs.Opening.{AreSoFar, OpensFolder}
-use Rattle.msr_folders.specs.declared.opened.Opened.{Opened}
+use Rattle.msr_folders.specs.Entries.{AreEntriesBelow, AreEntries, AreEntriesOf, AreEntriesSince, AreOfEntry, Entry, ForEach, IsSameWithin, Left, Passed, Visit, WithoutList, unlisted_in}
+use Rattle.msr_folders.specs.Opening.{AreSoFar}
 use Rattle.msr_folders.specs.Paths.{below, joined}
-use Rattle.msr_folders.specs.Walks.{HoldsAt, HoldsListed, IsSaidBetween, IsWalked, TellsEntering, TellsVisit, TellsWalk, VisitDoes, VisitLaws}
+use Rattle.msr_folders.specs.Walks.{IsSaidBetween, IsWalked, TellsVisit, TellsWalk, VisitDoes, VisitLaws}
 use Rattle.msr_folders.proofs.EntryLemmas.{earlier, entries_now, entries_seen, entry_seen, for_each_append, for_each_as, for_each_one, for_each_push, unlisted_append}
 
 -- one call, and then another
@@ -95,23 +94,6 @@ IsUnlisted place old new = (left : List Step) × (left ≡ Unlisted place ∷ ol
 
 without : (place : Path) (old new : List Step) → IsUnlisted place old new → new ≡ Failed ∷ Unlisted place ∷ old
 without place old new is = is.2 ∙ ap (λ l. Failed ∷ l) is.1
-
--- what holds where a folder is listed, whatever is answered
-pub holds_listed : {V T N : Type 0} (holds : V → T → List Step → Type 0) (listed : HoldsListed holds) (visitor : V) (tally : T)
-    (place : Path) (names : N → List Path) (result : Result N TreeFault) (before after : List Step → Type 0)
-    → Goes before after (ListsFolder place names result) → HoldsAt before (holds visitor tally) → HoldsAt after (holds visitor tally)
-holds_listed {N = N} holds listed visitor tally place names result before after goes held new went =
-    let sooner = goes.from new went in
-    by result sooner.0 (held sooner.0 sooner.1) sooner.2
-  where
-    same : (old new : List Step) → new ≡ old → holds visitor tally old → holds visitor tally new
-    same old new is here = subst (λ l. holds visitor tally l) (sym is) here
-
-    by : (answer : Result N TreeFault) (old : List Step) → holds visitor tally old → ListsFolder place names answer old new → holds visitor tally new
-    by (Ok x) old here lists = same old new lists.0 here
-    by (Err tree_fault.Memory) old here lists = same old new lists here
-    by (Err tree_fault.Failed) old here lists =
-        same (Failed ∷ Unlisted place ∷ old) new (lists.2 ∙ ap (λ l. Failed ∷ l) lists.1) (listed.stays visitor tally old place here)
 
 pub on_ok_as : {A E : Type 0} {P Q : Type 0} (result : Result A E) → (P → Q) → OnOk result P → OnOk result Q
 on_ok_as (Ok x) so p = so p
@@ -228,9 +210,6 @@ module _ {V L T : Type 0} (tells : V → List L → (out0 out : Device) → (tal
       unlisted = λ none. is.done.lists_none none ∙ (sym (append-nil (unlisted_after old)) ∙ ap (λ l. unlisted_after old ++ l) (sym listed));
     }) made.goes;
   }
-
-  pub does_without : (place : Path) (old mid new : List Step) → IsUnlisted place old mid → does visitor mid new → does visitor old new
-  does_without place old mid new is next = laws.onward visitor old mid new (subst (λ l. does visitor old l) (sym (without place old mid is)) (laws.unlisted visitor old place)) next
 
   -- a folder that has no list
   walk_unlisted : (levels : ℕ) (folder place : Path) (before mid after : List Step → Type 0) (out0 out : Device) (tally0 tally : T)
