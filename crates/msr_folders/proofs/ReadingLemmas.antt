@@ -17,15 +17,16 @@ reads_same folder old new reads = record {
 }
 
 -- the laws of a visitor that tells entries, and only reads
-pub reading_laws : {V E T : Type 0} (is_entry : E → Type 0) (is_line : V → E → List ℕ → Type 0) (is_tally : List E → T → Type 0) →
-    VisitLaws (λ visitor. TellsThese is_entry (is_line visitor) is_tally)
-    (λ visitor out0 out. StopsAt (TellsInPart is_entry (is_line visitor) out0 out) out0 out) (λ visitor. OnlyReads)
+pub reading_laws : {V E T : Type 0} (is_entry : V → E → Type 0) (is_line : V → E → List ℕ → Type 0) (is_tally : List E → T → Type 0) →
+    VisitLaws {V = V} {L = E} {T = T} (λ visitor. TellsThese (is_entry visitor) (is_line visitor) is_tally)
+    (λ visitor out0 out. StopsAt (TellsInPart (is_entry visitor) (is_line visitor) out0 out) out0 out) (λ visitor. OnlyReads)
 reading_laws is_entry is_line is_tally = record {
   calm = λ visitor lines out0 out tally0 tally these. these.told.calm;
-  none = λ visitor. these_none is_entry (is_line visitor) is_tally;
-  more = λ visitor. these_more is_entry (is_line visitor) is_tally;
-  refused = λ visitor out. (part_none is_entry (is_line visitor) out, (calm_same out).steady);
-  later = λ visitor lines out0 out1 out tally0 tally1 fault these stopped. stops_more is_entry (is_line visitor) is_tally out0 out1 out tally0 tally1 fault these.told stopped;
+  none = λ visitor. these_none (is_entry visitor) (is_line visitor) is_tally;
+  more = λ visitor. these_more (is_entry visitor) (is_line visitor) is_tally;
+  refused = λ visitor out. (part_none (is_entry visitor) (is_line visitor) out, (calm_same out).steady);
+  later = λ visitor lines out0 out1 out tally0 tally1 fault these stopped.
+      stops_more (is_entry visitor) (is_line visitor) is_tally out0 out1 out tally0 tally1 fault these.told stopped;
   still = λ visitor. reads_none;
   onward = λ visitor. reads_then;
   unlisted = λ visitor. reads_unlisted;
