@@ -361,10 +361,10 @@ module _ {V L T : Type 0} (tells : V → List L → (out0 out : Device) → (tal
   pub does_then : (before mid after : List Step → Type 0) → Goes before mid (does visitor) → Goes mid after (VisitDoes (does visitor) (listless visitor)) → Goes before after (does visitor)
   does_then before mid after one two = goes_then _ _ _ before mid after (λ old middle new first second. laws.onward visitor old middle new first second.does) one two
 
-  pub does_both : (before mid after : List Step → Type 0) → Goes before mid (does visitor) → Goes mid after (does visitor) → Goes before after (does visitor)
+  does_both : (before mid after : List Step → Type 0) → Goes before mid (does visitor) → Goes mid after (does visitor) → Goes before after (does visitor)
   does_both before mid after one two = goes_then _ _ _ before mid after (λ old middle new first second. laws.onward visitor old middle new first second) one two
 
-  pub does_visit : (before after : List Step → Type 0) → Goes before after (VisitDoes (does visitor) (listless visitor)) → Goes before after (does visitor)
+  does_visit : (before after : List Step → Type 0) → Goes before after (VisitDoes (does visitor) (listless visitor)) → Goes before after (does visitor)
   does_visit before after goes = goes_so _ _ before after (λ old new went is. is.does) goes
 
   pub does_walk : (Are : List Step → List Visit → Type 0) (before after : List Step → Type 0) (out0 out : Device) (tally0 tally : T)
@@ -372,7 +372,7 @@ module _ {V L T : Type 0} (tells : V → List L → (out0 out : Device) → (tal
   does_walk Are before after out0 out tally0 tally walk = goes_so _ _ before after (λ old new went is. is.does) walk.goes
 
   -- a folder was listed, whatever is answered
-  pub does_listed : {N : Type 0} (place : Path) (names : N → List Path) (result : Result N TreeFault) (before after : List Step → Type 0)
+  does_listed : {N : Type 0} (place : Path) (names : N → List Path) (result : Result N TreeFault) (before after : List Step → Type 0)
       → Goes before after (ListsFolder place names result) → Goes before after (does visitor)
   does_listed {N = N} place names result before after goes = goes_so _ _ before after (λ old new went lists. by result old new lists) goes
     where
@@ -384,6 +384,13 @@ module _ {V L T : Type 0} (tells : V → List L → (out0 out : Device) → (tal
       by (Err tree_fault.Memory) old new lists = same old new lists
       by (Err tree_fault.Failed) old new lists =
           subst (λ l. does visitor old l) (sym (lists.2 ∙ ap (λ l. Failed ∷ l) lists.1)) (laws.unlisted visitor old place)
+
+  -- it was entered before, and then visited as one that has no list
+  pub does_entered : {N : Type 0} (place : Path) (names : N → List Path) (result : Result N TreeFault) (before one two after : List Step → Type 0)
+      → Goes before one (VisitDoes (does visitor) (listless visitor)) → Goes one two (ListsFolder place names result)
+      → Goes two after (VisitDoes (does visitor) (listless visitor)) → Goes before after (does visitor)
+  does_entered place names result before one two after enters lists visits =
+      does_then before two after (does_both before one two (does_visit before one enters) (does_listed place names result one two lists)) visits
 
   -- before the first folder that is asked for
   pub no_folder_yet : (before : List Step → Type 0) (out : Device) (tally : T) → Walk (λ past. ForEach (AreEntriesBelow (does visitor) past root) []) before before out out tally tally
