@@ -1,15 +1,15 @@
-use Rattle.std.proofs.Common.{rules, ◌≡◌, ◌≢◌, ◌<◌, ◌+◌, ◌-◌, ◌++◌, ◌∙◌, List, ℕ, [], ◌∷◌, Ok, refl, sym, ap, subst, take, get_or, length, arith}
+use Rattle.std.proofs.Common.{◌≡◌, ◌≢◌, ◌<◌, ◌+◌, ◌-◌, ◌++◌, ◌∙◌, List, ℕ, [], ◌∷◌, sym, ap, subst, take, get_or, length, arith}
 use Rattle.std.proofs.lemmas.List.{length-map, take_more}
 use Rattle.std.proofs.Math.Seq.{take-length}
 use Rattle.std.specs.Prelude.{string_bytes}
-use Rattle.msr_tree.specs.Listing.{IsListing, IsTold, ListsFolder, listed}
+use Rattle.msr_tree.specs.Listing.{IsTold, listed}
 use Rattle.msr_tree.specs.Steps.{Path, Step}
 use Rattle.msr_tree.specs.declared.kind.FileKind.{FileKind}
 use Rattle.msr_tree.specs.declared.kind.FileKind.TheVariants.{Folder, Other}
 use Rattle.msr_folders.specs.Entries.{AreEntries, Entry, IsMoment}
 use Rattle.msr_folders.specs.Opening.{AreSoFar}
 use Rattle.msr_folders.specs.Paths.{below, joined}
-use Rattle.msr_folders.specs.Walks.{HoldsAt, TellsVisit, TellsWalk, VisitDoes}
+use Rattle.msr_folders.specs.Walks.{TellsVisit, TellsWalk}
 use Rattle.msr_folders.proofs.WalkedLemmas.{all_names, does_then, does_walk, name_at, next_entry, next_folder, next_name, on_ok_as}
 use Rattle.msr_folders.proofs.entries.+visit_folder.Goals.{then-levels-eq0, else-levels-eq0, then-levels-gt0+then-eq+in_ok-visit_folder, else-levels-gt0+in_ok-visit_entry, else-levels-gt0-via-then-levels-gt0+else-eq, else-levels-gt0-via-else-levels-gt0}
 use Rattle.msr_folders.proofs.entries.+visit_folder.Goals as goal
