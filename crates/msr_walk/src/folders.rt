@@ -1,6 +1,6 @@
 //! The walk through the folders of an archive.
-ghost use Rattle.std.specs.Prelude.{◌≡◌, ◌≢◌, ◌↔◌, ◌∷◌, [], List, IfErr, IfOk, IsErrOf, OnOk, true};
-ghost use Rattle.msr_devices.specs.Device.{CanCountCall, Device, HasFailed};
+ghost use Rattle.std.specs.Prelude.{◌≡◌, ◌≢◌, ◌↔◌, ◌∷◌, [], IfErr, IfOk, IsErrOf, OnOk, true};
+ghost use Rattle.msr_devices.specs.Device.{CanCountCall, HasFailed};
 ghost use Rattle.msr_sds.specs.SdsPath.{ReadsAsDay};
 ghost use Rattle.msr_folders.specs.Entries.{AreEntriesOf, Entry as Found};
 ghost use Rattle.msr_folders.proofs.WithinLemmas.{within_laws};
