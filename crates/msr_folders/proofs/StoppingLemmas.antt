@@ -3,7 +3,7 @@ use Rattle.std.proofs.Common.{◌≡◌, ℕ, Bool, true, false, List, [], ◌�
 use Rattle.msr_devices.specs.Device.{Device}
 use Rattle.msr_devices.proofs.Chaining.{calm_same}
 use Rattle.msr_tree.specs.Steps.{Failed, Step, Unlisted}
-use Rattle.msr_folders.specs.Stopping.{AreStopped, AreTold, AreToldFirst, IsLater, TellsUntil, entries_of}
+use Rattle.msr_folders.specs.Stopping.{AreStopped, AreTold, AreToldFirst, ComesAfter, TellsUntil, entries_of}
 use Rattle.msr_folders.specs.Visits.{StopsAt, TellsInPart, TellsThese}
 use Rattle.msr_folders.specs.Walks.{VisitLaws}
 use Rattle.msr_folders.proofs.VisitLemmas.{part_none, stops_more, these_more, these_none}
@@ -49,10 +49,10 @@ not_both b is isnt = let false_one : true ≡ false = sym is ∙ isnt in differ 
         holds true = Unit {0}
         holds false = ⊥
 
-pub later_still : (past : List Step) → IsLater past past
+pub later_still : (past : List Step) → ComesAfter past past
 later_still past = record { made = []; since = refl }
 
-pub later_then : (old mid new : List Step) → IsLater old mid → IsLater mid new → IsLater old new
+pub later_then : (old mid new : List Step) → ComesAfter old mid → ComesAfter mid new → ComesAfter old new
 later_then old mid new first second = record {
   made = second.made ++ first.made;
   since = second.since ∙ ap (λ l. second.made ++ l) first.since ∙ sym (append_assoc second.made first.made old);
@@ -113,7 +113,7 @@ module _ {E T : Type 0} (is_entry : E → Type 0) (is_line : E → List ℕ → 
 
   -- the laws of a visitor that tells entries until something fails
   pub stopping_laws : {V : Type 0} → VisitLaws {V = V} {L = Option E} {T = T} (λ visitor. TellsUntil is_entry is_line is_tally has_failed)
-      (λ visitor out0 out. StopsAt (TellsInPart is_entry is_line out0 out) out0 out) (λ visitor. IsLater)
+      (λ visitor out0 out. StopsAt (TellsInPart is_entry is_line out0 out) out0 out) (λ visitor. ComesAfter)
   stopping_laws = record {
     calm = λ visitor said out0 out tally0 tally told. told.told.told.calm;
     none = λ visitor. until_none;

@@ -4,8 +4,8 @@ use Rattle.msr_devices.specs.Device.{Device}
 use Rattle.msr_folders.specs.Visits.{TellsThese}
 use Rattle.msr_tree.specs.Steps.{Step}
 
--- Steps were done, or none.
-pub record IsLater (old new : List Step) : Type 0 where
+-- Steps were done after these, or none.
+pub record ComesAfter (old new : List Step) : Type 0 where
   pub made : List Step
   pub since : new ≡ made ++ old
 

@@ -1,5 +1,5 @@
 //! The walk through the folders of a tree, in the order of the names.
-ghost use Rattle.std.specs.Prelude.{◌≡◌, List, [], IfErr, IfOk, OnOk};
+ghost use Rattle.std.specs.Prelude.{◌≡◌, List, IfErr, IfOk, OnOk};
 ghost use Rattle.msr_devices.specs.Device.{CanCountCall, Device};
 ghost use Rattle.msr_devices.specs.declared.fault.DeviceFault.{DeviceFault};
 ghost use Rattle.msr_tree.specs.Calls.{Goes};

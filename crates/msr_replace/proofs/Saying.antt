@@ -10,7 +10,7 @@ use Rattle.msr_folders.proofs.StoppingLemmas.{later_still, later_then, not_both,
 use Rattle.msr_folders.proofs.VisitLemmas.{these_one}
 use Rattle.msr_folders.proofs.WalkedLemmas.{goes_none, goes_so, goes_then}
 use Rattle.msr_folders.specs.Entries.{AreEntriesBetween, Visit}
-use Rattle.msr_folders.specs.Stopping.{IsLater, entries_of}
+use Rattle.msr_folders.specs.Stopping.{ComesAfter, entries_of}
 use Rattle.msr_folders.specs.Visits.{IsWalk}
 use Rattle.msr_folders.specs.Walks.{TellsVisit, TellsWalk, VisitDoes, VisitLaws}
 use Rattle.msr_folders.specs.declared.found.WalkFound.{WalkFound}
@@ -56,10 +56,10 @@ pub said_more : (one two : List Said) (out0 out1 out : Device) (old mid new : Pr
 said_more = until_more IsExchangeEntry IsExchangeEntryLine HasCome (λ progress. is_some progress.failed)
 
 -- what is done of the tree
-pub later_changes : (names : List Path) (old new : List Step) → ChangesOnly names old new → IsLater old new
+pub later_changes : (names : List Path) (old new : List Step) → ChangesOnly names old new → ComesAfter old new
 later_changes names old new changes = record { made = changes.made; since = changes.since }
 
-pub later_tells : {A : Type 0} (Says : List Step → A → Type 0) (result : Result A TreeFault) (old new : List Step) → Tells Says result old new → IsLater old new
+pub later_tells : {A : Type 0} (Says : List Step → A → Type 0) (result : Result A TreeFault) (old new : List Step) → Tells Says result old new → ComesAfter old new
 later_tells Says (Ok x) old new is = record { made = []; since = is.0 }
 later_tells Says (Err fault.Memory) old new is = record { made = []; since = is }
 later_tells Says (Err fault.Failed) old new is = record { made = Failed ∷ []; since = is.2 ∙ ap (λ l. Failed ∷ l) is.1 }
@@ -75,10 +75,10 @@ does_of R Is result before after so goes = goes_so _ _ before after (λ old new 
 
 module _ (on : Course) (work : DayWork) where
   abbrev pub Visits : Visit → (before after : List Step → Type 0) (out0 out : Device) (old new : Progress) → Type 0
-  Visits visit before after out0 out old new = TellsVisit TellsSaid (IsSaid on work) IsLater ⊥ visit before after out0 out old new
+  Visits visit before after out0 out old new = TellsVisit TellsSaid (IsSaid on work) ComesAfter ⊥ visit before after out0 out old new
 
   pub visited : (visit : Visit) (said : List Said) (R : (old new : List Step) → Type 0) (before after : List Step → Type 0) (out0 out : Device) (progress0 progress : Progress)
-      → ((old new : List Step) → R old new → IsLater old new × IsSaidGoing on work old new visit said)
+      → ((old new : List Step) → R old new → ComesAfter old new × IsSaidGoing on work old new visit said)
       → Goes before after R → TellsSaid said out0 out progress0 progress → Visits visit before after out0 out progress0 progress
   visited visit said R before after out0 out progress0 progress so goes told = record {
     lines = said;
@@ -107,7 +107,7 @@ module _ (on : Course) (work : DayWork) where
   }
 
   abbrev pub Walks : (below : List (Bor Path)) (before after : List Step → Type 0) (out0 out : Device) (old new : Progress) → Type 0
-  Walks below before after out0 out old new = TellsWalk TellsSaid (IsSaid on work) IsLater ⊥ (walked on work) (λ past new. AreEntriesBetween IsLater past new (walked on work) below)
+  Walks below before after out0 out old new = TellsWalk TellsSaid (IsSaid on work) ComesAfter ⊥ (walked on work) (λ past new. AreEntriesBetween ComesAfter past new (walked on work) below)
       before after out0 out old new
 
 pub both_courses : (work : DayWork) (below : List (Bor Path)) (before mid after : List Step → Type 0) (out0 out1 out : Device) (old between new : Progress)

@@ -8,7 +8,7 @@ use Rattle.msr_exchange.specs.declared.work.DayWork.{DayWork}
 use Rattle.msr_folders.specs.Days.{IsDay, IsNoDay}
 use Rattle.msr_folders.specs.Entries.{AreEntriesBetween, Entry, Left, Passed, Visit, WithoutList}
 use Rattle.msr_folders.specs.Paths.{joined, told_folder}
-use Rattle.msr_folders.specs.Stopping.{IsLater, TellsUntil}
+use Rattle.msr_folders.specs.Stopping.{ComesAfter, TellsUntil}
 use Rattle.msr_folders.specs.Walks.{IsWalked}
 use Rattle.msr_sds.specs.declared.SdsFault.{SdsFault}
 use Rattle.msr_tree.specs.Listing.{is_there}
@@ -129,9 +129,9 @@ IsSaid on work old new visit said = (said ≡ None ∷ []) ⊎ IsSaidGoing on wo
 
 -- these entries of a folder were visited, each as it was at a moment of the walk, and this was said
 abbrev pub IsCourse : Course → DayWork → List (Bor Path) → List Visit → List Said → (old new : List Step) → Type 0
-IsCourse on work below = IsWalked (IsSaid on work) IsLater ⊥ (walked on work) (λ past new. AreEntriesBetween IsLater past new (walked on work) below)
+IsCourse on work below = IsWalked (IsSaid on work) ComesAfter ⊥ (walked on work) (λ past new. AreEntriesBetween ComesAfter past new (walked on work) below)
 
 -- What is done of the tree in a function that answers what may be told.
 pub record Does {A : Type 0} (Is : A → (old new : List Step) → Type 0) (result : Result A DeviceFault) (old new : List Step) : Type 0 where
-  pub later : IsLater old new
+  pub later : ComesAfter old new
   pub says : IfOk result (λ answer. Is answer old new)

@@ -7,7 +7,7 @@ ghost use Rattle.msr_folders.proofs.ReadingLemmas.{none_holds};
 ghost use Rattle.msr_folders.proofs.StoppingLemmas.{stopping_laws};
 ghost use Rattle.msr_folders.specs.Days.{IsDay, IsNoDay};
 ghost use Rattle.msr_folders.specs.Entries.{Entry};
-ghost use Rattle.msr_folders.specs.Stopping.{IsLater};
+ghost use Rattle.msr_folders.specs.Stopping.{ComesAfter};
 ghost use Rattle.msr_folders.specs.Walks.{TellsVisit, VisitDoes};
 ghost use Rattle.msr_replace.specs.Entries.{ExchangeEntry, IsExchangeEntry, IsExchangeEntryLine, IsExchangeTally, IsExchangeOf, IsStoppedAt, entry_of, has_failed};
 ghost use Rattle.msr_replace.specs.Said.{Does, IsOfDay, IsOfReplaced, IsOfRestored, IsOfSearched, IsSaid, IsWhyPassed, Said, TellsOther, TellsSaid, only_line, other_outcome, walked};
@@ -210,10 +210,10 @@ where
         requires day { IsDay path.now }
         requires going { progress.old.failed ≡ None }
         requires count { CanCountCall (O.device out.old) }
-        ensures told { (kind : FileKind) → OnOk result (TellsVisit TellsSaid (IsSaid self.now.course self.now.work) IsLater ⊥ (Entry path.now kind)
+        ensures told { (kind : FileKind) → OnOk result (TellsVisit TellsSaid (IsSaid self.now.course self.now.work) ComesAfter ⊥ (Entry path.now kind)
             (T.went tree.old) (T.went tree.new) (O.device out.old) (O.device out.new) progress.old progress.new) }
         ensures stops { IfErr result (StopsTellingExchanges (O.device out.old) (O.device out.new)) }
-        ensures does { Goes (T.went tree.old) (T.went tree.new) (VisitDoes IsLater ⊥) }
+        ensures does { Goes (T.went tree.old) (T.went tree.new) (VisitDoes ComesAfter ⊥) }
     {
         match self.handle(tree, path)? {
             Some(outcome) => tell(self.work.alloc, path, outcome, out, progress),
@@ -249,7 +249,7 @@ where
 
     /// Begins with a folder of days that this process has; what is told of it, if it is left alone.
     fn begin<T: Tree>(&self, tree: &mut T, folder: &str) -> Result<Option<Outcome>, DeviceFault>
-        ensures goes { Goes (T.went tree.old) (T.went tree.new) IsLater }
+        ensures goes { Goes (T.went tree.old) (T.went tree.new) ComesAfter }
         ensures why { IfOk result (λ outcome. IfSome outcome IsWhyPassed) }
         ensures memory { IfErr result (λ fault. fault ≡ Memory) }
     {
@@ -296,7 +296,7 @@ where
 
     ghost says = { λ replacer. IsSaid replacer.course replacer.work };
 
-    ghost does = { λ _. IsLater };
+    ghost does = { λ _. ComesAfter };
 
     ghost listless = { λ _. ⊥ };
 

@@ -3,7 +3,7 @@
 ghost use Rattle.std.specs.Prelude.{◌↔◌, [], IfErr, IfOk, IsErrOf, OnOk, false};
 ghost use Rattle.msr_devices.specs.Device.{CanCountCall, HasFailed};
 ghost use Rattle.msr_exchange.specs.Work.{AreThreeFolders};
-ghost use Rattle.msr_folders.specs.Stopping.{IsLater};
+ghost use Rattle.msr_folders.specs.Stopping.{ComesAfter};
 ghost use Rattle.msr_folders.specs.Walks.{TellsWalk};
 ghost use Rattle.msr_folders.specs.Entries.{AreEntriesBetween};
 ghost use Rattle.msr_options.specs.Tasks.{AreApartFrom, StandApart};
@@ -64,8 +64,8 @@ where
     R::File: LockFile,
     requires apart { AreThreeFolders work.now }
     requires count { CanCountCall (O.device out.old) }
-    ensures told { OnOk result (TellsWalk TellsSaid (IsSaid course work.now) IsLater ⊥ (walked course work.now)
-        (λ past new. AreEntriesBetween IsLater past new (walked course work.now) below.now)
+    ensures told { OnOk result (TellsWalk TellsSaid (IsSaid course work.now) ComesAfter ⊥ (walked course work.now)
+        (λ past new. AreEntriesBetween ComesAfter past new (walked course work.now) below.now)
         (T.went tree.old) (T.went tree.new) (O.device out.old) (O.device out.new) progress.old progress.new) }
     ensures stops { IfErr result (StopsTellingExchanges (O.device out.old) (O.device out.new)) }
 {

@@ -1,7 +1,7 @@
 use Rattle.std.proofs.Common.{◌∙◌, refl, sym}
 use Rattle.std.proofs.lemmas.Result.{err_from_is_err_and}
 use Rattle.msr_folders.specs.Entries.{Passed}
-use Rattle.msr_folders.specs.Stopping.{IsLater}
+use Rattle.msr_folders.specs.Stopping.{ComesAfter}
 use Rattle.msr_replace.specs.Said.{only_line}
 use Rattle.msr_replace.specs.declared.lines.EntryRefusal.TheVariants.{Busy}
 use Rattle.msr_replace.specs.declared.lines.Outcome.TheVariants.{Refused}
@@ -35,7 +35,7 @@ returns-in_err-outcome-clause-stops g c =
 
 pub returns-in-Some-2-clause-told : goal.returns-in-Some-2-clause-told
 returns-in-Some-2-clause-told g c =
-    visited c.args.self.now.course c.args.self.now.work (Passed c.args.folder.now) (only_line c.args.folder.now c.in-Some-2.outcome) IsLater
+    visited c.args.self.now.course c.args.self.now.work (Passed c.args.folder.now) (only_line c.args.folder.now c.in-Some-2.outcome) ComesAfter
     (g.T.Tree.went c.args.tree.now) (g.T.Tree.went c.begin.new.tree)
     (g.O.Sink.device c.args.out.now) (g.O.Sink.device c.tell-in-Some-2.new.out) c.args.progress.now c.tell-in-Some-2.new.progress
     (λ old new later. (later, (c.in-Some-2.outcome, refl, rw c.in-Some-2.is at c.in_ok-outcome.ensures.why)))
