@@ -126,8 +126,9 @@ where
     }
     require_all_apart(rt, alloc, asked)?;
     prepare_folders(rt, alloc, asked)?;
-    let tree = SystemTree::new(rt, alloc);
-    let replaced = replace(rt, alloc, tree, asked, time_of_now(rt), output);
-    let why = replaced.tree.reason();
+    let mut tree = SystemTree::new(rt, alloc);
+    let now = time_of_now(rt);
+    let replaced = replace(rt, alloc, &mut tree, asked, now, output);
+    let why = tree.reason();
     done_of_replacing(asked, replaced.found, replaced.failed, why)
 }

@@ -5,7 +5,7 @@ use Rattle.std.specs.Borrow.{Bor}
 use Rattle.msr_tree.specs.Listing.{IsListing, has_folder, is_there, kind_now, path_in}
 use Rattle.msr_tree.specs.Steps.{Path, Step}
 use Rattle.msr_tree.specs.declared.kind.FileKind.TheVariants.{Folder, Gone, Other}
-use Rattle.msr_folders.specs.Entries.{AreEntriesBelow, AreEntries, AreOfEntry, AreOfFolder, AreEntriesOf, Entry, ForEach, IsSameWithin, StandsWithin, Visit, WithoutList, unlisted_in}
+use Rattle.msr_folders.specs.Entries.{AreEntriesBelow, AreEntries, AreOfEntry, AreOfFolder, AreEntriesOf, AreEntriesSince, Entry, ForEach, IsAlone, IsGoneThrough, IsMoment, IsNow, IsSameWithin, Left, Passed, StandsWithin, Visit, WithoutList, unlisted_in}
 use Rattle.msr_folders.specs.Paths.{below, joined}
 
 pub for_each_append : {E X : Type 0} (Are : E → List X → Type 0) (items more : List E) (all parts : List X)
@@ -35,6 +35,8 @@ pub unlisted_append : (root : Path) (visits more : List Visit) → unlisted_in r
 unlisted_append root [] more = refl
 unlisted_append root (Entry path kind ∷ visits) more = unlisted_append root visits more
 unlisted_append root (WithoutList folder ∷ visits) more = ap (λ l. joined root folder ∷ l) (unlisted_append root visits more)
+unlisted_append root (Passed folder ∷ visits) more = unlisted_append root visits more
+unlisted_append root (Left folder ∷ visits) more = unlisted_append root visits more
 
 within_joined : (root path : Path) → StandsWithin root (joined root path)
 within_joined [] path = inl refl
@@ -64,32 +66,96 @@ module _ (root : Path) (old new : List Step) (same : IsSameWithin root old new) 
         (is.0, sym (same.there (path_in place name) (within_in root place name within)) ∙ is.1);
   }
 
-  folder_same : (Are Seen : Path → List Visit → Type 0) (folder : Path) (visits : List Visit)
+pub same_still : (root : Path) (past : List Step) → IsSameWithin root past past
+same_still root past = record { folders = λ place within. refl; there = λ place within. refl }
+
+-- A moment at which the same stands as at another one.
+pub record SeenFrom (Since : (past at : List Step) → Type 0) (root : Path) (past at : List Step) : Type 0 where
+  pub moment : List Step
+  pub since : Since past moment
+  pub same : IsSameWithin root moment at
+
+-- entries that are seen from another moment
+module _ (root : Path) (One Two : (past at : List Step) → Type 0) (old new : List Step)
+    (seen : (at : List Step) → One new at → SeenFrom Two root old at) where
+  through_seen : (Are Seen : Path → List Visit → Type 0) (folder : Path) (visits : List Visit)
       → ((name : Path) (part : List Visit) → Are name part → Seen name part)
-      → AreOfFolder new root Are folder visits → AreOfFolder old root Seen folder visits
-  folder_same Are Seen folder visits so are = ⊎_elim
+      → IsGoneThrough One new root Are folder visits → IsGoneThrough Two old root Seen folder visits
+  through_seen Are Seen folder visits so are =
+      let from = seen are.at are.since in
+      record {
+        at = from.moment;
+        since = from.since;
+        names = are.names;
+        listing = listing_same root from.moment are.at from.same (joined root folder) are.names (within_joined root folder) are.listing;
+        within = are.within;
+        each = for_each_as Are Seen are.names are.within so are.each;
+        whole = are.whole;
+      }
+
+  folder_seen : (Are Seen : Path → List Visit → Type 0) (folder : Path) (visits : List Visit)
+      → ((name : Path) (part : List Visit) → Are name part → Seen name part)
+      → AreOfFolder One new root Are folder visits → AreOfFolder Two old root Seen folder visits
+  folder_seen Are Seen folder visits so are = ⊎_elim
       (λ none. inl none)
-      (λ some. inr (some.0, listing_same (joined root folder) some.0 (within_joined root folder) some.1, for_each_as Are Seen some.0 visits so some.2))
+      (λ some. inr (⊎_elim (λ passed. inl passed) (λ through. inr (through_seen Are Seen folder visits so through)) some))
       are
 
-  pub entry_same : (levels : ℕ) (path : Path) (visits : List Visit) → AreOfEntry new root levels path visits → AreOfEntry old root levels path visits
-  entry_same zero path visits is = is
-  entry_same (suc levels) path visits is = ⊎_elim
-      (λ are. inl (folder_same (λ name. AreOfEntry new root levels (below path name)) (λ name. AreOfEntry old root levels (below path name)) path visits
-      (λ name part one. entry_same levels (below path name) part one) are))
-      (λ alone. inr (
-        sym (same.folders (joined root path) (within_joined root path)) ∙ alone.0,
-        alone.1 ∙ ap (λ k. Entry path k ∷ []) (kind_same (joined root path) (within_joined root path)),
-      ))
+  alone_seen : (path : Path) (visits : List Visit) → IsAlone One new root path visits → IsAlone Two old root path visits
+  alone_seen path visits is =
+      let from = seen is.at is.since in
+      record {
+        at = from.moment;
+        since = from.since;
+        alone = sym (from.same.folders (joined root path) (within_joined root path)) ∙ is.alone;
+        as_it_was = is.as_it_was ∙ ap (λ k. Entry path k ∷ []) (kind_same root from.moment is.at from.same (joined root path) (within_joined root path));
+      }
+
+  pub entry_seen : (levels : ℕ) (path : Path) (visits : List Visit) → AreOfEntry One new root levels path visits → AreOfEntry Two old root levels path visits
+  entry_seen zero path visits is = is
+  entry_seen (suc levels) path visits is = ⊎_elim
+      (λ are. inl (folder_seen (λ name. AreOfEntry One new root levels (below path name)) (λ name. AreOfEntry Two old root levels (below path name)) path visits
+      (λ name part one. entry_seen levels (below path name) part one) are))
+      (λ alone. inr (alone_seen path visits alone))
       is
 
-  pub entries_same : (levels : ℕ) (folder : Path) (visits : List Visit) → AreEntries new root levels folder visits → AreEntries old root levels folder visits
-  entries_same levels folder visits are =
-      folder_same (λ name. AreOfEntry new root levels (below folder name)) (λ name. AreOfEntry old root levels (below folder name)) folder visits
-      (λ name part one. entry_same levels (below folder name) part one) are
+  pub entries_seen : (levels : ℕ) (folder : Path) (visits : List Visit) → AreEntries One new root levels folder visits → AreEntries Two old root levels folder visits
+  entries_seen levels folder visits are =
+      folder_seen (λ name. AreOfEntry One new root levels (below folder name)) (λ name. AreOfEntry Two old root levels (below folder name)) folder visits
+      (λ name part one. entry_seen levels (below folder name) part one) are
 
-  pub folders_same : (folders : List (Bor Path)) (visits : List Visit) → AreEntriesOf new root folders visits → AreEntriesOf old root folders visits
-  folders_same [] visits are = entries_same 4 [] visits are
-  folders_same (folder ∷ folders) visits are =
-      for_each_as (AreEntriesBelow new root) (AreEntriesBelow old root) (folder ∷ folders) visits
-      (λ item part is. (is.0, is.1, entries_same (unwrap_or is.0 0) item.now part is.2)) are
+  pub folders_seen : (folders : List (Bor Path)) (visits : List Visit) → AreEntriesSince One new root folders visits → AreEntriesSince Two old root folders visits
+  folders_seen [] visits are = entries_seen 4 [] visits are
+  folders_seen (folder ∷ folders) visits are =
+      for_each_as (AreEntriesBelow One new root) (AreEntriesBelow Two old root) (folder ∷ folders) visits
+      (λ item part is. (is.0, is.1, entries_seen (unwrap_or is.0 0) item.now part is.2)) are
+
+-- what was seen between two moments was seen between an earlier one and the second
+pub earlier : (Does : (old new : List Step) → Type 0) → ((old mid new : List Step) → Does old mid → Does mid new → Does old new)
+    → (root : Path) (old mid new : List Step) → Does old mid → (at : List Step) → IsMoment Does new mid at → SeenFrom (IsMoment Does new) root old at
+earlier Does onward root old mid new done at moment = record {
+  moment = at;
+  since = record { since = onward old mid at done moment.since; until = moment.until };
+  same = same_still root at;
+}
+
+-- and between the first and a later one
+pub later : (Does : (old new : List Step) → Type 0) → ((old mid new : List Step) → Does old mid → Does mid new → Does old new)
+    → (root : Path) (old mid new : List Step) → Does mid new → (at : List Step) → IsMoment Does mid old at → SeenFrom (IsMoment Does new) root old at
+later Does onward root old mid new done at moment = record {
+  moment = at;
+  since = record { since = moment.since; until = onward at mid new moment.until done };
+  same = same_still root at;
+}
+
+-- a tree in which the same stands at each moment since
+pub entries_now : (Since : (past at : List Step) → Type 0) (root : Path) (past : List Step) → ((at : List Step) → Since past at → IsSameWithin root past at)
+    → (folders : List (Bor Path)) (visits : List Visit) → AreEntriesSince Since past root folders visits → AreEntriesOf past root folders visits
+entries_now Since root past same folders visits are =
+    folders_seen root Since IsNow past past (λ at since. record { moment = past; since = refl; same = same at since }) folders visits are
+
+-- the same, from a moment at which the same stood
+pub folders_same : (root : Path) (old new : List Step) → IsSameWithin root old new → (folders : List (Bor Path)) (visits : List Visit)
+    → AreEntriesOf new root folders visits → AreEntriesOf old root folders visits
+folders_same root old new same folders visits are =
+    folders_seen root IsNow IsNow old new (λ at is. record { moment = old; since = refl; same = subst (λ l. IsSameWithin root old l) (sym is) same }) folders visits are

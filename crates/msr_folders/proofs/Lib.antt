@@ -4,6 +4,7 @@ pub mod FirstNameLemmas
 pub mod FolderLemmas
 pub mod ReadingLemmas
 pub mod RowLemmas
+pub mod StoppingLemmas
 pub mod VisitLemmas
 pub mod WalkedLemmas
 pub mod WalkLemmas

@@ -6,7 +6,7 @@ use Rattle.msr_devices.specs.Device.{Device, IsCalm, Takes}
 use Rattle.msr_devices.specs.declared.fault.DeviceFault.{DeviceFault}
 use Rattle.msr_devices.specs.declared.fault.DeviceFault.TheVariants.{Failed, Memory}
 use Rattle.msr_devices.proofs.Chaining.{takes_append, takes_none, calm_same, calm_calm, calm_failed, steady_steady}
-use Rattle.msr_folders.specs.Visits.{AreLines, StopsAt, Tells, TellsInPart, TellsThese, VisitorLaws}
+use Rattle.msr_folders.specs.Visits.{AreLines, StopsAt, Tells, TellsInPart, TellsThese}
 
 all_joined : {E : Type 0} (P : E → Type 0) (entries others : List E) → AllByRecursion P entries → AllByRecursion P others
     → AllByRecursion P (entries ++ others)
@@ -155,16 +155,3 @@ module _ {E : Type 0} (is_entry : E → Type 0) (is_line : E → List ℕ → Ty
         → StopsAt (TellsInPart is_entry is_line out0 out) out0 out fault
     stops_more out0 out1 out tally0 tally1 fault first second =
         stops_within out0 out1 out fault first.calm (part_more out0 out1 out tally0 tally1 first) second
-
-pub visitor_laws : {V E T : Type 0} (is_entry : V → E → Type 0) (is_line : V → E → List ℕ → Type 0)
-    (is_tally : List E → T → Type 0) →
-    VisitorLaws (λ visitor. Tells (is_entry visitor) (is_line visitor) is_tally)
-    (λ visitor out0 out tally0 tally. StopsAt (TellsInPart (is_entry visitor) (is_line visitor) out0 out) out0 out)
-visitor_laws is_entry is_line is_tally = record {
-  calm = λ visitor out0 out tally0 tally told. told.calm;
-  none = λ visitor. tells_none (is_entry visitor) (is_line visitor) is_tally;
-  more = λ visitor. tells_more (is_entry visitor) (is_line visitor) is_tally;
-  refused = λ visitor out tally. (part_none (is_entry visitor) (is_line visitor) out, (calm_same out).steady);
-  later = λ visitor out0 out1 out tally0 tally1 tally.
-      stops_more (is_entry visitor) (is_line visitor) is_tally out0 out1 out tally0 tally1;
-}

@@ -2,7 +2,7 @@
 use Rattle.std.proofs.Common.{◌≡◌, ◌||◌, ℕ, List, [], ◌∷◌, ◌++◌, refl, sym, ◌∙◌, ap, append_assoc, is_some}
 use Rattle.msr_devices.proofs.Chaining.{calm_same}
 use Rattle.msr_tree.proofs.Changes.{same_now}
-use Rattle.msr_tree.specs.Listing.{has_folder, is_there}
+use Rattle.msr_tree.specs.Listing.{has_folder}
 use Rattle.msr_tree.specs.Steps.{Failed, Path, Spares, Step, Unlisted, now}
 use Rattle.msr_folders.proofs.VisitLemmas.{part_none, stops_more, these_more, these_none}
 use Rattle.msr_folders.specs.Entries.{IsSameWithin, StandsWithin}
@@ -52,11 +52,11 @@ module _ (one two : Path) where
 
 -- the laws of a visitor that tells entries, and changes what stands there
 pub within_laws : {V E T : Type 0} (is_entry : V → E → Type 0) (is_line : V → E → List ℕ → Type 0) (is_tally : List E → T → Type 0)
-    (root one two : V → Path) (apart : (visitor : V) → IsSeparate (root visitor) (one visitor) (two visitor)) →
+    (one two : V → Path) →
     VisitLaws {V = V} {L = E} {T = T} (λ visitor. TellsThese (is_entry visitor) (is_line visitor) is_tally)
     (λ visitor out0 out. StopsAt (TellsInPart (is_entry visitor) (is_line visitor) out0 out) out0 out)
-    (λ visitor. ChangesWithin (one visitor) (two visitor)) root
-within_laws is_entry is_line is_tally root one two apart = record {
+    (λ visitor. ChangesWithin (one visitor) (two visitor))
+within_laws is_entry is_line is_tally one two = record {
   calm = λ visitor lines out0 out tally0 tally these. these.told.calm;
   none = λ visitor. these_none (is_entry visitor) (is_line visitor) is_tally;
   more = λ visitor. these_more (is_entry visitor) (is_line visitor) is_tally;
@@ -66,5 +66,4 @@ within_laws is_entry is_line is_tally root one two apart = record {
   still = λ visitor. within_none (one visitor) (two visitor);
   onward = λ visitor. within_then (one visitor) (two visitor);
   unlisted = λ visitor. within_unlisted (one visitor) (two visitor);
-  same = λ visitor. root_same (one visitor) (two visitor) (root visitor) (apart visitor);
 }

@@ -10,3 +10,5 @@ pub mod Visits
 pub mod Walks
 pub mod Within
 pub mod Ages
+pub mod Opening
+pub mod Stopping

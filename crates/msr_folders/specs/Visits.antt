@@ -66,16 +66,3 @@ pub record IsWalkInPart {E : Type 0} (is_entry : E → Type 0) (is_line : E → 
   pub entries : List E
   pub rest : List ℕ
   pub walk : IsWalk is_entry is_line summary (printed ++ rest) entries
-
--- Steps that follow one another are steps, among which no call of the sink failed; a step that stops after others stops
--- these too, and if memory is refused none needs to be taken.
-pub record VisitorLaws {V T : Type 0} (tells : V → Device → Device → T → T → Type 0)
-    (stops : V → Device → Device → T → T → DeviceFault → Type 0) : Type 0 where
-  pub calm : (visitor : V) (out0 out : Device) (tally0 tally : T) → tells visitor out0 out tally0 tally → IsCalm out0 out
-  pub none : (visitor : V) (out : Device) (tally : T) → tells visitor out out tally tally
-  pub more : (visitor : V) (out0 out1 out : Device) (tally0 tally1 tally : T)
-      → tells visitor out0 out1 tally0 tally1 → tells visitor out1 out tally1 tally → tells visitor out0 out tally0 tally
-  pub refused : (visitor : V) (out : Device) (tally : T) → stops visitor out out tally tally Memory
-  pub later : (visitor : V) (out0 out1 out : Device) (tally0 tally1 tally : T) (fault : DeviceFault)
-      → tells visitor out0 out1 tally0 tally1 → stops visitor out1 out tally1 tally fault
-      → stops visitor out0 out tally0 tally fault

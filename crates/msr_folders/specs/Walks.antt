@@ -1,31 +1,39 @@
 -- What a walk does, and what it tells.
-use Rattle.std.specs.Prelude.{◌≡◌, List, [], ◌∷◌, ◌++◌}
+use Rattle.std.specs.Prelude.{◌≡◌, List, [], ◌∷◌, ◌++◌, Option, None, Some}
 use Rattle.msr_devices.specs.Device.{Device, IsCalm}
 use Rattle.msr_devices.specs.declared.fault.DeviceFault.{DeviceFault}
 use Rattle.msr_devices.specs.declared.fault.DeviceFault.TheVariants.{Memory}
 use Rattle.msr_tree.specs.Calls.{Goes}
 use Rattle.msr_tree.specs.Listing.{unlisted_after}
 use Rattle.msr_tree.specs.Steps.{Failed, Path, Step, Unlisted}
-use Rattle.msr_folders.specs.Entries.{ForEach, IsSameWithin, Visit, unlisted_in}
+use Rattle.msr_folders.specs.Entries.{ForEach, Passed, Visit, unlisted_in}
 
--- What a visit does to the tree. It lists no folder.
-pub record VisitDoes (Does : (old new : List Step) → Type 0) (old new : List Step) : Type 0 where
+-- What a visit does to the tree. If this is of those that list no folder, it lists none.
+pub record VisitDoes (Does : (old new : List Step) → Type 0) (Listless : Type 0) (old new : List Step) : Type 0 where
   pub does : Does old new
-  pub lists_none : unlisted_after new ≡ unlisted_after old
+  pub lists_none : Listless → unlisted_after new ≡ unlisted_after old
 
 -- A visit was made, and what was told says this of it.
 pub record IsVisited {L : Type 0} (Says : (old new : List Step) → Visit → List L → Type 0) (Does : (old new : List Step) → Type 0)
-    (visit : Visit) (lines : List L) (old new : List Step) : Type 0 where
-  pub done : VisitDoes Does old new
+    (Listless : Type 0) (visit : Visit) (lines : List L) (old new : List Step) : Type 0 where
+  pub done : VisitDoes Does Listless old new
   pub says : Says old new visit lines
 
 -- What was told of a visit.
 pub record TellsVisit {L T : Type 0} (Tells : List L → (out0 out : Device) → (tally0 tally : T) → Type 0)
-    (Says : (old new : List Step) → Visit → List L → Type 0) (Does : (old new : List Step) → Type 0) (visit : Visit)
+    (Says : (old new : List Step) → Visit → List L → Type 0) (Does : (old new : List Step) → Type 0) (Listless : Type 0) (visit : Visit)
     (before after : List Step → Type 0) (out0 out : Device) (tally0 tally : T) : Type 0 where
   pub lines : List L
   pub told : Tells lines out0 out tally0 tally
-  pub goes : Goes before after (IsVisited Says Does visit lines)
+  pub goes : Goes before after (IsVisited Says Does Listless visit lines)
+
+-- what was told of a folder before it is listed: nothing if it is to be, and else that it is left alone
+abbrev pub TellsEntering : {F L T : Type 0} → (Tells : List L → (out0 out : Device) → (tally0 tally : T) → Type 0)
+    → (Says : (old new : List Step) → Visit → List L → Type 0) → (Does : (old new : List Step) → Type 0) → (Listless : Type 0) → (folder : Path)
+    → Option F → (before after : List Step → Type 0) → (out0 out : Device) → (tally0 tally : T) → Type 0
+TellsEntering Tells Says Does Listless folder None before after out0 out tally0 tally =
+    TellsVisit Tells Says Does Listless (Passed folder) before after out0 out tally0 tally
+TellsEntering Tells Says Does Listless folder (Some entered) before after out0 out tally0 tally = Tells [] out0 out tally0 tally
 
 -- This was said of a visit, between two moments.
 pub record IsSaidBetween {L : Type 0} (Says : (old new : List Step) → Visit → List L → Type 0) (Does : (old new : List Step) → Type 0)
@@ -36,29 +44,29 @@ pub record IsSaidBetween {L : Type 0} (Says : (old new : List Step) → Visit �
   pub says : Says from to visit lines
   pub after : Does to new
 
--- These visits were made, and no others, and what was told says this of each; and a folder was visited as one that has no
--- list just where a call gave none.
+-- These visits were made, and no others, and what was told says this of each; and, if no visit lists a folder, one was visited
+-- as such that has no list just where a call gave none.
 pub record IsWalked {L : Type 0} (Says : (old new : List Step) → Visit → List L → Type 0) (Does : (old new : List Step) → Type 0)
-    (root : Path) (Are : List Step → List Visit → Type 0) (visits : List Visit) (lines : List L) (old new : List Step) : Type 0 where
-  pub are : Are old visits
+    (Listless : Type 0) (root : Path) (Are : (old new : List Step) → List Visit → Type 0) (visits : List Visit) (lines : List L) (old new : List Step) : Type 0 where
+  pub are : Are old new visits
   pub says : ForEach (IsSaidBetween Says Does old new) visits lines
   pub does : Does old new
-  pub unlisted : unlisted_after new ≡ unlisted_after old ++ unlisted_in root visits
+  pub unlisted : Listless → unlisted_after new ≡ unlisted_after old ++ unlisted_in root visits
 
 -- What was told on a walk.
 pub record TellsWalk {L T : Type 0} (Tells : List L → (out0 out : Device) → (tally0 tally : T) → Type 0)
-    (Says : (old new : List Step) → Visit → List L → Type 0) (Does : (old new : List Step) → Type 0) (root : Path)
-    (Are : List Step → List Visit → Type 0) (before after : List Step → Type 0) (out0 out : Device) (tally0 tally : T) : Type 0 where
+    (Says : (old new : List Step) → Visit → List L → Type 0) (Does : (old new : List Step) → Type 0) (Listless : Type 0) (root : Path)
+    (Are : (old new : List Step) → List Visit → Type 0) (before after : List Step → Type 0) (out0 out : Device) (tally0 tally : T) : Type 0 where
   pub visits : List Visit
   pub lines : List L
   pub told : Tells lines out0 out tally0 tally
-  pub goes : Goes before after (IsWalked Says Does root Are visits lines)
+  pub goes : Goes before after (IsWalked Says Does Listless root Are visits lines)
 
 -- What is told of visits that follow one another is told of all of them; a visit that stops after others stops these too,
 -- and if memory is refused none needs to be made. What is done one after another is done, a call that gives no list
--- included. Within the folder that is walked there stands what stood there.
+-- included.
 pub record VisitLaws {V L T : Type 0} (tells : V → List L → (out0 out : Device) → (tally0 tally : T) → Type 0)
-    (stops : V → (out0 out : Device) → DeviceFault → Type 0) (does : V → (old new : List Step) → Type 0) (spared : V → Path) : Type 0 where
+    (stops : V → (out0 out : Device) → DeviceFault → Type 0) (does : V → (old new : List Step) → Type 0) : Type 0 where
   pub calm : (visitor : V) (lines : List L) (out0 out : Device) (tally0 tally : T) → tells visitor lines out0 out tally0 tally
       → IsCalm out0 out
   pub none : (visitor : V) (out : Device) (tally : T) → tells visitor [] out out tally tally
@@ -71,7 +79,6 @@ pub record VisitLaws {V L T : Type 0} (tells : V → List L → (out0 out : Devi
   pub still : (visitor : V) (past : List Step) → does visitor past past
   pub onward : (visitor : V) (old mid new : List Step) → does visitor old mid → does visitor mid new → does visitor old new
   pub unlisted : (visitor : V) (past : List Step) (folder : Path) → does visitor past (Failed ∷ Unlisted folder ∷ past)
-  pub same : (visitor : V) (old new : List Step) → does visitor old new → IsSameWithin (spared visitor) old new
 
 -- it holds whichever of these the steps so far are
 abbrev pub HoldsAt : (went Holds : List Step → Type 0) → Type 0

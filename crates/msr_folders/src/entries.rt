@@ -1,21 +1,22 @@
 //! The walk through the folders of a tree, in the order of the names.
-ghost use Rattle.std.specs.Prelude.{◌≡◌, List, [], IfErr, OnOk};
+ghost use Rattle.std.specs.Prelude.{◌≡◌, List, IfErr, IfOk, OnOk};
 ghost use Rattle.msr_devices.specs.Device.{CanCountCall, Device};
 ghost use Rattle.msr_devices.specs.declared.fault.DeviceFault.{DeviceFault};
 ghost use Rattle.msr_tree.specs.Calls.{Goes};
 ghost use Rattle.msr_tree.specs.Steps.{Path, Step};
-ghost use Rattle.msr_folders.specs.Entries.{AreEntries, AreEntriesOf, Entry, Visit, WithoutList};
+ghost use Rattle.msr_folders.specs.Entries.{AreEntries, AreEntriesBetween, Entry, IsMoment, Left, Visit, WithoutList};
+ghost use Rattle.msr_folders.specs.Opening.{OpensFolder};
 ghost use Rattle.msr_folders.specs.Paths.{joined};
-ghost use Rattle.msr_folders.specs.Walks.{HoldsAt, HoldsListed, TellsVisit, TellsWalk, VisitDoes, VisitLaws};
+ghost use Rattle.msr_folders.specs.Walks.{HoldsAt, HoldsListed, TellsEntering, TellsVisit, TellsWalk, VisitDoes, VisitLaws};
 
+use crate::opened::Opened;
 use crate::paths::{entry_path, join};
 use msr_devices::{DeviceFault, Sink};
 use msr_sds::{FOLDERS, levels_below};
 use msr_tree::{FileKind, Tree, TreeFault};
-use std::alloc::{AllocError, Global};
+use std::alloc::Global;
 
-/// What is done on a walk: each visit prints to a sink, and counts. It may change the tree, but what stands within the
-/// folder that is walked stays.
+/// What is done on a walk: each visit prints to a sink, and counts, and may change the tree.
 pub trait EntryVisitor {
     /// What is counted.
     type Tally;
@@ -38,14 +39,31 @@ pub trait EntryVisitor {
     /// What is done to the tree.
     ghost does: { Self → List Step → List Step → Type 0 };
 
+    /// No visit lists a folder.
+    ghost listless: { Self → Type 0 };
+
     /// What holds of what is counted and of the steps so far, before each visit and after it.
     ghost holds: { Self → Self.Tally → List Step → Type 0 };
 
     /// The folder that is walked.
-    ghost spared: { Self → Path };
+    ghost root: { Self → Path };
 
-    /// Begins with a folder that has a list, and folders of the walk up to `levels` below it.
-    fn enter_folder(&self, folder: &str, levels: u8) -> Result<Self::Folder, AllocError>;
+    /// Begins with a folder, before it is listed, and folders of the walk up to `levels` below it. `None`: it is left alone.
+    fn enter_folder<T: Tree, O: Sink>(
+        &self,
+        tree: &mut T,
+        folder: &str,
+        levels: u8,
+        out: &mut O,
+        tally: &mut Self::Tally,
+    ) -> Result<Option<Self::Folder>, DeviceFault>
+        requires count { CanCountCall (O.device out.old) }
+        requires holds { HoldsAt (T.went tree.old) (holds self.now tally.old) }
+        ensures told { IfOk result (λ entered. TellsEntering (tells self.now) (says self.now) (does self.now) (listless self.now)
+            folder.now entered (T.went tree.old) (T.went tree.new) (O.device out.old) (O.device out.new) tally.old tally.new) }
+        ensures stops { IfErr result (stops self.now (O.device out.old) (O.device out.new)) }
+        ensures does { Goes (T.went tree.old) (T.went tree.new) (VisitDoes (does self.now) (listless self.now)) }
+        ensures holds { HoldsAt (T.went tree.new) (holds self.now tally.new) };
 
     /// Handles an entry that is no folder of the walk.
     fn visit_entry<T: Tree, O: Sink>(
@@ -59,10 +77,10 @@ pub trait EntryVisitor {
     ) -> Result<(), DeviceFault>
         requires count { CanCountCall (O.device out.old) }
         requires holds { HoldsAt (T.went tree.old) (holds self.now tally.old) }
-        ensures told { OnOk result (TellsVisit (tells self.now) (says self.now) (does self.now) (Entry path.now kind)
+        ensures told { OnOk result (TellsVisit (tells self.now) (says self.now) (does self.now) (listless self.now) (Entry path.now kind)
             (T.went tree.old) (T.went tree.new) (O.device out.old) (O.device out.new) tally.old tally.new) }
         ensures stops { IfErr result (stops self.now (O.device out.old) (O.device out.new)) }
-        ensures does { Goes (T.went tree.old) (T.went tree.new) (VisitDoes (does self.now)) }
+        ensures does { Goes (T.went tree.old) (T.went tree.new) (VisitDoes (does self.now) (listless self.now)) }
         ensures holds { HoldsAt (T.went tree.new) (holds self.now tally.new) };
 
     /// Handles a folder that has no list, and stands in that place.
@@ -75,22 +93,32 @@ pub trait EntryVisitor {
         tally: &mut Self::Tally,
     ) -> Result<(), DeviceFault>
         requires count { CanCountCall (O.device out.old) }
-        requires place { place.now ≡ joined (spared self.now) folder.now }
+        requires place { place.now ≡ joined (root self.now) folder.now }
         requires holds { HoldsAt (T.went tree.old) (holds self.now tally.old) }
-        ensures told { OnOk result (TellsVisit (tells self.now) (says self.now) (does self.now) (WithoutList folder.now)
+        ensures told { OnOk result (TellsVisit (tells self.now) (says self.now) (does self.now) (listless self.now) (WithoutList folder.now)
             (T.went tree.old) (T.went tree.new) (O.device out.old) (O.device out.new) tally.old tally.new) }
         ensures stops { IfErr result (stops self.now (O.device out.old) (O.device out.new)) }
-        ensures does { Goes (T.went tree.old) (T.went tree.new) (VisitDoes (does self.now)) }
+        ensures does { Goes (T.went tree.old) (T.went tree.new) (VisitDoes (does self.now) (listless self.now)) }
         ensures holds { HoldsAt (T.went tree.new) (holds self.now tally.new) };
 
-    /// Ends with a folder whose entries were visited, and tells nothing.
-    fn leave_folder<T: Tree>(&self, tree: &mut T, tally: &mut Self::Tally)
-        requires { HoldsAt (T.went tree.old) (holds self.now tally.old) }
-        ensures told { (out : Device) → tells self.now [] out out tally.old tally.new }
-        ensures does { Goes (T.went tree.old) (T.went tree.new) (VisitDoes (does self.now)) }
+    /// Ends with a folder whose entries were visited.
+    fn leave_folder<T: Tree, O: Sink>(
+        &self,
+        tree: &mut T,
+        folder: &str,
+        levels: u8,
+        out: &mut O,
+        tally: &mut Self::Tally,
+    ) -> Result<(), DeviceFault>
+        requires count { CanCountCall (O.device out.old) }
+        requires holds { HoldsAt (T.went tree.old) (holds self.now tally.old) }
+        ensures told { OnOk result (TellsVisit (tells self.now) (says self.now) (does self.now) (listless self.now) (Left folder.now)
+            (T.went tree.old) (T.went tree.new) (O.device out.old) (O.device out.new) tally.old tally.new) }
+        ensures stops { IfErr result (stops self.now (O.device out.old) (O.device out.new)) }
+        ensures does { Goes (T.went tree.old) (T.went tree.new) (VisitDoes (does self.now) (listless self.now)) }
         ensures holds { HoldsAt (T.went tree.new) (holds self.now tally.new) };
 
-    ghost laws: { VisitLaws tells stops does spared };
+    ghost laws: { VisitLaws tells stops does };
 
     ghost listed: { HoldsListed holds };
 }
@@ -105,6 +133,40 @@ pub struct EntryWalk<'a, V> {
     pub visitor: &'a V,
 }
 
+/// Begins with a folder and lists it; nothing if it is left alone, or has no list.
+fn open_folder<T: Tree, V: EntryVisitor, O: Sink>(
+    walk: &EntryWalk<'_, V>,
+    tree: &mut T,
+    folder: &str,
+    levels: u8,
+    out: &mut O,
+    tally: &mut V::Tally,
+) -> Result<Option<Opened<V::Folder>>, DeviceFault>
+    requires count { CanCountCall (O.device out.old) }
+    requires root { V.root walk.now.visitor.now ≡ walk.now.root.now }
+    requires holds { HoldsAt (T.went tree.old) (V.holds walk.now.visitor.now tally.old) }
+    ensures told { IfOk result (λ opened. OpensFolder (V.tells walk.now.visitor.now) (V.says walk.now.visitor.now)
+        (V.does walk.now.visitor.now) (V.listless walk.now.visitor.now) walk.now.root.now levels folder.now opened
+        (T.went tree.old) (T.went tree.new) (O.device out.old) (O.device out.new) tally.old tally.new) }
+    ensures stops { IfErr result (V.stops walk.now.visitor.now (O.device out.old) (O.device out.new)) }
+    ensures does { Goes (T.went tree.old) (T.went tree.new) (V.does walk.now.visitor.now) }
+    ensures holds { HoldsAt (T.went tree.new) (V.holds walk.now.visitor.now tally.new) }
+{
+    let Some(entered) = walk.visitor.enter_folder(tree, folder, levels, out, tally)? else {
+        return Ok(None);
+    };
+    let place = join(walk.alloc, walk.root, folder)?;
+    match tree.list(place.as_str()) {
+        Ok(names) => Ok(Some(Opened { entered, names })),
+        Err(TreeFault::Memory) => Err(DeviceFault::Memory),
+        Err(TreeFault::Failed) => {
+            walk.visitor
+                .visit_unlisted(tree, folder, place.as_str(), out, tally)?;
+            Ok(None)
+        }
+    }
+}
+
 /// Visits the entries of the folder with that path, and of folders up to `levels` below it.
 fn visit_folder<T: Tree, V: EntryVisitor, O: Sink>(
     walk: &EntryWalk<'_, V>,
@@ -115,26 +177,21 @@ fn visit_folder<T: Tree, V: EntryVisitor, O: Sink>(
     tally: &mut V::Tally,
 ) -> Result<(), DeviceFault>
     requires count { CanCountCall (O.device out.old) }
-    requires spared { V.spared walk.now.visitor.now ≡ walk.now.root.now }
+    requires root { V.root walk.now.visitor.now ≡ walk.now.root.now }
     requires holds { HoldsAt (T.went tree.old) (V.holds walk.now.visitor.now tally.old) }
     ensures told { OnOk result (TellsWalk (V.tells walk.now.visitor.now) (V.says walk.now.visitor.now)
-        (V.does walk.now.visitor.now) walk.now.root.now (λ past. AreEntries past walk.now.root.now levels folder.now)
+        (V.does walk.now.visitor.now) (V.listless walk.now.visitor.now) walk.now.root.now
+        (λ past new. AreEntries (IsMoment (V.does walk.now.visitor.now) new) past walk.now.root.now levels folder.now)
         (T.went tree.old) (T.went tree.new) (O.device out.old) (O.device out.new) tally.old tally.new) }
     ensures stops { IfErr result (V.stops walk.now.visitor.now (O.device out.old) (O.device out.new)) }
     ensures does { Goes (T.went tree.old) (T.went tree.new) (V.does walk.now.visitor.now) }
     ensures holds { HoldsAt (T.went tree.new) (V.holds walk.now.visitor.now tally.new) }
 {
-    let alloc = walk.alloc;
-    let place = join(alloc, walk.root, folder)?;
-    let names = match tree.list(place.as_str()) {
-        Ok(names) => names,
-        Err(TreeFault::Memory) => return Err(DeviceFault::Memory),
-        Err(TreeFault::Failed) => return walk
-            .visitor
-            .visit_unlisted(tree, folder, place.as_str(), out, tally),
+    let Some(opened) = open_folder(walk, tree, folder, levels, out, tally)? else {
+        return Ok(());
     };
-    let entered = walk.visitor.enter_folder(folder, levels)?;
-    for name in &names {
+    let alloc = walk.alloc;
+    for name in &opened.names {
         let path = entry_path(alloc, folder, name.as_str())?;
         let place = join(alloc, walk.root, path.as_str())?;
         let kind = if levels == 0 {
@@ -146,11 +203,10 @@ fn visit_folder<T: Tree, V: EntryVisitor, O: Sink>(
             visit_folder(walk, tree, path.as_str(), levels - 1, out, tally)?;
         } else {
             walk.visitor
-                .visit_entry(tree, &entered, path.as_str(), kind, out, tally)?;
+                .visit_entry(tree, &opened.entered, path.as_str(), kind, out, tally)?;
         }
     }
-    walk.visitor.leave_folder(tree, tally);
-    Ok(())
+    walk.visitor.leave_folder(tree, folder, levels, out, tally)
 }
 
 /// Visits all of the folder that is walked, or the folders of it that are asked for, one after another.
@@ -161,10 +217,11 @@ pub fn visit_entries<T: Tree, V: EntryVisitor, O: Sink>(
     tally: &mut V::Tally,
 ) -> Result<(), DeviceFault>
     requires count { CanCountCall (O.device out.old) }
-    requires spared { V.spared walk.now.visitor.now ≡ walk.now.root.now }
+    requires root { V.root walk.now.visitor.now ≡ walk.now.root.now }
     requires holds { HoldsAt (T.went tree.old) (V.holds walk.now.visitor.now tally.old) }
     ensures told { OnOk result (TellsWalk (V.tells walk.now.visitor.now) (V.says walk.now.visitor.now)
-        (V.does walk.now.visitor.now) walk.now.root.now (λ past. AreEntriesOf past walk.now.root.now walk.now.below.now)
+        (V.does walk.now.visitor.now) (V.listless walk.now.visitor.now) walk.now.root.now
+        (λ past new. AreEntriesBetween (V.does walk.now.visitor.now) past new walk.now.root.now walk.now.below.now)
         (T.went tree.old) (T.went tree.new) (O.device out.old) (O.device out.new) tally.old tally.new) }
     ensures stops { IfErr result (V.stops walk.now.visitor.now (O.device out.old) (O.device out.new)) }
     ensures does { Goes (T.went tree.old) (T.went tree.new) (V.does walk.now.visitor.now) }

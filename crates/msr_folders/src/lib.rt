@@ -9,11 +9,11 @@ mod files;
 mod found;
 mod lock;
 mod members;
+mod opened;
 mod paths;
 mod places;
 mod stored;
 mod totals;
-mod visitor;
 
 pub use ages::{days_before, is_later};
 pub use entries::{EntryVisitor, EntryWalk, visit_entries};
@@ -26,4 +26,3 @@ pub use paths::{JsonText, Shown, ended, folder_of, join, shown_path, told_folder
 pub use places::{Place, folders_overlap, place_of};
 pub use stored::make_stored;
 pub use totals::{Total, Totals};
-pub use visitor::{FolderWalk, Visitor, visit_folders};

@@ -23,20 +23,10 @@ use Rattle.msr_replace.specs.declared.words.Word.{Word}
 use Rattle.msr_replace.specs.declared.progress.Progress.{Progress}
 use Rattle.msr_replace.specs.declared.tally.Tally.{Tally}
 
-module _ {T : Type 0} where
-  -- no entry more
-  pub tells_none : (out : Device) (progress : Progress T) → TellsExchanges out out progress progress
-  tells_none out progress = visits.tells_none IsExchangeEntry IsExchangeEntryLine HasCome out progress
-
-  pub tells_more : (out0 out1 out : Device) (old mid new : Progress T) → TellsExchanges out0 out1 old mid
-      → TellsExchanges out1 out mid new → TellsExchanges out0 out old new
-  tells_more out0 out1 out old mid new first second =
-      visits.tells_more IsExchangeEntry IsExchangeEntryLine HasCome out0 out1 out old mid new first second
-
-  pub stops_more : (out0 out1 out : Device) (old mid : Progress T) (fault : DeviceFault)
-      → TellsExchanges out0 out1 old mid → StopsTellingExchanges out1 out fault → StopsTellingExchanges out0 out fault
-  stops_more out0 out1 out old mid fault first second =
-      visits.stops_more IsExchangeEntry IsExchangeEntryLine HasCome out0 out1 out old mid fault first second
+pub stops_more : (out0 out1 out : Device) (old mid : Progress) (fault : DeviceFault)
+    → TellsExchanges out0 out1 old mid → StopsTellingExchanges out1 out fault → StopsTellingExchanges out0 out fault
+stops_more out0 out1 out old mid fault first second =
+    visits.stops_more IsExchangeEntry IsExchangeEntryLine HasCome out0 out1 out old mid fault first second
 
 -- nothing was printed
 pub none_told : (out : Device) → StopsTellingExchanges out out Memory
@@ -75,28 +65,27 @@ summary_is false entries tally h = line_same _ _ _ _ _ _
 summary_is true entries tally h = ap (λ text. (codes "total" ++ text) ++ codes "\n")
     (sums_same (count_kept tally) (λ word. exchange_count (is_word word) entries) h.counts undo_words)
 
-module _ {T : Type 0} where
-  pub stops_summary : (undo : Bool) (out0 out1 out : Device) (old new : Progress T) (fault : DeviceFault)
-      (told : TellsExchanges out0 out1 old new) → StopsPrefix out1 out (exchange_summary undo told.entries) fault
-      → StopsAt (WalksInPart undo out0 out) out0 out fault
-  stops_summary undo = walks.stops_summary IsExchangeEntry IsExchangeEntryLine (exchange_summary undo) HasCome
+pub stops_summary : (undo : Bool) (out0 out1 out : Device) (old new : Progress) (fault : DeviceFault)
+    (told : TellsExchanges out0 out1 old new) → StopsPrefix out1 out (exchange_summary undo told.entries) fault
+    → StopsAt (WalksInPart undo out0 out) out0 out fault
+stops_summary undo = walks.stops_summary IsExchangeEntry IsExchangeEntryLine (exchange_summary undo) HasCome
 
-  pub walk_ends : (undo : Bool) (out0 out1 out : Device) (old new : Progress T) (found : WalkFound)
-      → (told : TellsExchanges out0 out1 old new) → Takes out1 out (exchange_summary undo told.entries)
-      → TellsFound told.entries found → IsStoppedAt told.entries new.failed → ReplacesDays undo out0 out new.failed (Ok found)
-  walk_ends undo out0 out1 out old new found told prints end stopped =
-      let walk : IsWalk IsExchangeEntry IsExchangeEntryLine (exchange_summary undo) (told.lines ++ exchange_summary undo told.entries) told.entries = record {
-        lines = told.lines;
-        are_entries = told.are_entries;
-        are_lines = told.are_lines;
-        whole = refl;
-      } in
-      record {
-        printed = told.lines ++ exchange_summary undo told.entries;
-        prints = takes_append out0 out1 out told.lines (exchange_summary undo told.entries) told.prints prints;
-        ends = (told.entries, walk, end);
-        failing = (told.entries, walk, stopped);
-      }
+pub walk_ends : (undo : Bool) (out0 out1 out : Device) (old new : Progress) (found : WalkFound)
+    → (told : TellsExchanges out0 out1 old new) → Takes out1 out (exchange_summary undo told.entries)
+    → TellsFound told.entries found → IsStoppedAt told.entries new.failed → ReplacesDays undo out0 out new.failed (Ok found)
+walk_ends undo out0 out1 out old new found told prints end stopped =
+    let walk : IsWalk IsExchangeEntry IsExchangeEntryLine (exchange_summary undo) (told.lines ++ exchange_summary undo told.entries) told.entries = record {
+      lines = told.lines;
+      are_entries = told.are_entries;
+      are_lines = told.are_lines;
+      whole = refl;
+    } in
+    record {
+      printed = told.lines ++ exchange_summary undo told.entries;
+      prints = takes_append out0 out1 out told.lines (exchange_summary undo told.entries) told.prints prints;
+      ends = (told.entries, walk, end);
+      failing = (told.entries, walk, stopped);
+    }
 
 -- what the counts find is what the entries tell
 pub tells_end : (entries : List ExchangeEntry) (tally : Tally) (found : WalkFound) → IsExchangeTally entries tally
@@ -112,81 +101,7 @@ front_piece old new text n piece = record {
   whole = sym (take-append-drop n text);
 }
 
-goes_on : (before : List ExchangeEntry) (entry : ExchangeEntry) → AllByRecursion (λ (e : ExchangeEntry). has_failed e.outcome ≡ false) before
+pub goes_on : (before : List ExchangeEntry) (entry : ExchangeEntry) → AllByRecursion (λ (e : ExchangeEntry). has_failed e.outcome ≡ false) before
     → has_failed entry.outcome ≡ false → AllByRecursion (λ (e : ExchangeEntry). has_failed e.outcome ≡ false) (before ++ entry ∷ [])
 goes_on [] entry all one = (one, tt)
 goes_on (e ∷ before) entry all one = (all.0, goes_on before entry all.1 one)
-
--- after an entry that did not fail
-stopped_not : {Z : Type 0} (before : List ExchangeEntry) (entry : ExchangeEntry) (old new : Option (String Z)) → IsStoppedAt before old
-    → old ≡ None → new ≡ old → has_failed entry.outcome ≡ false → IsStoppedAt (before ++ entry ∷ []) new
-stopped_not before entry None None h is same one = goes_on before entry h one
-stopped_not before entry (Some x) new h is same one = absurd cc
-stopped_not before entry None (Some x) h is same one = absurd cc
-
--- after the one that did
-pub stopped_now : {Z : Type 0} (before : List ExchangeEntry) (entry : ExchangeEntry) (old : Option (String Z)) (at : String Z) → IsStoppedAt before old
-    → old ≡ None → has_failed entry.outcome ≡ true → entry.path ≡ string_bytes at → IsStoppedAt (before ++ entry ∷ []) (Some at)
-stopped_now before entry None at h is one path = (before, entry, refl, h, one, path)
-stopped_now before entry (Some x) at h is one path = absurd cc
-
-module _ {T : Type 0} where
-  -- one entry more that did not fail
-  pub tells_going : (path : List ℕ) (outcome : Outcome) (out0 out : Device) (old new : Progress T)
-      → IsExchangeOf path outcome → has_failed outcome ≡ false → Prints path outcome out0 out
-      → ((before : List ExchangeEntry) → IsExchangeTally before old.tally → IsExchangeTally (before ++ entry_of path outcome ∷ []) new.tally)
-      → old.failed ≡ None → new.failed ≡ old.failed → TellsExchanges out0 out old new
-  tells_going path outcome out0 out old new is going printed counted none kept =
-      visits.tells_one IsExchangeEntry IsExchangeEntryLine HasCome out0 out old new (entry_of path outcome) printed.line is printed.is_line
-      printed.takes printed.calm
-      (λ before h. record {
-        counted = counted before h.counted;
-        stopped = stopped_not before (entry_of path outcome) old.failed new.failed h.stopped none kept going;
-      })
-
-  pub tells_printed : {R : Type 0} (path : List ℕ) (outcome : Outcome) (out0 out : Device) (old new : Progress T)
-      (result : Result R DeviceFault) → IsExchangeOf path outcome → has_failed outcome ≡ false
-      → OnOk result (Prints path outcome out0 out)
-      → OnOk result ((before : List ExchangeEntry) → IsExchangeTally before old.tally → IsExchangeTally (before ++ entry_of path outcome ∷ []) new.tally)
-      → old.failed ≡ None → new.failed ≡ old.failed → OnOk result (TellsExchanges out0 out old new)
-  tells_printed path outcome out0 out old new (Ok x) is going printed counted none kept =
-      tells_going path outcome out0 out old new is going printed counted none kept
-  tells_printed path outcome out0 out old new (Err why) is going printed counted none kept = tt
-
-  -- one entry more that did
-  pub tells_failed : (path : List ℕ) (outcome : Outcome) (out0 out : Device) (old new : Progress T)
-      → IsExchangeOf path outcome → has_failed outcome ≡ true → Prints path outcome out0 out
-      → ((before : List ExchangeEntry) → IsExchangeTally before old.tally → IsExchangeTally (before ++ entry_of path outcome ∷ []) new.tally)
-      → old.failed ≡ None
-      → ((before : List ExchangeEntry) → IsStoppedAt before old.failed → IsStoppedAt (before ++ entry_of path outcome ∷ []) new.failed)
-      → TellsExchanges out0 out old new
-  tells_failed path outcome out0 out old new is fails printed counted none stopped =
-      visits.tells_one IsExchangeEntry IsExchangeEntryLine HasCome out0 out old new (entry_of path outcome) printed.line is printed.is_line
-      printed.takes printed.calm
-      (λ before h. record { counted = counted before h.counted; stopped = stopped before h.stopped })
-
-  -- the tree alone has changed
-  pub tells_quiet : (out : Device) (old new : Progress T) → new.tally ≡ old.tally → new.failed ≡ old.failed
-      → TellsExchanges out out old new
-  tells_quiet out old new tally failed = record {
-    entries = [];
-    lines = [];
-    are_entries = tt;
-    are_lines = refl;
-    prints = takes_none out;
-    calm = calm_same out;
-    counts = λ before h.
-        let P : List ExchangeEntry → Type 0 = λ es. HasCome es new in
-        subst P (sym (append-nil before)) (record { counted = rw tally h.counted; stopped = rw failed h.stopped });
-  }
-
-  -- one walk, and then another
-  pub tells_last : {R : Type 0} (out0 out1 out : Device) (old mid new : Progress T) (result : Result R DeviceFault)
-      → TellsExchanges out0 out1 old mid → OnOk result (TellsExchanges out1 out mid new) → OnOk result (TellsExchanges out0 out old new)
-  tells_last out0 out1 out old mid new (Ok x) first second = tells_more out0 out1 out old mid new first second
-  tells_last out0 out1 out old mid new (Err why) first second = tt
-
-  pub stops_last : {R : Type 0} (out0 out1 out : Device) (old mid : Progress T) (result : Result R DeviceFault)
-      → TellsExchanges out0 out1 old mid → IfErr result (λ fault. StopsTellingExchanges out1 out fault) → IfErr result (λ fault. StopsTellingExchanges out0 out fault)
-  stops_last out0 out1 out old mid (Ok x) first second = tt
-  stops_last out0 out1 out old mid (Err why) first second = stops_more out0 out1 out old mid why first second

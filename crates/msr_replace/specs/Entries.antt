@@ -41,11 +41,6 @@ has_failed DayFailed = true
 has_failed FolderFailed = true
 has_failed _ = false
 
--- it did not fail
-pub record IsGoing (path : List ℕ) (outcome : Outcome) : Type 0 where
-  pub is : IsExchangeOf path outcome
-  pub going : has_failed outcome ≡ false
-
 -- no entry failed, or the last one did, with this path
 abbrev pub IsStoppedAt : {Z : Type 0} → List ExchangeEntry → Option (String Z) → Type 0
 IsStoppedAt entries None = AllByRecursion (λ entry. has_failed entry.outcome ≡ false) entries

@@ -5,6 +5,8 @@ pub mod Judging
 pub mod Kinds
 pub mod Looks
 pub mod Restored
+pub mod Said
 pub mod Sums
+pub mod Tree
 pub mod Walk
 pub mod Words

@@ -20,12 +20,12 @@ pub record Prints (path : List ℕ) (outcome : Outcome) (out0 out : Device) : Ty
   pub calm : IsCalm out0 out
 
 -- What a walk has come to by these entries.
-pub record HasCome {T : Type 0} (entries : List ExchangeEntry) (progress : Progress T) : Type 0 where
+pub record HasCome (entries : List ExchangeEntry) (progress : Progress) : Type 0 where
   pub counted : IsExchangeTally entries progress.tally
   pub stopped : IsStoppedAt entries progress.failed
 
 -- some more entries were told: their lines were printed, and they are counted
-abbrev pub TellsExchanges : {T : Type 0} → Device → Device → Progress T → Progress T → Type 0
+abbrev pub TellsExchanges : Device → Device → Progress → Progress → Type 0
 TellsExchanges out0 out old new = Tells IsExchangeEntry IsExchangeEntryLine HasCome out0 out old new
 
 -- that was printed when the walk stopped

@@ -11,6 +11,7 @@ mod replacer;
 mod tally;
 mod told;
 mod verifying;
+mod visitor;
 mod walk;
 mod ways;
 mod words;

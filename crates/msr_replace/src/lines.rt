@@ -1,6 +1,7 @@
 //! What became of an entry of a folder, and its line.
 ghost use Rattle.std.specs.Prelude.{◌≡◌, IfOk};
 ghost use Rattle.std.specs.String.{string_bytes};
+ghost use Rattle.msr_replace.specs.Entries.{has_failed};
 ghost use Rattle.msr_replace.specs.Lines.{IsExchangeLine, after_of, before_of, told_path, exchange_word, word_of_answer, word_of_restored};
 
 use crate::answers::{DayAnswer, DayRestored};
@@ -83,6 +84,13 @@ impl Outcome {
             Outcome::Orphan => Word::Orphan,
             Outcome::DayFailed | Outcome::FolderFailed => Word::Unfinished,
         }
+    }
+
+    /// Whether the tree failed.
+    pub(crate) fn has_failed(self) -> bool
+        ensures { result ≡ has_failed self }
+    {
+        matches!(self, Outcome::DayFailed | Outcome::FolderFailed)
     }
 
     /// The bytes of the file that was replaced.

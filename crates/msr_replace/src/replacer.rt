@@ -1,9 +1,10 @@
 //! What the walk of a replace needs.
+ghost use Rattle.std.specs.Prelude.{◌≡◌};
 ghost use Rattle.msr_exchange.specs.Work.{AreThreeFolders};
+ghost use Rattle.msr_replace.specs.Said.{unlisted_of, walked};
 
 use crate::lines::EntryRefusal;
 use msr_exchange::DayWork;
-use std::marker::PhantomData;
 use std::rt::Files;
 
 /// Which folders are walked.
@@ -19,20 +20,32 @@ pub(crate) enum Course {
 
 impl Course {
     /// What is told of a folder that has no list.
-    pub(crate) fn unlisted(self) -> EntryRefusal {
+    pub(crate) fn unlisted(self) -> EntryRefusal
+        ensures { result ≡ unlisted_of self }
+    {
         match self {
             Course::Root | Course::Aside => EntryRefusal::Listing,
             Course::Out => EntryRefusal::RecordsListing,
+        }
+    }
+
+    /// The folder that is walked.
+    pub(crate) fn folder<'a>(self, work: &DayWork<'a>) -> &'a str
+        ensures { result.now ≡ walked self work.now }
+    {
+        match self {
+            Course::Root => work.root,
+            Course::Out => work.out,
+            Course::Aside => work.aside,
         }
     }
 }
 
 /// What an entry needs: the system's files, what is to be done, and where.
 #[derive(Drop)]
-pub(crate) struct Replacer<'a, R: Files, T> {
+pub(crate) struct Replacer<'a, R: Files> {
     pub(crate) rt: &'a R,
     pub(crate) work: DayWork<'a>,
     pub(crate) course: Course,
-    pub(crate) of: PhantomData<T>,
     ghost apart: { AreThreeFolders work },
 }

@@ -1,7 +1,7 @@
 -- What a dry run tells of the entries of an archive.
 use Rattle.std.specs.Prelude.{◌≡◌, ◌≢◌, ⊤, ℕ, List, [], ◌∷◌}
 use Rattle.msr_folders.specs.Days.{IsDay, IsNoDay}
-use Rattle.msr_folders.specs.Entries.{AreEntriesOf, Entry as Found, Visit, WithoutList}
+use Rattle.msr_folders.specs.Entries.{AreEntriesOf, Entry as Found, Left, Passed, Visit, WithoutList}
 use Rattle.msr_folders.specs.Paths.{joined, told_folder}
 use Rattle.msr_folders.specs.Walks.{IsWalked}
 use Rattle.msr_making.specs.declared.answer.DayFault.TheVariants.{Gone as WasGone, Listing}
@@ -46,9 +46,11 @@ IsTrialOfVisit root days old new (Found path kind) entries = (channel : Path) ×
     × IsTrialOfPath days root path kind outcome old new
 IsTrialOfVisit root days old new (WithoutList folder) entries =
     entries ≡ record { path = told_folder folder; channel = []; outcome = Refused Listing } ∷ []
+IsTrialOfVisit root days old new (Passed folder) entries = ⊥
+IsTrialOfVisit root days old new (Left folder) entries = entries ≡ []
 
 -- What was told of an archive: of each entry, in order, by what its name led to. Nothing was changed.
 abbrev pub IsArchiveTried : Trying → List Visit → List Entry → (old new : List Step) → Type 0
 IsArchiveTried asked visits entries old new =
-    IsWalked (IsTrialOfVisit asked.root.now asked.days) OnlyReads asked.root.now
-    (λ past. AreEntriesOf past asked.root.now asked.below.items) visits entries old new
+    IsWalked (IsTrialOfVisit asked.root.now asked.days) OnlyReads (Unit {0}) asked.root.now
+    (λ past new. AreEntriesOf past asked.root.now asked.below.items) visits entries old new

@@ -1,14 +1,11 @@
 //! The walk through the folders of an archive.
-ghost use Rattle.std.specs.Prelude.{◌≡◌, ◌≢◌, ◌↔◌, ◌∷◌, [], IfErr, IfOk, IsErrOf, OnOk};
+ghost use Rattle.std.specs.Prelude.{◌≢◌, ◌↔◌, ◌∷◌, [], IfErr, IfOk, IsErrOf, OnOk};
 ghost use Rattle.msr_devices.specs.Device.{CanCountCall, HasFailed};
-ghost use Rattle.msr_devices.proofs.Chaining.{calm_same};
-ghost use Rattle.msr_folders.proofs.ReadingLemmas.{none_holds, reads_same};
-ghost use Rattle.msr_folders.proofs.VisitLemmas.{part_none, stops_more, these_more, these_none};
+ghost use Rattle.msr_folders.proofs.ReadingLemmas.{none_holds, reading_laws};
 ghost use Rattle.msr_folders.specs.Entries.{Entry as Found};
 ghost use Rattle.msr_folders.specs.Walks.{TellsVisit, VisitDoes};
 ghost use Rattle.msr_outcomes.specs.Entries.{Entry, IsTally};
 ghost use Rattle.msr_sds.specs.SdsPath.{ReadsAsDay};
-ghost use Rattle.msr_tree.proofs.Reading.{reads_none, reads_then, reads_unlisted};
 ghost use Rattle.msr_tree.specs.Calls.{Goes};
 ghost use Rattle.msr_tree.specs.Reads.{OnlyReads};
 ghost use Rattle.msr_tree.specs.declared.kind.FileKind.{FileKind};
@@ -27,7 +24,7 @@ use msr_outcomes::{Outcome, Tally, channel_text, write_sums};
 use msr_sds::SdsName;
 use msr_tool::ToolFault;
 use msr_tree::{FileKind, Time, Tree};
-use std::alloc::{AllocError, Global};
+use std::alloc::Global;
 use std::io;
 
 /// What a dry run found that came to its end.
@@ -85,10 +82,10 @@ impl Trier<'_> {
         requires day { ReadsAsDay path.now name.now }
         requires count { CanCountCall (O.device out.old) }
         ensures told { (kind : FileKind) → kind ≢ Gone → OnOk result (TellsVisit (TellsTrial self.now.asked.now.days)
-            (IsTrialOfVisit self.now.asked.now.root.now self.now.asked.now.days) OnlyReads (Found path.now kind)
+            (IsTrialOfVisit self.now.asked.now.root.now self.now.asked.now.days) OnlyReads (Unit {0}) (Found path.now kind)
             (T.went tree.old) (T.went tree.new) (O.device out.old) (O.device out.new) tally.old tally.new) }
         ensures stops { IfErr result (StopsTrial self.now.asked.now.days (O.device out.old) (O.device out.new)) }
-        ensures does { Goes (T.went tree.old) (T.went tree.new) (VisitDoes OnlyReads) }
+        ensures does { Goes (T.went tree.old) (T.went tree.new) (VisitDoes OnlyReads (Unit {0})) }
     {
         let channel = channel_text(self.alloc, name)?;
         let input = join(self.alloc, self.asked.root, path)?;
@@ -112,10 +109,10 @@ impl Trier<'_> {
     ) -> Result<(), DeviceFault>
         requires { CanCountCall (O.device out.old) }
         ensures told { (kind : FileKind) → kind ≢ Gone → OnOk result (TellsVisit (TellsTrial self.now.asked.now.days)
-            (IsTrialOfVisit self.now.asked.now.root.now self.now.asked.now.days) OnlyReads (Found path.now kind)
+            (IsTrialOfVisit self.now.asked.now.root.now self.now.asked.now.days) OnlyReads (Unit {0}) (Found path.now kind)
             (T.went tree.old) (T.went tree.new) (O.device out.old) (O.device out.new) tally.old tally.new) }
         ensures stops { IfErr result (StopsTrial self.now.asked.now.days (O.device out.old) (O.device out.new)) }
-        ensures does { Goes (T.went tree.old) (T.went tree.new) (VisitDoes OnlyReads) }
+        ensures does { Goes (T.went tree.old) (T.went tree.new) (VisitDoes OnlyReads (Unit {0})) }
     {
         match SdsName::parse(path) {
             Ok(name) => self.visit_day(tree, path, &name, out, tally),
@@ -141,25 +138,23 @@ impl EntryVisitor for Trier<'_> {
 
     ghost holds = { λ _ _ _. Unit {0} };
 
-    ghost spared = { λ trier. trier.asked.now.root.now };
+    ghost listless = { λ _. Unit {0} };
 
-    ghost laws = { record {
-      calm = λ trier lines out0 out tally0 tally these. these.told.calm;
-      none = λ trier. these_none (IsTrialEntry trier.asked.now.days) (IsTrialLine trier.asked.now.days) IsTally;
-      more = λ trier. these_more (IsTrialEntry trier.asked.now.days) (IsTrialLine trier.asked.now.days) IsTally;
-      refused = λ trier out. (part_none (IsTrialEntry trier.asked.now.days) (IsTrialLine trier.asked.now.days) out, (calm_same out).steady);
-      later = λ trier lines out0 out1 out tally0 tally1 fault these stopped.
-          stops_more (IsTrialEntry trier.asked.now.days) (IsTrialLine trier.asked.now.days) IsTally out0 out1 out tally0 tally1 fault these.told stopped;
-      still = λ trier. reads_none;
-      onward = λ trier. reads_then;
-      unlisted = λ trier. reads_unlisted;
-      same = λ trier. reads_same trier.asked.now.root.now;
-    } };
+    ghost root = { λ trier. trier.asked.now.root.now };
+
+    ghost laws = { reading_laws (λ trier. IsTrialEntry trier.asked.now.days) (λ trier. IsTrialLine trier.asked.now.days) IsTally };
 
     ghost listed = { none_holds };
 
-    fn enter_folder(&self, _folder: &str, _levels: u8) -> Result<(), AllocError> {
-        Ok(())
+    fn enter_folder<T: Tree, O: Sink>(
+        &self,
+        _tree: &mut T,
+        _folder: &str,
+        _levels: u8,
+        _out: &mut O,
+        _tally: &mut Tally,
+    ) -> Result<Option<()>, DeviceFault> {
+        Ok(Some(()))
     }
 
     fn visit_entry<T: Tree, O: Sink>(
@@ -193,7 +188,16 @@ impl EntryVisitor for Trier<'_> {
         tell(self, told_folder(folder), "", refused, reason, out, tally)
     }
 
-    fn leave_folder<T: Tree>(&self, _tree: &mut T, _tally: &mut Tally) {}
+    fn leave_folder<T: Tree, O: Sink>(
+        &self,
+        _tree: &mut T,
+        _folder: &str,
+        _levels: u8,
+        _out: &mut O,
+        _tally: &mut Tally,
+    ) -> Result<(), DeviceFault> {
+        Ok(())
+    }
 }
 
 /// Tells of each entry of the archive.

@@ -6,7 +6,7 @@ use Rattle.msr_folders.proofs.EntryLemmas.{folders_same, for_each_as}
 use Rattle.msr_folders.proofs.ReadingLemmas.{reads_same}
 use Rattle.msr_folders.proofs.VisitLemmas.{these_more}
 use Rattle.msr_folders.proofs.WalkedLemmas.{goes_then}
-use Rattle.msr_folders.specs.Entries.{AreEntriesOf, Entry, Visit, WithoutList, unlisted_in}
+use Rattle.msr_folders.specs.Entries.{AreEntriesOf, Entry, Left, Passed, Visit, WithoutList, unlisted_in}
 use Rattle.msr_folders.specs.Paths.{joined}
 use Rattle.msr_folders.specs.Visits.{IsWalk}
 use Rattle.msr_folders.specs.Walks.{IsSaidBetween, IsWalked, TellsWalk}
@@ -113,6 +113,8 @@ module _ (old from to new : List Step) (before : OnlyReads old from) (after : On
     },
   )
   root_there asked root out reports (WithoutList folder) entries told = told
+  root_there asked root out reports (Passed folder) entries told = told
+  root_there asked root out reports (Left folder) entries told = told
 
   out_there : (asked : Asked) (root out : Path) (visit : Visit) (entries : List JudgedEntry) → IsToldOfOut asked root out from to visit entries → IsToldOfOut asked root out old new visit entries
   out_there asked root out (Entry path kind) entries told = record {
@@ -126,13 +128,15 @@ module _ (old from to new : List Step) (before : OnlyReads old from) (after : On
       (λ one. inl one)
       (λ none. inr (none.0, sym (there_read old from before (joined out folder)) ∙ none.1))
       told
+  out_there asked root out (Passed folder) entries told = told
+  out_there asked root out (Left folder) entries told = told
 
 -- both walks
 both_told : (archive : Verifying) (visits records : List Visit) (entries orphans : List JudgedEntry) (old mid new : List Step)
-    → IsWalked (IsToldOfRoot archive.known archive.folders.root.now archive.folders.out.now archive.folders.reports.now) OnlyReads archive.folders.root.now
-    (λ past. AreEntriesOf past archive.folders.root.now archive.below.items) visits entries old mid
-    → IsWalked (IsToldOfOut archive.known archive.folders.root.now archive.folders.out.now) OnlyReads archive.folders.out.now
-    (λ past. AreEntriesOf past archive.folders.out.now archive.below.items) records orphans mid new
+    → IsWalked (IsToldOfRoot archive.known archive.folders.root.now archive.folders.out.now archive.folders.reports.now) OnlyReads (Unit {0}) archive.folders.root.now
+    (λ past new. AreEntriesOf past archive.folders.root.now archive.below.items) visits entries old mid
+    → IsWalked (IsToldOfOut archive.known archive.folders.root.now archive.folders.out.now) OnlyReads (Unit {0}) archive.folders.out.now
+    (λ past new. AreEntriesOf past archive.folders.out.now archive.below.items) records orphans mid new
     → IsArchiveVerified archive.known archive.folders.root.now archive.folders.out.now archive.folders.reports.now archive.below.items entries orphans old new
 both_told archive visits records entries orphans old mid new one two =
     let root = archive.folders.root.now in
@@ -147,15 +151,15 @@ both_told archive visits records entries orphans old mid new one two =
       are_records = folders_same out old mid (reads_same out old mid one.does) archive.below.items records two.are;
       told_records = for_each_as (IsSaidBetween (IsToldOfOut archive.known root out) OnlyReads mid new) (IsToldOfOut archive.known root out old new) records orphans
           (λ visit part said. out_there old said.from said.to new (reads_then old mid said.from one.does said.before) said.after archive.known root out visit part said.says) two.says;
-      unlisted = two.unlisted ∙ (ap (λ l. l ++ unlisted_in out records) one.unlisted ∙ append_assoc (unlisted_after old) (unlisted_in root visits) (unlisted_in out records));
+      unlisted = two.unlisted tt ∙ (ap (λ l. l ++ unlisted_in out records) (one.unlisted tt) ∙ append_assoc (unlisted_after old) (unlisted_in root visits) (unlisted_in out records));
       reads = reads_then old mid new one.does two.does;
     }
 
 pub archive_told : (archive : Verifying) (before mid after : List Step → Type 0) (out0 out1 out : Device) (tally0 tally1 tally : VerifyTally)
-    → TellsWalk (TellsEntries archive) (IsToldOfRoot archive.known archive.folders.root.now archive.folders.out.now archive.folders.reports.now) OnlyReads archive.folders.root.now
-    (λ past. AreEntriesOf past archive.folders.root.now archive.below.items) before mid out0 out1 tally0 tally1
-    → TellsWalk (TellsEntries archive) (IsToldOfOut archive.known archive.folders.root.now archive.folders.out.now) OnlyReads archive.folders.out.now
-    (λ past. AreEntriesOf past archive.folders.out.now archive.below.items) mid after out1 out tally1 tally
+    → TellsWalk (TellsEntries archive) (IsToldOfRoot archive.known archive.folders.root.now archive.folders.out.now archive.folders.reports.now) OnlyReads (Unit {0}) archive.folders.root.now
+    (λ past new. AreEntriesOf past archive.folders.root.now archive.below.items) before mid out0 out1 tally0 tally1
+    → TellsWalk (TellsEntries archive) (IsToldOfOut archive.known archive.folders.root.now archive.folders.out.now) OnlyReads (Unit {0}) archive.folders.out.now
+    (λ past new. AreEntriesOf past archive.folders.out.now archive.below.items) mid after out1 out tally1 tally
     → TellsArchive archive before after out0 out tally0 tally
 archive_told archive before mid after out0 out1 out tally0 tally1 tally one two = record {
   entries = one.lines;

@@ -10,7 +10,7 @@ use Rattle.msr_tree.specs.declared.kind.FileKind.{FileKind}
 use Rattle.msr_tree.specs.declared.kind.FileKind.TheVariants.{Gone}
 use Rattle.msr_sds.specs.declared.SdsFault.{SdsFault}
 use Rattle.msr_folders.specs.Days.{IsDay, IsNoDay}
-use Rattle.msr_folders.specs.Entries.{AreEntriesOf, Entry, ForEach, Visit, WithoutList, unlisted_in}
+use Rattle.msr_folders.specs.Entries.{AreEntriesOf, Entry, ForEach, Left, Passed, Visit, WithoutList, unlisted_in}
 use Rattle.msr_folders.specs.Paths.{ended, joined, told_folder}
 use Rattle.msr_verify.specs.Day.{DayAnswers, IsCut, IsShownLeast}
 use Rattle.msr_options.specs.declared.known.Known.{Known as Asked}
@@ -106,6 +106,8 @@ IsToldOfRoot asked root out reports old new (Entry path kind) entries = (judgeme
     × IsToldOfEntry (day_places root out reports path) path kind judgement old new
 IsToldOfRoot asked root out reports old new (WithoutList folder) entries =
     entries ≡ record { path = told_folder folder; judgement = known_as asked (told_folder folder) (Refused Listing) } ∷ []
+IsToldOfRoot asked root out reports old new (Passed folder) entries = ⊥
+IsToldOfRoot asked root out reports old new (Left folder) entries = entries ≡ []
 
 -- Of a visit of the records it is told if it is a day that the archive does not have, or a folder that is there.
 pub record IsToldOfRecord (root path : Path) (entries : List JudgedEntry) (old new : List Step) : Type 0 where
@@ -118,6 +120,8 @@ IsToldOfOut asked root out old new (Entry path kind) entries = IsToldOfRecord ro
 IsToldOfOut asked root out old new (WithoutList folder) entries =
     (entries ≡ record { path = told_folder folder; judgement = known_as asked (told_folder folder) (Refused RecordsListing) } ∷ [])
     ⊎ ((entries ≡ []) × (is_there old (joined out folder) ≡ false))
+IsToldOfOut asked root out old new (Passed folder) entries = ⊥
+IsToldOfOut asked root out old new (Left folder) entries = entries ≡ []
 
 -- What was told of an archive, and of its records: of each entry, in order. Nothing was changed.
 pub record IsArchiveVerified (asked : Asked) (root out reports : Path) (below : List (Bor Path)) (entries orphans : List JudgedEntry) (old new : List Step) : Type 0 where

@@ -1,13 +1,13 @@
 //! What is told of an entry of the archive, and of one of its records.
 ghost use Rattle.std.specs.Prelude.{◌≡◌, ◌∷◌, [], IfErr, OnOk};
 ghost use Rattle.msr_devices.specs.Device.{CanCountCall};
-ghost use Rattle.msr_folders.proofs.ReadingLemmas.{none_holds};
+ghost use Rattle.msr_folders.proofs.ReadingLemmas.{none_holds, reading_laws};
 ghost use Rattle.msr_sds.specs.declared.SdsFault.{SdsFault};
 ghost use Rattle.msr_tree.specs.Reads.{OnlyReads};
-ghost use Rattle.msr_verify.specs.VisitorLaws.{judged_laws};
-ghost use Rattle.msr_verify.specs.Entries.{IsJudgementOf, JudgedEntry};
+ghost use Rattle.msr_verify.specs.Entries.{IsJudgementOf, IsVerifyTally, JudgedEntry};
 ghost use Rattle.msr_verify.specs.Files.{IsToldOfOut, IsToldOfRoot, other_judgement};
-ghost use Rattle.msr_verify.specs.Known.{known_as};
+ghost use Rattle.msr_verify.specs.Known.{IsJudgedEntry, known_as};
+ghost use Rattle.msr_verify.specs.Lines.{IsToldLine};
 ghost use Rattle.msr_verify.specs.Walk.{StopsTellingJudged, TellsEntries};
 
 use crate::day::{judge_day, may_have};
@@ -18,7 +18,7 @@ use msr_folders::{EntryVisitor, join, told_folder};
 use msr_options::Verifying;
 use msr_sds::{SdsFault, SdsName};
 use msr_tree::{FileKind, Tree};
-use std::alloc::{AllocError, Global};
+use std::alloc::Global;
 use std::io;
 
 /// Prints the line of an entry, as known if it is, unless it is left out, and counts it. The reason is that of the call of the system that
@@ -79,14 +79,23 @@ impl EntryVisitor for Judging<'_> {
 
     ghost holds = { λ _ _ _. Unit {0} };
 
-    ghost spared = { λ judging. judging.archive.now.folders.root.now };
+    ghost listless = { λ _. Unit {0} };
 
-    ghost laws = { judged_laws (λ judging. judging.archive.now) (λ judging. judging.archive.now.folders.root.now) };
+    ghost root = { λ judging. judging.archive.now.folders.root.now };
+
+    ghost laws = { reading_laws (λ judging. IsJudgedEntry judging.archive.now) (λ judging. IsToldLine judging.archive.now) IsVerifyTally };
 
     ghost listed = { none_holds };
 
-    fn enter_folder(&self, _folder: &str, _levels: u8) -> Result<(), AllocError> {
-        Ok(())
+    fn enter_folder<T: Tree, O: Sink>(
+        &self,
+        _tree: &mut T,
+        _folder: &str,
+        _levels: u8,
+        _out: &mut O,
+        _tally: &mut VerifyTally,
+    ) -> Result<Option<()>, DeviceFault> {
+        Ok(Some(()))
     }
 
     fn visit_entry<T: Tree, O: Sink>(
@@ -148,7 +157,16 @@ impl EntryVisitor for Judging<'_> {
         )
     }
 
-    fn leave_folder<T: Tree>(&self, _tree: &mut T, _tally: &mut VerifyTally) {}
+    fn leave_folder<T: Tree, O: Sink>(
+        &self,
+        _tree: &mut T,
+        _folder: &str,
+        _levels: u8,
+        _out: &mut O,
+        _tally: &mut VerifyTally,
+    ) -> Result<(), DeviceFault> {
+        Ok(())
+    }
 }
 
 /// Searches the records for days that the archive does not have.
@@ -175,14 +193,23 @@ impl EntryVisitor for Searching<'_> {
 
     ghost holds = { λ _ _ _. Unit {0} };
 
-    ghost spared = { λ searching. searching.archive.now.folders.out.now };
+    ghost listless = { λ _. Unit {0} };
 
-    ghost laws = { judged_laws (λ searching. searching.archive.now) (λ searching. searching.archive.now.folders.out.now) };
+    ghost root = { λ searching. searching.archive.now.folders.out.now };
+
+    ghost laws = { reading_laws (λ searching. IsJudgedEntry searching.archive.now) (λ searching. IsToldLine searching.archive.now) IsVerifyTally };
 
     ghost listed = { none_holds };
 
-    fn enter_folder(&self, _folder: &str, _levels: u8) -> Result<(), AllocError> {
-        Ok(())
+    fn enter_folder<T: Tree, O: Sink>(
+        &self,
+        _tree: &mut T,
+        _folder: &str,
+        _levels: u8,
+        _out: &mut O,
+        _tally: &mut VerifyTally,
+    ) -> Result<Option<()>, DeviceFault> {
+        Ok(Some(()))
     }
 
     /// What is no day is not told.
@@ -241,5 +268,14 @@ impl EntryVisitor for Searching<'_> {
         )
     }
 
-    fn leave_folder<T: Tree>(&self, _tree: &mut T, _tally: &mut VerifyTally) {}
+    fn leave_folder<T: Tree, O: Sink>(
+        &self,
+        _tree: &mut T,
+        _folder: &str,
+        _levels: u8,
+        _out: &mut O,
+        _tally: &mut VerifyTally,
+    ) -> Result<(), DeviceFault> {
+        Ok(())
+    }
 }

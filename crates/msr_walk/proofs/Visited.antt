@@ -1,9 +1,9 @@
 -- What a visit tells, put together from what was done.
 use Rattle.std.proofs.Common.{◌≡◌, ◌≢◌, ◌↔◌, ap, ℕ, List, [], ◌∷◌, refl, Result, Ok, Err}
 use Rattle.msr_devices.specs.Device.{Device}
-use Rattle.msr_folders.proofs.WalkedLemmas.{goes_none, goes_then}
+use Rattle.msr_folders.proofs.WalkedLemmas.{goes_none, goes_so, goes_then}
 use Rattle.msr_folders.specs.Days.{IsDay, IsNoDay}
-use Rattle.msr_folders.specs.Entries.{Entry as Found, Visit, WithoutList}
+use Rattle.msr_folders.specs.Entries.{Entry as Found, Left, Visit, WithoutList}
 use Rattle.msr_folders.specs.Walks.{TellsVisit}
 use Rattle.msr_making.specs.declared.answer.DayFault.TheVariants.{Gone as WasGone, Listing}
 use Rattle.msr_options.specs.declared.known.Known.{Known}
@@ -32,7 +32,7 @@ unlisted_entry known path = record { path = path; channel = []; outcome = known_
 
 module _ {P : Type 0} (tally : P → Tally) (asked : Archiving) (root outf reports : Path) where
   abbrev pub TellsOf : Visit → (before after : List Step → Type 0) (out0 out : Device) (of0 of : P) → Type 0
-  TellsOf = TellsVisit (TellsOutcomesOf tally asked) (IsToldOfVisit root outf reports asked) (ChangesWithin outf reports)
+  TellsOf = TellsVisit (TellsOutcomesOf tally asked) (IsToldOfVisit root outf reports asked) (ChangesWithin outf reports) (Unit {0})
 
   -- a day
   pub visited_day : {H E : Type 0} (outcome : H → Outcome) (handled : H) (path channel : Path) (kind : FileKind) (before mid after : List Step → Type 0) (out0 out : Device) (of0 of : P)
@@ -99,6 +99,15 @@ module _ {P : Type 0} (tally : P → Tally) (asked : Archiving) (root outf repor
   visited_unlisted folder path before out0 out of0 of is told =
       told_still (WithoutList folder) (unlisted_entry asked.known path) before out0 out of0 of
       (λ past. ap (λ p. unlisted_entry asked.known p ∷ []) is) told
+
+  -- a folder whose days were visited
+  pub visited_left : (folder : Path) (before after : List Step → Type 0) (out : Device) (of0 of : P) → Goes before after (WorksWithin outf reports)
+      → TellsOutcomesOf tally asked [] out out of0 of → TellsOf (Left folder) before after out out of0 of
+  visited_left folder before after out of0 of goes told = record {
+    lines = [];
+    told = told;
+    goes = goes_so _ _ before after (λ old new went is. record { done = is; says = refl }) goes;
+  }
 
 -- A path that is read as no day.
 module _ (path : List ℕ) (result : Result SdsPath SdsFault)

@@ -68,12 +68,12 @@ removes_only path (Err fault.Failed) old new does = ⊎_elim
 
 module _ (out reports : Path) where
   pub works_none : (past : List Step) → WorksWithin out reports past past
-  works_none past = record { does = within_none out reports past; lists_none = refl }
+  works_none past = record { does = within_none out reports past; lists_none = λ none. refl }
 
   pub works_then : (old mid new : List Step) → WorksWithin out reports old mid → WorksWithin out reports mid new → WorksWithin out reports old new
   works_then old mid new one two = record {
     does = within_then out reports old mid new one.does two.does;
-    lists_none = two.lists_none ∙ one.lists_none;
+    lists_none = λ none. two.lists_none none ∙ one.lists_none none;
   }
 
   -- names within the two folders were changed, and no others
@@ -86,7 +86,7 @@ module _ (out reports : Path) where
       spares = λ name lacks none. changes.spares name (apart name lacks none);
       folders = leaves.folders;
     };
-    lists_none = leaves.unlisted;
+    lists_none = λ none. leaves.unlisted;
   }
 
   pub goes_works_none : (before : List Step → Type 0) → Goes before before (WorksWithin out reports)
@@ -95,19 +95,6 @@ module _ (out reports : Path) where
   pub goes_works_then : (before mid after : List Step → Type 0) → Goes before mid (WorksWithin out reports) → Goes mid after (WorksWithin out reports)
       → Goes before after (WorksWithin out reports)
   goes_works_then before mid after one two = goes_then _ _ _ before mid after works_then one two
-
-  -- a name within one of them is taken away
-  pub works_removed : {T : Type 0} (path given : Path) (result : Result T TreeFault) (before after : List Step → Type 0) → given ≡ path
-      → StandsWithin out path ⊎ StandsWithin reports path → Goes before after (DoesStep (Removed given) result) → Goes before after (WorksWithin out reports)
-  works_removed path given result before after same is goes = goes_so _ _ before after (λ old new went does.
-      works_only (given ∷ []) old new
-      (λ name lacks none. (
-        ⊎_elim
-            (λ one. apart_from out name given (subst (λ p. StandsWithin out p) (sym same) one) lacks)
-            (λ other. apart_from reports name given (subst (λ p. StandsWithin reports p) (sym same) other) none) is,
-        tt,
-      ))
-      (removes_only given result old new does) (leaves_does (Removed given) result old new tt does)) goes
 
 -- lists of days
 pub all_at : {X : Type 0} (P : X → Type 0) (xs : List X) (i : ℕ) (x : X) → AllByRecursion P xs → i < length xs → x ≡ get_or xs i x → P x

@@ -2,7 +2,7 @@
 use Rattle.std.specs.Prelude.{◌≡◌, ◌≢◌, ℕ, List, [], ◌∷◌, IfOk, Result}
 use Rattle.msr_devices.specs.Device.{Device, Takes}
 use Rattle.msr_folders.specs.Days.{IsDay, IsNoDay}
-use Rattle.msr_folders.specs.Entries.{AreEntriesOf, Entry as Found, StandsWithin, Visit, WithoutList}
+use Rattle.msr_folders.specs.Entries.{AreEntriesOf, Entry as Found, Left, Passed, StandsWithin, Visit, WithoutList}
 use Rattle.msr_folders.specs.Paths.{told_folder}
 use Rattle.msr_folders.specs.Visits.{IsWalk, TellsThese}
 use Rattle.msr_folders.specs.Walks.{IsWalked, VisitDoes}
@@ -42,7 +42,7 @@ IsToldThere asked paths outcome old new = IsOutcomeThere asked paths outcome old
 
 -- What is done of an archive: only what stands within two folders is changed, and no folder is listed.
 abbrev pub WorksWithin : (out reports : Path) → (old new : List Step) → Type 0
-WorksWithin out reports = VisitDoes (ChangesWithin out reports)
+WorksWithin out reports = VisitDoes (ChangesWithin out reports) (Unit {0})
 
 abbrev pub WorksFor : Folders → (old new : List Step) → Type 0
 WorksFor folders = WorksWithin folders.out.now folders.reports.now
@@ -107,6 +107,8 @@ IsToldOfVisit root out reports asked old new (WithoutList folder) entries = entr
   channel = [];
   outcome = known_as asked.known (told_folder folder) (Refused Listing);
 } ∷ []
+IsToldOfVisit root out reports asked old new (Passed folder) entries = ⊥
+IsToldOfVisit root out reports asked old new (Left folder) entries = entries ≡ []
 
 -- these entries were told, and are counted in a part of what changes
 abbrev pub TellsOutcomesOf : {P : Type 0} → (P → Tally) → Archiving → List Entry → Device → Device → P → P → Type 0
@@ -116,8 +118,8 @@ TellsOutcomesOf tally asked = TellsThese (IsEntry asked) (IsEntryLine asked) (λ
 abbrev pub IsArchiveTold : Archiving → List Visit → List Entry → (old new : List Step) → Type 0
 IsArchiveTold archive visits entries old new =
     let folders = archive.folders in
-    IsWalked (IsToldOfVisit folders.root.now folders.out.now folders.reports.now archive) (ChangesWithin folders.out.now folders.reports.now)
-    folders.root.now (λ past. AreEntriesOf past folders.root.now archive.below.items) visits entries old new
+    IsWalked (IsToldOfVisit folders.root.now folders.out.now folders.reports.now archive) (ChangesWithin folders.out.now folders.reports.now) (Unit {0})
+    folders.root.now (λ past new. AreEntriesOf past folders.root.now archive.below.items) visits entries old new
 
 -- The whole text was printed: a line for each entry of the archive, in order, but for those that are left out, and then what
 -- all of these sum up to.

@@ -1,6 +1,6 @@
 //! The walk through the folders of an archive.
-ghost use Rattle.std.specs.Prelude.{◌≡◌, ◌≢◌, ◌↔◌, ◌∷◌, [], List, IfErr, IfOk, IsErrOf, OnOk, true};
-ghost use Rattle.msr_devices.specs.Device.{CanCountCall, Device, HasFailed};
+ghost use Rattle.std.specs.Prelude.{◌≡◌, ◌≢◌, ◌↔◌, ◌∷◌, [], IfErr, IfOk, IsErrOf, OnOk, true};
+ghost use Rattle.msr_devices.specs.Device.{CanCountCall, HasFailed};
 ghost use Rattle.msr_sds.specs.SdsPath.{ReadsAsDay};
 ghost use Rattle.msr_folders.specs.Entries.{AreEntriesOf, Entry as Found};
 ghost use Rattle.msr_folders.proofs.WithinLemmas.{within_laws};
@@ -193,7 +193,7 @@ impl<'a, C: Claims> Walker<'a, C> {
         requires count { CanCountCall (O.device out.old) }
         requires days { AreWaitingAt (T.went tree.old) self.now.archive.now.folders.reports.now progress.old.batch.days.items }
         ensures told { (kind : FileKind) → kind ≢ Gone → OnOk result (TellsVisit (TellsOutcomesOf (λ of. of.tally) self.now.archive.now)
-            (IsToldOfVisit self.now.archive.now.folders.root.now self.now.archive.now.folders.out.now self.now.archive.now.folders.reports.now self.now.archive.now) (ChangesWithin self.now.archive.now.folders.out.now self.now.archive.now.folders.reports.now) (Found path.now kind)
+            (IsToldOfVisit self.now.archive.now.folders.root.now self.now.archive.now.folders.out.now self.now.archive.now.folders.reports.now self.now.archive.now) (ChangesWithin self.now.archive.now.folders.out.now self.now.archive.now.folders.reports.now) (Unit {0}) (Found path.now kind)
             (T.went tree.old) (T.went tree.new) (O.device out.old) (O.device out.new) progress.old progress.new) }
         ensures stops { IfErr result (StopsTellingOutcomes self.now.archive.now (O.device out.old) (O.device out.new)) }
         ensures works { Goes (T.went tree.old) (T.went tree.new) (WorksFor self.now.archive.now.folders) }
@@ -226,7 +226,7 @@ impl<'a, C: Claims> Walker<'a, C> {
         requires count { CanCountCall (O.device out.old) }
         requires days { AreWaitingAt (T.went tree.old) self.now.archive.now.folders.reports.now progress.old.batch.days.items }
         ensures told { (kind : FileKind) → kind ≢ Gone → OnOk result (TellsVisit (TellsOutcomesOf (λ of. of.tally) self.now.archive.now)
-            (IsToldOfVisit self.now.archive.now.folders.root.now self.now.archive.now.folders.out.now self.now.archive.now.folders.reports.now self.now.archive.now) (ChangesWithin self.now.archive.now.folders.out.now self.now.archive.now.folders.reports.now) (Found path.now kind)
+            (IsToldOfVisit self.now.archive.now.folders.root.now self.now.archive.now.folders.out.now self.now.archive.now.folders.reports.now self.now.archive.now) (ChangesWithin self.now.archive.now.folders.out.now self.now.archive.now.folders.reports.now) (Unit {0}) (Found path.now kind)
             (T.went tree.old) (T.went tree.new) (O.device out.old) (O.device out.new) progress.old progress.new) }
         ensures stops { IfErr result (StopsTellingOutcomes self.now.archive.now (O.device out.old) (O.device out.new)) }
         ensures works { Goes (T.went tree.old) (T.went tree.new) (WorksFor self.now.archive.now.folders) }
@@ -247,8 +247,8 @@ impl<'a, C: Claims> Walker<'a, C> {
     ) -> Result<(), DeviceFault>
         requires count { CanCountCall (O.device out.old) }
         requires days { AreWaitingAt (T.went tree.old) self.now.archive.now.folders.reports.now progress.old.batch.days.items }
-        ensures told { OnOk result (TellsVisits (TellsOutcomesOf (λ of. of.tally) self.now.archive.now) (IsToldOfVisit self.now.archive.now.folders.root.now self.now.archive.now.folders.out.now self.now.archive.now.folders.reports.now self.now.archive.now) (ChangesWithin self.now.archive.now.folders.out.now self.now.archive.now.folders.reports.now) self.now.archive.now.folders.root.now
-            (λ past. AreEntriesOf past self.now.archive.now.folders.root.now self.now.archive.now.below.items)
+        ensures told { OnOk result (TellsVisits (TellsOutcomesOf (λ of. of.tally) self.now.archive.now) (IsToldOfVisit self.now.archive.now.folders.root.now self.now.archive.now.folders.out.now self.now.archive.now.folders.reports.now self.now.archive.now) (ChangesWithin self.now.archive.now.folders.out.now self.now.archive.now.folders.reports.now) (Unit {0}) self.now.archive.now.folders.root.now
+            (λ past new. AreEntriesOf past self.now.archive.now.folders.root.now self.now.archive.now.below.items)
             (T.went tree.old) (T.went tree.new) (O.device out.old) (O.device out.new) progress.old progress.new) }
         ensures stops { IfErr result (StopsTellingOutcomes self.now.archive.now (O.device out.old) (O.device out.new)) }
         ensures does { Goes (T.went tree.old) (T.went tree.new) (ChangesWithin self.now.archive.now.folders.out.now self.now.archive.now.folders.reports.now) }
@@ -284,21 +284,31 @@ impl<'a, C: Claims> EntryVisitor for Walker<'a, C> {
 
     ghost holds = { λ walker progress past. AllWaitWithin walker.archive.now.folders.reports.now progress.batch.days.items };
 
-    ghost spared = { λ walker. walker.archive.now.folders.root.now };
+    ghost listless = { λ _. Unit {0} };
+
+    ghost root = { λ walker. walker.archive.now.folders.root.now };
 
     ghost laws = { within_laws (λ walker. IsEntry walker.archive.now) (λ walker. IsEntryLine walker.archive.now)
-        (λ entries of. IsTally entries of.tally) (λ walker. walker.archive.now.folders.root.now) (λ walker. walker.archive.now.folders.out.now)
-        (λ walker. walker.archive.now.folders.reports.now) (λ walker. walker.separate) };
+        (λ entries of. IsTally entries of.tally) (λ walker. walker.archive.now.folders.out.now)
+        (λ walker. walker.archive.now.folders.reports.now) };
 
     ghost listed = { record { stays = λ walker progress past place held. held } };
 
-    fn enter_folder(&self, folder: &str, levels: u8) -> Result<bool, AllocError> {
+    fn enter_folder<T: Tree, O: Sink>(
+        &self,
+        _tree: &mut T,
+        folder: &str,
+        levels: u8,
+        _out: &mut O,
+        _progress: &mut Progress<C::Claim>,
+    ) -> Result<Option<bool>, DeviceFault> {
         // No folder above has days.
         if 0 < levels {
-            return Ok(true);
+            return Ok(Some(true));
         }
-        self.claims
-            .stand_apart(self.alloc, self.archive.folders, folder)
+        let folders = self.archive.folders;
+        let apart = self.claims.stand_apart(self.alloc, folders, folder)?;
+        Ok(Some(apart))
     }
 
     fn visit_entry<T: Tree, O: Sink>(
@@ -340,8 +350,16 @@ impl<'a, C: Claims> EntryVisitor for Walker<'a, C> {
         )
     }
 
-    fn leave_folder<T: Tree>(&self, tree: &mut T, progress: &mut Progress<C::Claim>) {
+    fn leave_folder<T: Tree, O: Sink>(
+        &self,
+        tree: &mut T,
+        _folder: &str,
+        _levels: u8,
+        _out: &mut O,
+        progress: &mut Progress<C::Claim>,
+    ) -> Result<(), DeviceFault> {
         progress.batch.settle(tree, self);
+        Ok(())
     }
 }
 

@@ -3,7 +3,8 @@ use Rattle.std.proofs.lemmas.Result.{err_from_is_err_and}
 use Rattle.msr_folders.proofs.WalkedLemmas.{on_ok_as}
 use Rattle.msr_folders.specs.Days.{IsNoDay}
 use Rattle.msr_verify.proofs.EntriesFound.{judged, none_told}
-use Rattle.msr_verify.proofs.VisitedLemmas.{no_day, other_is, visit_by, visited_day, visited_other}
+use Rattle.msr_folders.proofs.ReadingLemmas.{visit_by}
+use Rattle.msr_verify.proofs.VisitedLemmas.{no_day, other_is, visited_day, visited_other}
 use Rattle.msr_verify.specs.Files.{JudgesDay, day_places}
 use Rattle.msr_verify.proofs.visitors.JudgingEntryVisitor.visit_entry.Goals as goal
 
