@@ -13,13 +13,13 @@ use Rattle.msr_tool.specs.declared.fault.ToolFault.TheVariants as fault
 use Rattle.std.specs.declared.alloc.AllocError.{AllocError}
 use Rattle.msr_tree.specs.declared.tree.TreeFault.{TreeFault}
 use Rattle.msr_tree.specs.declared.tree.TreeFault.TheVariants as call
-use Rattle.msr_making.specs.Day.{CountAnswers, HasAnswer, IsDayOutcome, IsDone, IsReadOrMemory, IsRepackedDay, RepacksDay, VerifiedAnswers}
+use Rattle.msr_making.specs.Day.{CountAnswers, HasAnswer, IsDayOutcome, IsDone, IsReadOrMemory, IsRepackedDay, RepacksDay, RepacksPlaced, VerifiedAnswers}
 use Rattle.msr_making.specs.Ending.{IsRepackedAs, NamedAs, WasHeld}
 use Rattle.msr_making.specs.Shrinking.{IsStopOfReading, counts_of}
 use Rattle.msr_making.specs.Verifying.{WasVerifiedAs}
 use Rattle.msr_making.specs.Writing.{IsFit, WasRepacked}
 use Rattle.msr_making.specs.declared.answer.DayFault.{DayFault}
-use Rattle.msr_making.specs.declared.answer.DayFault.TheVariants.{CannotOpen, Changed, ClaimedByAnother, Differs, Larger, NotShown, Tool}
+use Rattle.msr_making.specs.declared.answer.DayFault.TheVariants.{CannotOpen, Changed, ClaimedByAnother, Differs, Larger, Misplaced, NotShown, Tool}
 use Rattle.msr_making.specs.declared.answer.DayOutcome.{DayOutcome}
 use Rattle.msr_making.specs.declared.answer.DayOutcome.TheVariants as outcomes
 use Rattle.msr_making.specs.declared.answer.Repacked.{Repacked}
@@ -30,6 +30,19 @@ pub day_stops : (choice : Choice) (source records0 records text0 text : Device) 
     Reports choice source records0 records text0 text (Err why)
     → RepacksDay choice source records0 records text0 text (Err why)
 day_stops choice source records0 records text0 text why does = record {
+  input = does.input;
+  written = does.written;
+  told = does.told;
+  left = does.left;
+  wrote = does.wrote;
+  told_all = does.told_all;
+  answers = does.answers;
+}
+
+pub placed_stops : (asked : DayOptions) (source records0 records text0 text : Device) (why : ToolFault) →
+    Reports asked.options source records0 records text0 text (Err why)
+    → RepacksPlaced asked source records0 records text0 text (Err (Tool why))
+placed_stops asked source records0 records text0 text why does = record {
   input = does.input;
   written = does.written;
   told = does.told;
@@ -101,6 +114,7 @@ day_unkept asked repacked _ does check is = absurd is
 pub unfit_as : (asked : DayOptions) (stop : Stop) → WasRepacked asked (Err stop) → IsRepackedAs asked (Err stop)
 unfit_as asked (Refused (CannotOpen unopened)) is = tt
 unfit_as asked (Refused (Larger repacked)) is = is
+unfit_as asked (Refused (Misplaced found)) is = is
 unfit_as asked (Refused (Tool why)) is = is
 unfit_as asked (Refused why) is = absurd is
 unfit_as asked Memory is = tt

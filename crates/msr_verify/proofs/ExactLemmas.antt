@@ -19,7 +19,7 @@ use Rattle.msr_verify.specs.Exact.{VerifiedIsExact}
 use Rattle.msr_verify.specs.Files.{AnswerThere, DayPlaces}
 use Rattle.msr_verify.specs.declared.judging.Finding.TheVariants as finding
 use Rattle.msr_verify.specs.declared.judging.VerifyFault.TheVariants.{File, Records, ReportLine, ReportRead, ReportMemory}
-use Rattle.msr_verify.specs.declared.judgement.Judgement.TheVariants.{Verified, InPlace, Missing, NotShown, Differs, Refused, Skipped, Orphan, Known, KnownMissing}
+use Rattle.msr_verify.specs.declared.judgement.Judgement.TheVariants.{Verified, InPlace, Missing, NotShown, Differs, Misplaced, Refused, Skipped, Orphan, Known, KnownMissing}
 use Rattle.msr_verify.specs.declared.judgement.Refusal.TheVariants.{FileUnopened, RecordsUnopened, ReportUnopened, SameFile, Listing, RecordsListing, Day}
 
 same_bytes : (one other : List ℕ) → Some one ≡ Some other → one ≡ other
@@ -128,6 +128,7 @@ exactly places (Refused ReportUnopened) old new is whole = inr (inl is)
 exactly places (Refused Listing) old new is whole = absurd is
 exactly places (Refused RecordsListing) old new is whole = absurd is
 exactly places (Skipped fault) old new is whole = absurd is
+exactly places (Misplaced found) old new is whole = absurd is
 exactly places Orphan old new is whole = absurd is
 exactly places (Known refusal) old new is whole = absurd is
 exactly places KnownMissing old new is whole = absurd is

@@ -8,7 +8,7 @@ use Rattle.msr_verify.specs.declared.judging.Finding.{Finding}
 use Rattle.msr_verify.specs.declared.judging.Finding.TheVariants as finding
 use Rattle.msr_verify.specs.declared.judging.VerifyFault.{VerifyFault}
 use Rattle.msr_verify.specs.declared.judgement.Judgement.{Judgement}
-use Rattle.msr_verify.specs.declared.judgement.Judgement.TheVariants.{Verified, InPlace, Missing, NotShown, Differs, Refused, Skipped, Orphan, Known, KnownMissing}
+use Rattle.msr_verify.specs.declared.judgement.Judgement.TheVariants.{Verified, InPlace, Missing, NotShown, Differs, Misplaced, Refused, Skipped, Orphan, Known, KnownMissing}
 use Rattle.msr_verify.specs.declared.judgement.Refusal.TheVariants.{FileUnopened, Listing, RecordsListing, Day}
 use Rattle.msr_verify.specs.declared.tally.VerifyTally.{VerifyTally}
 
@@ -89,6 +89,7 @@ is_different _ = false
 
 abbrev pub is_judged_refused : Judgement → Bool
 is_judged_refused (Refused refusal) = true
+is_judged_refused (Misplaced found) = true
 is_judged_refused _ = false
 
 abbrev pub is_judged_skipped : Judgement → Bool

@@ -4,15 +4,17 @@ ghost use Rattle.msr_devices.specs.Device.{CanCountCall};
 ghost use Rattle.msr_devices.specs.declared.fault.DeviceFault.TheVariants.{Memory};
 ghost use Rattle.msr_tree.specs.Calls.{Goes};
 ghost use Rattle.msr_verify.specs.Entries.{IsJudgementOfDay};
-ghost use Rattle.msr_verify.specs.Files.{JudgesDay, day_places};
-ghost use Rattle.msr_verify.specs.Opening.{AreTwoFiles, JudgesAlone, MayHave, OpensAlone, OpensDay, OpensFile, RefusesAs, RefusesDay, places_at};
+ghost use Rattle.msr_verify.specs.Files.{JudgesDay, JudgesNamed, day_places};
+ghost use Rattle.msr_verify.specs.Opening.{AreTwoFiles, JudgesAlone, JudgesSegments, MayHave, OpensAlone, OpensDay, OpensFile, RefusesAs, RefusesDay, places_at};
 ghost use Rattle.msr_verify.specs.declared.judgement.Refusal.TheVariants.{SameFile};
 
 use crate::judgement::{Judgement, Refusal, judgement_alone, judgement_of};
-use crate::judging::{verify_alone, verify_day};
+use crate::judging::{report_fault, verify_alone, verify_day};
+use msr_belonging::misplaced;
 use msr_devices::{DeviceFault, Source};
 use msr_folders::{ended, join};
-use msr_options::Folders;
+use msr_options::{Folders, Names};
+use msr_report_reader::read_report;
 use msr_tree::{Tree, TreeFault};
 use std::alloc::Global;
 
@@ -46,8 +48,61 @@ pub(crate) struct OpenDay<R: Source> {
     report: R,
 }
 
+/// What the files of the day with this path show. If it is asked for, its segments have to belong to it.
+pub(crate) fn judge_named<T: Tree>(
+    tree: &mut T,
+    alloc: Global,
+    folders: Folders<'_>,
+    path: &str,
+    names: Names,
+) -> Result<Judgement, DeviceFault>
+    ensures told { IfOk result IsJudgementOfDay }
+    ensures err { IfErr result (λ fault. fault ≡ Memory) }
+    ensures goes { Goes (T.went tree.old) (T.went tree.new)
+        (JudgesNamed names (day_places folders.entry.root.now folders.entry.out.now folders.entry.reports.now path.now) result) }
+{
+    let judgement = judge_day(tree, alloc, folders, path)?;
+    let Names::Of(_) = names else {
+        return Ok(judgement);
+    };
+    match judgement {
+        Judgement::Verified | Judgement::InPlace => {
+            let report = join(alloc, folders.reports, path)?;
+            let report = ended(alloc, report.as_str(), ".txt")?;
+            judge_segments(tree, alloc, report.as_str(), names, judgement)
+        }
+        _ => Ok(judgement),
+    }
+}
+
+/// The same judgement of a day that is verified or in place, unless the segments that its report tells do not belong to it.
+fn judge_segments<T: Tree>(
+    tree: &mut T,
+    alloc: Global,
+    report: &str,
+    names: Names,
+    judgement: Judgement,
+) -> Result<Judgement, DeviceFault>
+    ensures told { IsJudgementOfDay judgement → IfOk result IsJudgementOfDay }
+    ensures err { IfErr result (λ fault. fault ≡ Memory) }
+    ensures goes { Goes (T.went tree.old) (T.went tree.new) (JudgesSegments names report.now judgement result) }
+{
+    let mut source = match open(tree, report, Refusal::ReportUnopened) {
+        Ok(source) => source,
+        Err(Unjudged::Refused(refusal)) => return Ok(Judgement::Refused(refusal)),
+        Err(Unjudged::Memory) => return Err(DeviceFault::Memory),
+    };
+    match read_report(alloc, &mut source) {
+        Ok(report) => match misplaced(&report, names) {
+            Some(found) => Ok(Judgement::Misplaced(found)),
+            None => Ok(judgement),
+        },
+        Err(fault) => Ok(Judgement::Refused(Refusal::Day(report_fault(fault)))),
+    }
+}
+
 /// What the files of the day with this path show.
-pub(crate) fn judge_day<T: Tree>(
+fn judge_day<T: Tree>(
     tree: &mut T,
     alloc: Global,
     folders: Folders<'_>,

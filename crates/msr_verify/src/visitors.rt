@@ -6,16 +6,17 @@ ghost use Rattle.msr_sds.specs.declared.SdsFault.{SdsFault};
 ghost use Rattle.msr_tree.specs.Reads.{OnlyReads};
 ghost use Rattle.msr_verify.specs.VisitorLaws.{judged_laws};
 ghost use Rattle.msr_verify.specs.Entries.{IsJudgementOf, JudgedEntry};
-ghost use Rattle.msr_verify.specs.Files.{IsToldOfOut, IsToldOfRoot, other_judgement};
+ghost use Rattle.msr_verify.specs.Files.{IsToldOfOut, IsToldOfRoot, names_asked, other_judgement};
 ghost use Rattle.msr_verify.specs.Known.{known_as};
 ghost use Rattle.msr_verify.specs.Walk.{StopsTellingJudged, TellsEntries};
 
-use crate::day::{judge_day, may_have};
+use crate::day::{judge_named, may_have};
 use crate::judgement::{Judgement, Refusal};
 use crate::tally::VerifyTally;
+use msr_belonging::day_name;
 use msr_devices::{DeviceFault, Sink, write_all};
 use msr_folders::{EntryVisitor, join, told_folder};
-use msr_options::Verifying;
+use msr_options::{Names, Verifying};
 use msr_sds::{SdsFault, SdsName};
 use msr_tree::{FileKind, Tree};
 use std::alloc::Global;
@@ -73,7 +74,7 @@ impl EntryVisitor for Judging<'_> {
 
     ghost stops = { λ judging. StopsTellingJudged judging.archive.now };
 
-    ghost says = { λ judging. IsToldOfRoot judging.archive.now.known judging.archive.now.folders.root.now judging.archive.now.folders.out.now judging.archive.now.folders.reports.now };
+    ghost says = { λ judging. IsToldOfRoot judging.archive.now.known (names_asked judging.archive.now.names) judging.archive.now.folders.root.now judging.archive.now.folders.out.now judging.archive.now.folders.reports.now };
 
     ghost does = { λ _. OnlyReads };
 
@@ -108,9 +109,10 @@ impl EntryVisitor for Judging<'_> {
         tally: &mut VerifyTally,
     ) -> Result<(), DeviceFault> {
         match SdsName::parse(path) {
-            Ok(_) => {
+            Ok(name) => {
                 let archive = self.archive;
-                let judgement = judge_day(tree, self.alloc, archive.folders, path)?;
+                let names = Names::asked(archive.names).for_day(day_name(&name));
+                let judgement = judge_named(tree, self.alloc, archive.folders, path, names)?;
                 let reason = tree.reason();
                 tell(
                     self.alloc,
