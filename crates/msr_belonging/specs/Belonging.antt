@@ -63,6 +63,6 @@ IsFoundOf name segments None = Belong name segments
 IsFoundOf name segments (Some found) = AreMisplaced name segments found
 
 -- what is found of segments of which this is asked: nothing, if any name will do
-abbrev pub IsFoundFor : Names → List ListedSegment → Option DayName → Type 0
-IsFoundFor (Of name) segments found = IsFoundOf name segments found
-IsFoundFor names segments found = found ≡ None
+abbrev pub IsFoundAsAsked : Names → List ListedSegment → Option DayName → Type 0
+IsFoundAsAsked (Of name) segments found = IsFoundOf name segments found
+IsFoundAsAsked names segments found = found ≡ None

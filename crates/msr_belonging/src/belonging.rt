@@ -2,7 +2,7 @@
 ghost use Rattle.std.specs.Prelude.{◌≡◌, IfNone, IfSome, IsTrue, All, false, true};
 ghost use Rattle.msr_time.specs.Instant.{IsInstant};
 ghost use Rattle.msr_report.specs.Proper.{IsProper, IsProperLine};
-ghost use Rattle.msr_belonging.specs.Belonging.{HaveSampleOn, IsFirstOfAnother, IsFoundFor, IsFoundOf, IsNameOf, told_segments, told_segment};
+ghost use Rattle.msr_belonging.specs.Belonging.{HaveSampleOn, IsFirstOfAnother, IsFoundAsAsked, IsFoundOf, IsNameOf, told_segments, told_segment};
 ghost use Rattle.msr_belonging.specs.Names.{IsOfChannel};
 ghost use Rattle.msr_belonging.specs.Times.{HasSampleOn};
 
@@ -86,7 +86,7 @@ fn found_of(name: &DayName, lines: &[SegmentLine]) -> Option<DayName>
 /// By which segment those of a report do not belong to the day that is asked for, if they do not.
 pub fn misplaced(report: &Report, names: Names) -> Option<DayName>
     requires { IsProper report.now }
-    ensures { IsFoundFor names (told_segments report.now.segments.items) result }
+    ensures { IsFoundAsAsked names (told_segments report.now.segments.items) result }
 {
     match names {
         Names::Of(name) => found_of(&name, report.segments.as_slice()),

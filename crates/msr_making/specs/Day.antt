@@ -18,7 +18,7 @@ use Rattle.msr_tool.specs.Settings.{settings_of}
 use Rattle.msr_options.specs.Choice.{Choice, as_strict, record_size}
 use Rattle.msr_options.specs.declared.days.DayOptions.{DayOptions}
 use Rattle.msr_options.specs.declared.names.DayName.{DayName}
-use Rattle.msr_belonging.specs.Belonging.{IsFoundFor, told_segments}
+use Rattle.msr_belonging.specs.Belonging.{IsFoundAsAsked, told_segments}
 use Rattle.msr_tool.specs.Tasks.{IsReported, ReportAnswers}
 use Rattle.msr_tool.specs.declared.fault.ToolFault.{ToolFault}
 use Rattle.msr_tool.specs.declared.fault.ToolFault.TheVariants.{Memory, Read}
@@ -59,13 +59,13 @@ CountAnswers choice input written told (Err fault) = ReportAnswers choice input 
 -- The input was repacked with these counts, and its segments belong to the day if that is asked for.
 pub record IsPlaced (asked : DayOptions) (input records told : List ℕ) (repacked : Repacked) : Type 0 where
   pub counted : IsCounted asked.options input records told repacked
-  pub belong : IsFoundFor asked.names (told_segments counted.report.segments.items) None
+  pub belong : IsFoundAsAsked asked.names (told_segments counted.report.segments.items) None
 
 -- It was repacked, and it was asked for that its segments belong to the day: they do not, by the one of this name.
 pub record IsMisplaced (asked : DayOptions) (input records told : List ℕ) (found : DayName) : Type 0 where
   pub report : Report
   pub reported : IsReported asked.options input records told report
-  pub is : IsFoundFor asked.names (told_segments report.segments.items) (Some found)
+  pub is : IsFoundAsAsked asked.names (told_segments report.segments.items) (Some found)
 
 -- what an answer says of a day
 abbrev pub PlacedAnswers : DayOptions → (input written told : List ℕ) → Result Repacked DayFault → Type 0
@@ -263,7 +263,7 @@ pub record IsReportKept (asked : DayOptions) (repacked : Repacked) : Type 0 wher
   pub kinds : report.kinds ≡ asked.options.kinds
   pub tolerance : report.tolerance ≡ asked.options.tolerance
   pub agree : IsTrue asked.options.strict → report.counts.mismatched ≡ 0
-  pub belong : IsFoundFor asked.names (told_segments report.segments.items) None
+  pub belong : IsFoundAsAsked asked.names (told_segments report.segments.items) None
   pub read : repacked.read ≡ report.counts.read
   pub written : repacked.written ≡ records_in report.segments.items
   pub bytes : HasBytesWritten asked.options repacked

@@ -5,7 +5,7 @@ use Rattle.msr_folders.specs.Totals.{saturated}
 use Rattle.msr_options.specs.declared.days.DayOptions.{DayOptions}
 use Rattle.msr_options.specs.declared.hint.Side.{Side}
 use Rattle.msr_options.specs.declared.names.DayName.{DayName}
-use Rattle.msr_belonging.specs.Belonging.{IsFoundFor, told_segments}
+use Rattle.msr_belonging.specs.Belonging.{IsFoundAsAsked, told_segments}
 use Rattle.msr_options.specs.declared.hint.Side.TheVariants.{Records, Report as OfReport}
 use Rattle.msr_report.specs.declared.report.Report.{Report}
 use Rattle.msr_report_reader.specs.Reading.{IsReadFrom}
@@ -27,7 +27,7 @@ pub record IsRepackOf (asked : DayOptions) (paths : DayPaths) (repacked : Repack
   pub input : List ℕ
   pub has_input : seen old paths.input ≡ Some input
   pub answers : CountAnswers asked.options input records text (Ok repacked)
-  pub belong : IsFoundFor asked.names (told_segments answers.report.segments.items) None
+  pub belong : IsFoundAsAsked asked.names (told_segments answers.report.segments.items) None
   pub bytes_read : repacked.bytes_read ≡ length input
 
 -- An earlier walk left records of a day, and a report that tells so many samples.

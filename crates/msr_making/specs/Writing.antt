@@ -6,7 +6,7 @@ use Rattle.msr_tree.specs.Folders.{ChangesFiles}
 use Rattle.msr_tree.specs.Steps.{Path, Step, failures, seen}
 use Rattle.msr_naming.specs.Promise.{AreReady}
 use Rattle.msr_naming.specs.declared.files.DayFiles.{DayFiles}
-use Rattle.msr_belonging.specs.Belonging.{IsFoundFor, told_segments}
+use Rattle.msr_belonging.specs.Belonging.{IsFoundAsAsked, told_segments}
 use Rattle.msr_making.specs.Day.{CountAnswers, GotSmaller, HasAnswer, IsLarger, IsMisplaced, WasMisplaced}
 use Rattle.msr_making.specs.Looking.{IsSightAt}
 use Rattle.msr_making.specs.Parts.{ArePartsApart, part_paths}
@@ -36,14 +36,14 @@ WasRepacked asked (Err Memory) = ⊤
 -- their segments belong to the day if that is.
 pub record IsFitOf (asked : DayOptions) (bytes_read : ℕ) (input records text : List ℕ) (repacked : Repacked) : Type 0 where
   pub counted : CountAnswers asked.options input records text (Ok repacked)
-  pub belong : IsFoundFor asked.names (told_segments counted.report.segments.items) None
+  pub belong : IsFoundAsAsked asked.names (told_segments counted.report.segments.items) None
   pub read : repacked.bytes_read ≡ bytes_read
   pub smaller : IsTrue asked.only_smaller → GotSmaller repacked
 
 -- They were repacked, and did not get smaller.
 pub record IsLargerOf (asked : DayOptions) (bytes_read : ℕ) (input records text : List ℕ) (repacked : Repacked) : Type 0 where
   pub counted : CountAnswers asked.options input records text (Ok repacked)
-  pub belong : IsFoundFor asked.names (told_segments counted.report.segments.items) None
+  pub belong : IsFoundAsAsked asked.names (told_segments counted.report.segments.items) None
   pub read : repacked.bytes_read ≡ bytes_read
   pub only_smaller : IsTrue asked.only_smaller
   pub larger : ¬ (GotSmaller repacked)

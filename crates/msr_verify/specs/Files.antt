@@ -11,10 +11,10 @@ use Rattle.msr_tree.specs.declared.kind.FileKind.TheVariants.{Gone}
 use Rattle.msr_options.specs.Days.{names_for}
 use Rattle.msr_options.specs.declared.names.DayName.{DayName}
 use Rattle.msr_options.specs.declared.names.Names.{Names}
-use Rattle.msr_options.specs.declared.names.Names.TheVariants.{Any, Own}
+use Rattle.msr_options.specs.declared.names.Names.TheVariants.{Any, Of, Own}
 use Rattle.msr_report.specs.declared.report.Report.{Report}
 use Rattle.msr_report_reader.specs.Reading.{IsReadFrom}
-use Rattle.msr_belonging.specs.Belonging.{IsFoundFor, told_segments}
+use Rattle.msr_belonging.specs.Belonging.{IsFoundAsAsked, told_segments}
 use Rattle.msr_belonging.specs.Names.{day_name}
 use Rattle.msr_sds.specs.SdsPath.{ReadsAsDay, SdsPath}
 use Rattle.msr_sds.specs.declared.SdsFault.{SdsFault}
@@ -110,7 +110,7 @@ pub record TellsSegments (names : Names) (place : Path) (found : Option DayName)
   pub report : Report
   pub has_report : seen past place ≡ Some text
   pub read : IsReadFrom report text
-  pub is : IsFoundFor names (told_segments report.segments.items) found
+  pub is : IsFoundAsAsked names (told_segments report.segments.items) found
 
 -- What a judgement says of the files of a day of which it may be asked that its segments belong to it: one that would be
 -- verified or in place is misplaced exactly if they do not.
@@ -120,6 +120,12 @@ IsNamedThere names places InPlace old new = IsJudgementThere places InPlace old 
 IsNamedThere names places (Misplaced found) old new =
     (IsJudgementThere places Verified old new ⊎ IsJudgementThere places InPlace old new) × TellsSegments names places.report (Some found) old
 IsNamedThere names places judgement old new = IsJudgementThere places judgement old new
+
+-- whether that is asked of a day with this judgement
+abbrev pub asks_again : Names → Judgement → Bool
+asks_again (Of name) Verified = true
+asks_again (Of name) InPlace = true
+asks_again names judgement = false
 
 -- what is answered of such a day
 pub record JudgesNamed (names : Names) (places : DayPlaces) (result : Result Judgement DeviceFault) (old new : List Step) : Type 0 where

@@ -1,10 +1,10 @@
 //! The three files of a day: which they are, and what they show.
-ghost use Rattle.std.specs.Prelude.{◌≡◌, IfErr, IfOk};
+ghost use Rattle.std.specs.Prelude.{◌≡◌, IfErr, IfOk, true};
 ghost use Rattle.msr_devices.specs.Device.{CanCountCall};
 ghost use Rattle.msr_devices.specs.declared.fault.DeviceFault.TheVariants.{Memory};
 ghost use Rattle.msr_tree.specs.Calls.{Goes};
 ghost use Rattle.msr_verify.specs.Entries.{IsJudgementOfDay};
-ghost use Rattle.msr_verify.specs.Files.{JudgesDay, JudgesNamed, day_places};
+ghost use Rattle.msr_verify.specs.Files.{JudgesDay, JudgesNamed, asks_again, day_places};
 ghost use Rattle.msr_verify.specs.Opening.{AreTwoFiles, JudgesAlone, JudgesSegments, MayHave, OpensAlone, OpensDay, OpensFile, RefusesAs, RefusesDay, places_at};
 ghost use Rattle.msr_verify.specs.declared.judgement.Refusal.TheVariants.{SameFile};
 
@@ -49,7 +49,7 @@ pub(crate) struct OpenDay<R: Source> {
 }
 
 /// What the files of the day with this path show. If it is asked for, its segments have to belong to it.
-pub(crate) fn judge_named<T: Tree>(
+pub(crate) fn judge_day<T: Tree>(
     tree: &mut T,
     alloc: Global,
     folders: Folders<'_>,
@@ -61,21 +61,47 @@ pub(crate) fn judge_named<T: Tree>(
     ensures goes { Goes (T.went tree.old) (T.went tree.new)
         (JudgesNamed names (day_places folders.entry.root.now folders.entry.out.now folders.entry.reports.now path.now) result) }
 {
-    let judgement = judge_day(tree, alloc, folders, path)?;
-    let Names::Of(_) = names else {
-        return Ok(judgement);
+    let file = join(alloc, folders.root, path)?;
+    let records = join(alloc, folders.out, path)?;
+    let report = join(alloc, folders.reports, path)?;
+    let report = ended(alloc, report.as_str(), ".txt")?;
+    let places = Places {
+        file: file.as_str(),
+        records: records.as_str(),
+        report: report.as_str(),
     };
-    match judgement {
-        Judgement::Verified | Judgement::InPlace => {
-            let report = join(alloc, folders.reports, path)?;
-            let report = ended(alloc, report.as_str(), ".txt")?;
-            judge_segments(tree, alloc, report.as_str(), names, judgement)
-        }
-        _ => Ok(judgement),
+    judge_named(tree, alloc, places, names)
+}
+
+/// The same of the files in these places.
+fn judge_named<T: Tree>(
+    tree: &mut T,
+    alloc: Global,
+    places: Places<'_>,
+    names: Names,
+) -> Result<Judgement, DeviceFault>
+    ensures told { IfOk result IsJudgementOfDay }
+    ensures err { IfErr result (λ fault. fault ≡ Memory) }
+    ensures goes { Goes (T.went tree.old) (T.went tree.new) (JudgesNamed names (places_at places.entry) result) }
+{
+    let judgement = judge_at(tree, alloc, places)?;
+    if !asks_again(names, judgement) {
+        return Ok(judgement);
+    }
+    judge_segments(tree, alloc, places.report, names, judgement)
+}
+
+/// Whether it is asked of a day with this judgement whether its segments belong to it.
+fn asks_again(names: Names, judgement: Judgement) -> bool
+    ensures { result ≡ asks_again names judgement }
+{
+    match names {
+        Names::Of(_) => matches!(judgement, Judgement::Verified | Judgement::InPlace),
+        Names::Any | Names::Own => false,
     }
 }
 
-/// The same judgement of a day that is verified or in place, unless the segments that its report tells do not belong to it.
+/// The same judgement of such a day, unless the segments that its report tells do not belong to it.
 fn judge_segments<T: Tree>(
     tree: &mut T,
     alloc: Global,
@@ -85,7 +111,8 @@ fn judge_segments<T: Tree>(
 ) -> Result<Judgement, DeviceFault>
     ensures told { IsJudgementOfDay judgement → IfOk result IsJudgementOfDay }
     ensures err { IfErr result (λ fault. fault ≡ Memory) }
-    ensures goes { Goes (T.went tree.old) (T.went tree.new) (JudgesSegments names report.now judgement result) }
+    ensures goes { asks_again names judgement ≡ true →
+        Goes (T.went tree.old) (T.went tree.new) (JudgesSegments names report.now judgement result) }
 {
     let mut source = match open(tree, report, Refusal::ReportUnopened) {
         Ok(source) => source,
@@ -99,30 +126,6 @@ fn judge_segments<T: Tree>(
         },
         Err(fault) => Ok(Judgement::Refused(Refusal::Day(report_fault(fault)))),
     }
-}
-
-/// What the files of the day with this path show.
-fn judge_day<T: Tree>(
-    tree: &mut T,
-    alloc: Global,
-    folders: Folders<'_>,
-    path: &str,
-) -> Result<Judgement, DeviceFault>
-    ensures told { IfOk result IsJudgementOfDay }
-    ensures err { IfErr result (λ fault. fault ≡ Memory) }
-    ensures goes { Goes (T.went tree.old) (T.went tree.new)
-        (JudgesDay (day_places folders.entry.root.now folders.entry.out.now folders.entry.reports.now path.now) result) }
-{
-    let file = join(alloc, folders.root, path)?;
-    let records = join(alloc, folders.out, path)?;
-    let report = join(alloc, folders.reports, path)?;
-    let report = ended(alloc, report.as_str(), ".txt")?;
-    let places = Places {
-        file: file.as_str(),
-        records: records.as_str(),
-        report: report.as_str(),
-    };
-    judge_at(tree, alloc, places)
 }
 
 /// What the files in these places show.

@@ -10,7 +10,7 @@ ghost use Rattle.msr_verify.specs.Files.{IsToldOfOut, IsToldOfRoot, names_asked,
 ghost use Rattle.msr_verify.specs.Known.{known_as};
 ghost use Rattle.msr_verify.specs.Walk.{StopsTellingJudged, TellsEntries};
 
-use crate::day::{judge_named, may_have};
+use crate::day::{judge_day, may_have};
 use crate::judgement::{Judgement, Refusal};
 use crate::tally::VerifyTally;
 use msr_belonging::day_name;
@@ -112,7 +112,7 @@ impl EntryVisitor for Judging<'_> {
             Ok(name) => {
                 let archive = self.archive;
                 let names = Names::asked(archive.names).for_day(day_name(&name));
-                let judgement = judge_named(tree, self.alloc, archive.folders, path, names)?;
+                let judgement = judge_day(tree, self.alloc, archive.folders, path, names)?;
                 let reason = tree.reason();
                 tell(
                     self.alloc,

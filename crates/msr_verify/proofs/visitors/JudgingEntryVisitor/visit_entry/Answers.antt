@@ -24,7 +24,7 @@ pub returns-in_ok-judgement-in-Ok-clause-told : goal.returns-in_ok-judgement-in-
 returns-in_ok-judgement-in-Ok-clause-told g c =
     let folders = c.args.self.now.archive.now.folders in
     on_ok_as c.tell.result (λ told. visited_day c.args.self.now.archive.now folders.root.now folders.out.now folders.reports.now c.args.path.now c.args.kind c.in_ok-judgement-in-Ok.judgement
-    (g.T.Tree.went c.args.tree.now) (g.T.Tree.went c.judge_named.new.tree) (g.O.Sink.device c.args.out.now) (g.O.Sink.device c.tell.new.out)
+    (g.T.Tree.went c.args.tree.now) (g.T.Tree.went c.judge_day.new.tree) (g.O.Sink.device c.args.out.now) (g.O.Sink.device c.tell.new.out)
     c.args.tally.now c.tell.new.tally (c.in-Ok.name.now, c.in-Ok.ensures.found) c.in_ok-judgement-in-Ok.ensures.goes told)
     (c.tell.ensures.told (judged _ c.in_ok-judgement-in-Ok.judgement (c.in-Ok.name.now, c.in-Ok.ensures.found) c.in_ok-judgement-in-Ok.ensures.told))
 
