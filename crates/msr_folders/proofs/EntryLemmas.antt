@@ -5,7 +5,7 @@ use Rattle.std.specs.Borrow.{Bor}
 use Rattle.msr_tree.specs.Listing.{IsListing, has_folder, is_there, kind_now, path_in}
 use Rattle.msr_tree.specs.Steps.{Path, Step}
 use Rattle.msr_tree.specs.declared.kind.FileKind.TheVariants.{Folder, Gone, Other}
-use Rattle.msr_folders.specs.Entries.{AreEntriesBelow, AreEntries, AreOfEntry, AreOfFolder, AreEntriesOf, AreEntriesSince, Entry, ForEach, IsAlone, IsGoneThrough, IsNow, IsSameWithin, Left, Passed, StandsWithin, Visit, WithoutList, unlisted_in}
+use Rattle.msr_folders.specs.Entries.{AreEntriesBelow, AreEntries, AreOfEntry, AreOfFolder, AreEntriesOf, AreEntriesSince, Entry, ForEach, IsAlone, IsGoneThrough, IsMoment, IsNow, IsSameWithin, Left, Passed, StandsWithin, Visit, WithoutList, unlisted_in}
 use Rattle.msr_folders.specs.Paths.{below, joined}
 
 pub for_each_append : {E X : Type 0} (Are : E → List X → Type 0) (items more : List E) (all parts : List X)
@@ -130,16 +130,29 @@ module _ (root : Path) (One Two : (past at : List Step) → Type 0) (old new : L
       for_each_as (AreEntriesBelow One new root) (AreEntriesBelow Two old root) (folder ∷ folders) visits
       (λ item part is. (is.0, is.1, entries_seen (unwrap_or is.0 0) item.now part is.2)) are
 
--- what was seen since a moment was seen since an earlier one
-pub earlier : (Since : (past at : List Step) → Type 0) → ((old mid new : List Step) → Since old mid → Since mid new → Since old new)
-    → (root : Path) (old mid : List Step) → Since old mid → (at : List Step) → Since mid at → SeenFrom Since root old at
-earlier Since onward root old mid done at since = record { moment = at; since = onward old mid at done since; same = same_still root at }
+-- what was seen between two moments was seen between an earlier one and the second
+pub earlier : (Does : (old new : List Step) → Type 0) → ((old mid new : List Step) → Does old mid → Does mid new → Does old new)
+    → (root : Path) (old mid new : List Step) → Does old mid → (at : List Step) → IsMoment Does new mid at → SeenFrom (IsMoment Does new) root old at
+earlier Does onward root old mid new done at moment = record {
+  moment = at;
+  since = record { since = onward old mid at done moment.since; until = moment.until };
+  same = same_still root at;
+}
+
+-- and between the first and a later one
+pub later : (Does : (old new : List Step) → Type 0) → ((old mid new : List Step) → Does old mid → Does mid new → Does old new)
+    → (root : Path) (old mid new : List Step) → Does mid new → (at : List Step) → IsMoment Does mid old at → SeenFrom (IsMoment Does new) root old at
+later Does onward root old mid new done at moment = record {
+  moment = at;
+  since = record { since = moment.since; until = onward at mid new moment.until done };
+  same = same_still root at;
+}
 
 -- a tree in which the same stands at each moment since
-pub entries_now : (Since : (past at : List Step) → Type 0) (root : Path) → ((old new : List Step) → Since old new → IsSameWithin root old new)
-    → (past : List Step) (folders : List (Bor Path)) (visits : List Visit) → AreEntriesSince Since past root folders visits → AreEntriesOf past root folders visits
-entries_now Since root same past folders visits are =
-    folders_seen root Since IsNow past past (λ at since. record { moment = past; since = refl; same = same past at since }) folders visits are
+pub entries_now : (Since : (past at : List Step) → Type 0) (root : Path) (past : List Step) → ((at : List Step) → Since past at → IsSameWithin root past at)
+    → (folders : List (Bor Path)) (visits : List Visit) → AreEntriesSince Since past root folders visits → AreEntriesOf past root folders visits
+entries_now Since root past same folders visits are =
+    folders_seen root Since IsNow past past (λ at since. record { moment = past; since = refl; same = same at since }) folders visits are
 
 -- the same, from a moment at which the same stood
 pub folders_same : (root : Path) (old new : List Step) → IsSameWithin root old new → (folders : List (Bor Path)) (visits : List Visit)

@@ -14,12 +14,11 @@ use Rattle.msr_tree.specs.declared.kind.FileKind.{FileKind}
 use Rattle.msr_tree.specs.declared.tree.TreeFault.{TreeFault}
 use Rattle.msr_tree.specs.declared.tree.TreeFault.TheVariants as tree_fault
 use Rattle.msr_tree.specs.declared.kind.FileKind.TheVariants.{Folder, Gone, Other}
-use Rattle.msr_folders.specs.Entries.{AreEntriesBelow, AreEntries, AreEntriesOf, AreEntriesSince, AreOfEntry, Entry, ForEach, IsAlone, IsSameWithin, Left, Passed, Visit, WithoutList, unlisted_in}
-use Rattle.msr_folders.specs.Opening.{AreSoFar, OpensFolder}
-use Rattle.msr_folders.specs.declared.opened.Opened.{Opened}
+use Rattle.msr_folders.specs.Entries.{AreEntriesBelow, AreEntries, AreEntriesBetween, AreEntriesOf, AreOfEntry, Entry, ForEach, IsMoment, IsSameWithin, Left, Passed, Visit, WithoutList, unlisted_in}
+use Rattle.msr_folders.specs.Opening.{AreSoFar}
 use Rattle.msr_folders.specs.Paths.{below, joined}
-use Rattle.msr_folders.specs.Walks.{HoldsAt, HoldsListed, IsSaidBetween, IsWalked, TellsEntering, TellsVisit, TellsWalk, VisitDoes, VisitLaws}
-use Rattle.msr_folders.proofs.EntryLemmas.{earlier, entries_now, entries_seen, entry_seen, for_each_append, for_each_as, for_each_one, for_each_push, unlisted_append}
+use Rattle.msr_folders.specs.Walks.{IsSaidBetween, IsWalked, TellsVisit, TellsWalk, VisitDoes, VisitLaws}
+use Rattle.msr_folders.proofs.EntryLemmas.{earlier, entries_now, entries_seen, entry_seen, later, for_each_append, for_each_as, for_each_one, for_each_push, unlisted_append}
 
 -- one call, and then another
 pub goes_then : (One Two Both : (old new : List Step) → Type 0) (before mid after : List Step → Type 0)
@@ -60,15 +59,15 @@ said_between Says Does onward old from to new before after visit lines said = re
 }
 
 -- what is told of an entry that is no folder
-pub entry_alone : (Since : (past at : List Step) → Type 0) → ((past : List Step) → Since past past) → (past : List Step) (root path : Path) (levels : ℕ) (kind : FileKind)
+pub entry_alone : (Since : (past at : List Step) → Type 0) (past : List Step) → Since past past → (root path : Path) (levels : ℕ) (kind : FileKind)
     → (0 < levels → kind ≢ Folder) → (0 < levels → IsTold past (joined root path) kind)
     → (levels ≡ 0 → kind ≡ Other) → AreOfEntry Since past root levels path (Entry path kind ∷ [])
-entry_alone Since still past root path zero kind alone told none = ap (λ k. Entry path k ∷ []) (none refl)
-entry_alone Since still past root path (suc levels) kind alone told none = ⊎_elim
+entry_alone Since past still root path zero kind alone told none = ap (λ k. Entry path k ∷ []) (none refl)
+entry_alone Since past still root path (suc levels) kind alone told none = ⊎_elim
     (λ folder. absurd (alone (omega arith) folder))
     (λ is. inr (record {
       at = past;
-      since = still past;
+      since = still;
       alone = no_folder (alone (omega arith)) is;
       as_it_was = ap (λ k. Entry path k ∷ []) is;
     }))
@@ -96,23 +95,6 @@ IsUnlisted place old new = (left : List Step) × (left ≡ Unlisted place ∷ ol
 without : (place : Path) (old new : List Step) → IsUnlisted place old new → new ≡ Failed ∷ Unlisted place ∷ old
 without place old new is = is.2 ∙ ap (λ l. Failed ∷ l) is.1
 
--- what holds where a folder is listed, whatever is answered
-pub holds_listed : {V T N : Type 0} (holds : V → T → List Step → Type 0) (listed : HoldsListed holds) (visitor : V) (tally : T)
-    (place : Path) (names : N → List Path) (result : Result N TreeFault) (before after : List Step → Type 0)
-    → Goes before after (ListsFolder place names result) → HoldsAt before (holds visitor tally) → HoldsAt after (holds visitor tally)
-holds_listed {N = N} holds listed visitor tally place names result before after goes held new went =
-    let sooner = goes.from new went in
-    by result sooner.0 (held sooner.0 sooner.1) sooner.2
-  where
-    same : (old new : List Step) → new ≡ old → holds visitor tally old → holds visitor tally new
-    same old new is here = subst (λ l. holds visitor tally l) (sym is) here
-
-    by : (answer : Result N TreeFault) (old : List Step) → holds visitor tally old → ListsFolder place names answer old new → holds visitor tally new
-    by (Ok x) old here lists = same old new lists.0 here
-    by (Err tree_fault.Memory) old here lists = same old new lists here
-    by (Err tree_fault.Failed) old here lists =
-        same (Failed ∷ Unlisted place ∷ old) new (lists.2 ∙ ap (λ l. Failed ∷ l) lists.1) (listed.stays visitor tally old place here)
-
 pub on_ok_as : {A E : Type 0} {P Q : Type 0} (result : Result A E) → (P → Q) → OnOk result P → OnOk result Q
 on_ok_as (Ok x) so p = so p
 on_ok_as (Err why) so p = tt
@@ -133,21 +115,33 @@ is_nothing items answer is empty = none_in items ((Decides-eqb (length items) 0)
 module _ {V L T : Type 0} (tells : V → List L → (out0 out : Device) → (tally0 tally : T) → Type 0)
     (stops : V → (out0 out : Device) → DeviceFault → Type 0) (says : V → (old new : List Step) → Visit → List L → Type 0)
     (does : V → (old new : List Step) → Type 0) (listless : V → Type 0) (laws : VisitLaws tells stops does) (visitor : V) (root : Path) where
-  abbrev Walk : (Are : List Step → List Visit → Type 0) (before after : List Step → Type 0) (out0 out : Device) (tally0 tally : T) → Type 0
+  abbrev Walk : (Are : (old new : List Step) → List Visit → Type 0) (before after : List Step → Type 0) (out0 out : Device) (tally0 tally : T) → Type 0
   Walk Are before after out0 out tally0 tally = TellsWalk (tells visitor) (says visitor) (does visitor) (listless visitor) root Are before after out0 out tally0 tally
 
   abbrev Visited : Visit → (before after : List Step → Type 0) (out0 out : Device) (tally0 tally : T) → Type 0
   Visited visit before after out0 out tally0 tally = TellsVisit (tells visitor) (says visitor) (does visitor) (listless visitor) visit before after out0 out tally0 tally
 
-  abbrev SoFar : (levels : ℕ) → (folder : Path) → (names taken : List Path) → List Step → List Visit → Type 0
-  SoFar levels folder names taken = AreSoFar (does visitor) root levels folder names taken
+  abbrev Moment : (new past at : List Step) → Type 0
+  Moment new past at = IsMoment (does visitor) new past at
 
-  walked_more : (One Two Both : List Step → List Visit → Type 0) (visits more : List Visit) (lines others : List L) (old mid new : List Step)
-      → ((old mid : List Step) (visits more : List Visit) → does visitor old mid → One old visits → Two mid more → Both old (visits ++ more))
+  abbrev SoFar : (levels : ℕ) → (folder : Path) → (names taken : List Path) → (old new : List Step) → List Visit → Type 0
+  SoFar levels folder names taken old new visits = AreSoFar (Moment new) root levels folder names taken old visits
+
+  abbrev OfFolder : (levels : ℕ) → (folder : Path) → (old new : List Step) → List Visit → Type 0
+  OfFolder levels folder old new visits = AreEntries (Moment new) old root levels folder visits
+
+  abbrev OfEntry : (levels : ℕ) → (path : Path) → (old new : List Step) → List Visit → Type 0
+  OfEntry levels path old new visits = AreOfEntry (Moment new) old root levels path visits
+
+  abbrev OfFolders : List (Bor Path) → (old new : List Step) → List Visit → Type 0
+  OfFolders folders old new visits = ForEach (AreEntriesBelow (Moment new) old root) folders visits
+
+  walked_more : (One Two Both : (old new : List Step) → List Visit → Type 0) (visits more : List Visit) (lines others : List L) (old mid new : List Step)
+      → ((old mid new : List Step) (visits more : List Visit) → does visitor old mid → does visitor mid new → One old mid visits → Two mid new more → Both old new (visits ++ more))
       → IsWalked (says visitor) (does visitor) (listless visitor) root One visits lines old mid → IsWalked (says visitor) (does visitor) (listless visitor) root Two more others mid new
       → IsWalked (says visitor) (does visitor) (listless visitor) root Both (visits ++ more) (lines ++ others) old new
   walked_more One Two Both visits more lines others old mid new so one two = record {
-    are = so old mid visits more one.does one.are two.are;
+    are = so old mid new visits more one.does two.does one.are two.are;
     says =
         let Said : (old new : List Step) → Visit → List L → Type 0 = IsSaidBetween (says visitor) (does visitor) in
         let wider = said_between (says visitor) (does visitor) (laws.onward visitor) in
@@ -161,8 +155,8 @@ module _ {V L T : Type 0} (tells : V → List L → (out0 out : Device) → (tal
   }
 
   -- one part of a walk, and then another
-  pub walk_more : (One Two Both : List Step → List Visit → Type 0) (before mid after : List Step → Type 0) (out0 out1 out : Device) (tally0 tally1 tally : T)
-      → ((old mid : List Step) (visits more : List Visit) → does visitor old mid → One old visits → Two mid more → Both old (visits ++ more))
+  pub walk_more : (One Two Both : (old new : List Step) → List Visit → Type 0) (before mid after : List Step → Type 0) (out0 out1 out : Device) (tally0 tally1 tally : T)
+      → ((old mid new : List Step) (visits more : List Visit) → does visitor old mid → does visitor mid new → One old mid visits → Two mid new more → Both old new (visits ++ more))
       → Walk One before mid out0 out1 tally0 tally1 → Walk Two mid after out1 out tally1 tally → Walk Both before after out0 out tally0 tally
   walk_more One Two Both before mid after out0 out1 out tally0 tally1 tally so one two = record {
     visits = one.visits ++ two.visits;
@@ -172,8 +166,8 @@ module _ {V L T : Type 0} (tells : V → List L → (out0 out : Device) → (tal
   }
 
   -- what is done of which nothing is told
-  pub walk_quiet : (Are : List Step → List Visit → Type 0) (before after : List Step → Type 0) (out0 out : Device) (tally0 tally : T)
-      → ((old new : List Step) → after new → does visitor old new → Are old []) → tells visitor [] out0 out tally0 tally
+  pub walk_quiet : (Are : (old new : List Step) → List Visit → Type 0) (before after : List Step → Type 0) (out0 out : Device) (tally0 tally : T)
+      → ((old new : List Step) → after new → does visitor old new → Are old new []) → tells visitor [] out0 out tally0 tally
       → Goes before after (VisitDoes (does visitor) (listless visitor)) → Walk Are before after out0 out tally0 tally
   walk_quiet Are before after out0 out tally0 tally so told goes = record {
     visits = [];
@@ -195,8 +189,8 @@ module _ {V L T : Type 0} (tells : V → List L → (out0 out : Device) → (tal
   }
 
   -- before the first visit
-  pub walk_none : (Before : (old new : List Step) → Type 0) (Are : List Step → List Visit → Type 0) (before after : List Step → Type 0) (out : Device) (tally : T)
-      → ((old new : List Step) → Before old new → (new ≡ old) × Are old [])
+  pub walk_none : (Before : (old new : List Step) → Type 0) (Are : (old new : List Step) → List Visit → Type 0) (before after : List Step → Type 0) (out : Device) (tally : T)
+      → ((old new : List Step) → Before old new → (new ≡ old) × Are old new [])
       → Goes before after Before → Walk Are before after out out tally tally
   walk_none Before Are before after out tally so goes = record {
     visits = [];
@@ -213,31 +207,28 @@ module _ {V L T : Type 0} (tells : V → List L → (out0 out : Device) → (tal
   }
 
   -- one visit, of which no folder without a list is told
-  pub walk_visit : (Are : List Step → List Visit → Type 0) (visit : Visit) (before after : List Step → Type 0) (out0 out : Device) (tally0 tally : T)
+  pub walk_visit : (Are : (old new : List Step) → List Visit → Type 0) (visit : Visit) (before after : List Step → Type 0) (out0 out : Device) (tally0 tally : T)
       → unlisted_in root (visit ∷ []) ≡ []
-      → ((past : List Step) → before past → Are past (visit ∷ []))
+      → ((old new : List Step) → before old → does visitor old new → Are old new (visit ∷ []))
       → Visited visit before after out0 out tally0 tally → Walk Are before after out0 out tally0 tally
   walk_visit Are visit before after out0 out tally0 tally listed so made = record {
     visits = visit ∷ [];
     lines = made.lines;
     told = made.told;
     goes = goes_so _ _ before after (λ old new went is. record {
-      are = so old went;
+      are = so old new went is.done.does;
       says = for_each_one (IsSaidBetween (says visitor) (does visitor) old new) visit made.lines (said_now (says visitor) (does visitor) (laws.still visitor) old new visit made.lines is.says);
       does = is.done.does;
       unlisted = λ none. is.done.lists_none none ∙ (sym (append-nil (unlisted_after old)) ∙ ap (λ l. unlisted_after old ++ l) (sym listed));
     }) made.goes;
   }
 
-  pub does_without : (place : Path) (old mid new : List Step) → IsUnlisted place old mid → does visitor mid new → does visitor old new
-  does_without place old mid new is next = laws.onward visitor old mid new (subst (λ l. does visitor old l) (sym (without place old mid is)) (laws.unlisted visitor old place)) next
-
   -- a folder that has no list
   walk_unlisted : (levels : ℕ) (folder place : Path) (before mid after : List Step → Type 0) (out0 out : Device) (tally0 tally : T)
       → place ≡ joined root folder
       → Goes before mid (IsUnlisted place)
       → Visited (WithoutList folder) mid after out0 out tally0 tally
-      → Walk (λ past. AreEntries (does visitor) past root levels folder) before after out0 out tally0 tally
+      → Walk (OfFolder levels folder) before after out0 out tally0 tally
   walk_unlisted levels folder place before mid after out0 out tally0 tally at lists visit = record {
     visits = WithoutList folder ∷ [];
     lines = visit.lines;
@@ -256,43 +247,43 @@ module _ {V L T : Type 0} (tells : V → List L → (out0 out : Device) → (tal
   }
 
   -- the same walk, seen another way
-  pub walk_as : (Are Seen : List Step → List Visit → Type 0) (before after : List Step → Type 0) (out0 out : Device) (tally0 tally : T)
-      → ((past : List Step) (visits : List Visit) → Are past visits → Seen past visits) → Walk Are before after out0 out tally0 tally → Walk Seen before after out0 out tally0 tally
+  pub walk_as : (Are Seen : (old new : List Step) → List Visit → Type 0) (before after : List Step → Type 0) (out0 out : Device) (tally0 tally : T)
+      → ((old new : List Step) (visits : List Visit) → Are old new visits → Seen old new visits) → Walk Are before after out0 out tally0 tally → Walk Seen before after out0 out tally0 tally
   walk_as Are Seen before after out0 out tally0 tally so walk = record {
     visits = walk.visits;
     lines = walk.lines;
     told = walk.told;
-    goes = goes_so _ _ before after (λ old new went is. record { are = so old walk.visits is.are; says = is.says; does = is.does; unlisted = is.unlisted }) walk.goes;
+    goes = goes_so _ _ before after (λ old new went is. record { are = so old new walk.visits is.are; says = is.says; does = is.does; unlisted = is.unlisted }) walk.goes;
   }
 
   -- a walk, after something of which nothing is told
-  walk_after : (Are Seen : List Step → List Visit → Type 0) (before mid after : List Step → Type 0) (out0 out1 out : Device) (tally0 tally1 tally : T)
-      → ((old mid : List Step) (visits : List Visit) → does visitor old mid → Are mid visits → Seen old visits)
+  walk_after : (Are Seen : (old new : List Step) → List Visit → Type 0) (before mid after : List Step → Type 0) (out0 out1 out : Device) (tally0 tally1 tally : T)
+      → ((old mid new : List Step) (visits : List Visit) → does visitor old mid → Are mid new visits → Seen old new visits)
       → tells visitor [] out0 out1 tally0 tally1 → Goes before mid (VisitDoes (does visitor) (listless visitor))
       → Walk Are mid after out1 out tally1 tally → Walk Seen before after out0 out tally0 tally
   walk_after Are Seen before mid after out0 out1 out tally0 tally1 tally so told goes walk =
-      walk_more (λ past visits. visits ≡ []) Are Seen before mid after out0 out1 out tally0 tally1 tally
-      (λ old middle visits more done none are. subst (λ l. Seen old (l ++ more)) (sym none) (so old middle more done are))
-      (walk_quiet (λ past visits. visits ≡ []) before mid out0 out1 tally0 tally1 (λ old new went done. refl) told goes) walk
+      walk_more (λ old new visits. visits ≡ []) Are Seen before mid after out0 out1 out tally0 tally1 tally
+      (λ old middle new visits more done next none are. subst (λ l. Seen old new (l ++ more)) (sym none) (so old middle new more done are))
+      (walk_quiet (λ old new visits. visits ≡ []) before mid out0 out1 tally0 tally1 (λ old new went done. refl) told goes) walk
 
   -- a folder that is left alone
   pub opens_passed : (levels : ℕ) (folder : Path) (before after : List Step → Type 0) (out0 out : Device) (tally0 tally : T)
       → Visited (Passed folder) before after out0 out tally0 tally
-      → Walk (λ past. AreEntries (does visitor) past root levels folder) before after out0 out tally0 tally
+      → Walk (OfFolder levels folder) before after out0 out tally0 tally
   opens_passed levels folder before after out0 out tally0 tally visit =
-      walk_visit (λ past. AreEntries (does visitor) past root levels folder) (Passed folder) before after out0 out tally0 tally refl (λ past went. inr (inl refl)) visit
+      walk_visit (OfFolder levels folder) (Passed folder) before after out0 out tally0 tally refl (λ old new went done. inr (inl refl)) visit
 
   -- one that is begun with, and has no list
   pub opens_unlisted : (levels : ℕ) (folder place : Path) (before mid listed_at after : List Step → Type 0) (out0 out1 out : Device) (tally0 tally1 tally : T)
       → tells visitor [] out0 out1 tally0 tally1 → Goes before mid (VisitDoes (does visitor) (listless visitor))
       → place ≡ joined root folder → Goes mid listed_at (IsUnlisted place)
       → Visited (WithoutList folder) listed_at after out1 out tally1 tally
-      → Walk (λ past. AreEntries (does visitor) past root levels folder) before after out0 out tally0 tally
+      → Walk (OfFolder levels folder) before after out0 out tally0 tally
   opens_unlisted levels folder place before mid listed_at after out0 out1 out tally0 tally1 tally told goes at lists visit =
-      walk_after (λ past. AreEntries (does visitor) past root levels folder) (λ past. AreEntries (does visitor) past root levels folder)
+      walk_after (OfFolder levels folder) (OfFolder levels folder)
       before mid after out0 out1 out tally0 tally1 tally
-      (λ old middle visits done are.
-      entries_seen root (does visitor) (does visitor) old middle (earlier (does visitor) (laws.onward visitor) root old middle done) levels folder visits are)
+      (λ old middle new visits done are.
+      entries_seen root (Moment new) (Moment new) old middle (earlier (does visitor) (laws.onward visitor) root old middle new done) levels folder visits are)
       told goes (walk_unlisted levels folder place mid listed_at after out1 out tally1 tally at lists visit)
 
   -- one that has a list
@@ -302,98 +293,127 @@ module _ {V L T : Type 0} (tells : V → List L → (out0 out : Device) → (tal
       → Walk (SoFar levels folder names []) before after out0 out1 tally0 tally1
   opens_listed levels folder place names before mid after out0 out1 tally0 tally1 told goes at lists =
       walk_after (SoFar levels folder names []) (SoFar levels folder names []) before mid after out0 out1 out1 tally0 tally1 tally1
-      (λ old middle visits done are. record { at = are.at; since = laws.onward visitor old middle are.at done are.since; listing = are.listing; each = are.each })
+      (λ old middle new visits done are. record {
+        at = are.at;
+        since = record { since = laws.onward visitor old middle are.at done are.since.since; until = are.since.until };
+        listing = are.listing;
+        each = are.each;
+      })
       told goes
       (walk_none (λ old new. (new ≡ old) × IsListing old place names) (SoFar levels folder names []) mid after out1 tally1
-      (λ old new is. (is.0, record { at = old; since = laws.still visitor old; listing = subst (λ p. IsListing old p names) at is.1; each = refl })) lists)
+      (λ old new is. (
+        is.0,
+        record {
+          at = old;
+          since = record { since = laws.still visitor old; until = subst (λ l. does visitor old l) (sym is.0) (laws.still visitor old) };
+          listing = subst (λ p. IsListing old p names) at is.1;
+          each = refl;
+        },
+      )) lists)
+
+  -- what was visited so far was so until later
+  far_later : (levels : ℕ) (folder : Path) (names taken : List Path) (old mid new : List Step) (visits : List Visit) → does visitor mid new
+      → SoFar levels folder names taken old mid visits → SoFar levels folder names taken old new visits
+  far_later levels folder names taken old mid new visits next are = record {
+    at = are.at;
+    since = record { since = are.since.since; until = laws.onward visitor are.at mid new are.since.until next };
+    listing = are.listing;
+    each = for_each_as (λ n. OfEntry levels (below folder n) old mid) (λ n. OfEntry levels (below folder n) old new) taken visits
+        (λ n part one. entry_seen root (Moment mid) (Moment new) old old (later (does visitor) (laws.onward visitor) root old mid new next) levels (below folder n) part one)
+        are.each;
+  }
 
   -- the next name of a folder
   pub next_name : (levels : ℕ) (folder name : Path) (names taken : List Path) (before mid after : List Step → Type 0) (out0 out1 out : Device) (tally0 tally1 tally : T)
       → Walk (SoFar levels folder names taken) before mid out0 out1 tally0 tally1
-      → Walk (λ past. AreOfEntry (does visitor) past root levels (below folder name)) mid after out1 out tally1 tally
+      → Walk (OfEntry levels (below folder name)) mid after out1 out tally1 tally
       → Walk (SoFar levels folder names (taken ++ name ∷ [])) before after out0 out tally0 tally
   next_name levels folder name names taken before mid after out0 out1 out tally0 tally1 tally one two =
-      walk_more (SoFar levels folder names taken) (λ past. AreOfEntry (does visitor) past root levels (below folder name)) (SoFar levels folder names (taken ++ name ∷ []))
+      walk_more (SoFar levels folder names taken) (OfEntry levels (below folder name)) (SoFar levels folder names (taken ++ name ∷ []))
       before mid after out0 out1 out tally0 tally1 tally
-      (λ old middle visits more done are entry. record {
-        at = are.at;
-        since = are.since;
-        listing = are.listing;
-        each = for_each_push (λ n. AreOfEntry (does visitor) old root levels (below folder n)) taken name visits more are.each
-            (entry_seen root (does visitor) (does visitor) old middle (earlier (does visitor) (laws.onward visitor) root old middle done) levels (below folder name) more entry);
+      (λ old middle new visits more done next are entry.
+      let far = far_later levels folder names taken old middle new visits next are in
+      record {
+        at = far.at;
+        since = far.since;
+        listing = far.listing;
+        each = for_each_push (λ n. OfEntry levels (below folder n) old new) taken name visits more far.each
+            (entry_seen root (Moment new) (Moment new) old middle (earlier (does visitor) (laws.onward visitor) root old middle new done) levels (below folder name) more entry);
       })
       one two
 
   pub next_folder : (levels : ℕ) (path : Path) (before after : List Step → Type 0) (out0 out : Device) (tally0 tally : T) → 0 < levels
-      → Walk (λ past. AreEntries (does visitor) past root (levels - 1) path) before after out0 out tally0 tally
-      → Walk (λ past. AreOfEntry (does visitor) past root levels path) before after out0 out tally0 tally
+      → Walk (OfFolder (levels - 1) path) before after out0 out tally0 tally
+      → Walk (OfEntry levels path) before after out0 out tally0 tally
   next_folder levels path before after out0 out tally0 tally some walk =
-      walk_as _ _ before after out0 out tally0 tally (λ past visits are. folder_entry (does visitor) past root path levels visits some are) walk
+      walk_as _ _ before after out0 out tally0 tally (λ old new visits are. folder_entry (Moment new) old root path levels visits some are) walk
 
   pub next_entry : (levels : ℕ) (path : Path) (kind : FileKind) (before after : List Step → Type 0) (out0 out : Device) (tally0 tally : T)
       → (0 < levels → kind ≢ Folder) → (0 < levels → (past : List Step) → before past → IsTold past (joined root path) kind) → (levels ≡ 0 → kind ≡ Other)
       → Visited (Entry path kind) before after out0 out tally0 tally
-      → Walk (λ past. AreOfEntry (does visitor) past root levels path) before after out0 out tally0 tally
+      → Walk (OfEntry levels path) before after out0 out tally0 tally
   next_entry levels path kind before after out0 out tally0 tally alone told none visit =
       walk_visit _ (Entry path kind) before after out0 out tally0 tally refl
-      (λ past went. entry_alone (does visitor) (laws.still visitor) past root path levels kind alone (λ some. told some past went) none) visit
+      (λ old new went done. entry_alone (Moment new) old (record { since = laws.still visitor old; until = done }) root path levels kind alone (λ some. told some old went) none) visit
 
   -- all of them, and then the folder is left
   pub all_names : (levels : ℕ) (folder : Path) (names : List Path) (before mid after : List Step → Type 0) (out0 out1 out : Device) (tally0 tally1 tally : T)
       → Walk (SoFar levels folder names names) before mid out0 out1 tally0 tally1
       → Visited (Left folder) mid after out1 out tally1 tally
-      → Walk (λ past. AreEntries (does visitor) past root levels folder) before after out0 out tally0 tally
+      → Walk (OfFolder levels folder) before after out0 out tally0 tally
   all_names levels folder names before mid after out0 out1 out tally0 tally1 tally walk left =
-      walk_more (SoFar levels folder names names) (λ past visits. visits ≡ Left folder ∷ []) (λ past. AreEntries (does visitor) past root levels folder)
+      walk_more (SoFar levels folder names names) (λ old new visits. visits ≡ Left folder ∷ []) (OfFolder levels folder)
       before mid after out0 out1 out tally0 tally1 tally
-      (λ old middle visits more done are is. inr (inr (record {
-        at = are.at;
-        since = are.since;
+      (λ old middle new visits more done next are is.
+      let far = far_later levels folder names names old middle new visits next are in
+      inr (inr (record {
+        at = far.at;
+        since = far.since;
         names = names;
-        listing = are.listing;
+        listing = far.listing;
         within = visits;
-        each = are.each;
+        each = far.each;
         whole = ap (λ l. visits ++ l) is;
       })))
-      walk (walk_visit (λ past visits. visits ≡ Left folder ∷ []) (Left folder) mid after out1 out tally1 tally refl (λ past went. refl) left)
+      walk (walk_visit (λ old new visits. visits ≡ Left folder ∷ []) (Left folder) mid after out1 out tally1 tally refl (λ old new went done. refl) left)
 
   -- what is done at the end of a walk, of which nothing is told
-  walked_left : (Are : List Step → List Visit → Type 0) (visits : List Visit) (lines : List L) (old mid new : List Step)
-      → IsWalked (says visitor) (does visitor) (listless visitor) root Are visits lines old mid → VisitDoes (does visitor) (listless visitor) mid new
+  walked_left : (Are : (old new : List Step) → List Visit → Type 0) (visits : List Visit) (lines : List L) (old mid new : List Step)
+      → (Are old mid visits → Are old new visits) → IsWalked (says visitor) (does visitor) (listless visitor) root Are visits lines old mid → VisitDoes (does visitor) (listless visitor) mid new
       → IsWalked (says visitor) (does visitor) (listless visitor) root Are visits lines old new
-  walked_left Are visits lines old mid new one two = record {
-    are = one.are;
+  walked_left Are visits lines old mid new so one two = record {
+    are = so one.are;
     says = for_each_as (IsSaidBetween (says visitor) (does visitor) old mid) (IsSaidBetween (says visitor) (does visitor) old new) visits lines
         (said_between (says visitor) (does visitor) (laws.onward visitor) old old mid new (laws.still visitor old) two.does) one.says;
     does = laws.onward visitor old mid new one.does two.does;
     unlisted = λ none. two.lists_none none ∙ one.unlisted none;
   }
 
-  pub walk_left : (Are : List Step → List Visit → Type 0) (before mid after : List Step → Type 0) (out0 out : Device) (tally0 tally1 tally : T)
-      → Walk Are before mid out0 out tally0 tally1 → ((at : Device) → tells visitor [] at at tally1 tally)
+  pub walk_left : (Are : (old new : List Step) → List Visit → Type 0) (before mid after : List Step → Type 0) (out0 out : Device) (tally0 tally1 tally : T)
+      → ((old mid new : List Step) (visits : List Visit) → Are old mid visits → Are old new visits) → Walk Are before mid out0 out tally0 tally1 → ((at : Device) → tells visitor [] at at tally1 tally)
       → Goes mid after (VisitDoes (does visitor) (listless visitor)) → Walk Are before after out0 out tally0 tally
-  walk_left Are before mid after out0 out tally0 tally1 tally walk told goes = record {
+  walk_left Are before mid after out0 out tally0 tally1 tally so walk told goes = record {
     visits = walk.visits;
     lines = walk.lines;
     told = subst (λ l. tells visitor l out0 out tally0 tally) (append-nil walk.lines) (laws.more visitor walk.lines [] out0 out out tally0 tally1 tally walk.told (told out));
-    goes = goes_then _ _ _ before mid after (λ old middle new first second. walked_left Are walk.visits walk.lines old middle new first second) walk.goes goes;
+    goes = goes_then _ _ _ before mid after (λ old middle new first second. walked_left Are walk.visits walk.lines old middle new (so old middle new walk.visits) first second) walk.goes goes;
   }
 
   pub does_then : (before mid after : List Step → Type 0) → Goes before mid (does visitor) → Goes mid after (VisitDoes (does visitor) (listless visitor)) → Goes before after (does visitor)
   does_then before mid after one two = goes_then _ _ _ before mid after (λ old middle new first second. laws.onward visitor old middle new first second.does) one two
 
-  pub does_both : (before mid after : List Step → Type 0) → Goes before mid (does visitor) → Goes mid after (does visitor) → Goes before after (does visitor)
+  does_both : (before mid after : List Step → Type 0) → Goes before mid (does visitor) → Goes mid after (does visitor) → Goes before after (does visitor)
   does_both before mid after one two = goes_then _ _ _ before mid after (λ old middle new first second. laws.onward visitor old middle new first second) one two
 
-  pub does_visit : (before after : List Step → Type 0) → Goes before after (VisitDoes (does visitor) (listless visitor)) → Goes before after (does visitor)
+  does_visit : (before after : List Step → Type 0) → Goes before after (VisitDoes (does visitor) (listless visitor)) → Goes before after (does visitor)
   does_visit before after goes = goes_so _ _ before after (λ old new went is. is.does) goes
 
-  pub does_walk : (Are : List Step → List Visit → Type 0) (before after : List Step → Type 0) (out0 out : Device) (tally0 tally : T)
+  pub does_walk : (Are : (old new : List Step) → List Visit → Type 0) (before after : List Step → Type 0) (out0 out : Device) (tally0 tally : T)
       → Walk Are before after out0 out tally0 tally → Goes before after (does visitor)
   does_walk Are before after out0 out tally0 tally walk = goes_so _ _ before after (λ old new went is. is.does) walk.goes
 
   -- a folder was listed, whatever is answered
-  pub does_listed : {N : Type 0} (place : Path) (names : N → List Path) (result : Result N TreeFault) (before after : List Step → Type 0)
+  does_listed : {N : Type 0} (place : Path) (names : N → List Path) (result : Result N TreeFault) (before after : List Step → Type 0)
       → Goes before after (ListsFolder place names result) → Goes before after (does visitor)
   does_listed {N = N} place names result before after goes = goes_so _ _ before after (λ old new went lists. by result old new lists) goes
     where
@@ -406,38 +426,50 @@ module _ {V L T : Type 0} (tells : V → List L → (out0 out : Device) → (tal
       by (Err tree_fault.Failed) old new lists =
           subst (λ l. does visitor old l) (sym (lists.2 ∙ ap (λ l. Failed ∷ l) lists.1)) (laws.unlisted visitor old place)
 
+  -- it was entered before, and then visited as one that has no list
+  pub does_entered : {N : Type 0} (place : Path) (names : N → List Path) (result : Result N TreeFault) (before one two after : List Step → Type 0)
+      → Goes before one (VisitDoes (does visitor) (listless visitor)) → Goes one two (ListsFolder place names result)
+      → Goes two after (VisitDoes (does visitor) (listless visitor)) → Goes before after (does visitor)
+  does_entered place names result before one two after enters lists visits =
+      does_then before two after (does_both before one two (does_visit before one enters) (does_listed place names result one two lists)) visits
+
   -- before the first folder that is asked for
-  pub no_folder_yet : (before : List Step → Type 0) (out : Device) (tally : T) → Walk (λ past. ForEach (AreEntriesBelow (does visitor) past root) []) before before out out tally tally
-  no_folder_yet before out tally = walk_none (λ old new. new ≡ old) (λ past. ForEach (AreEntriesBelow (does visitor) past root) []) before before out tally (λ old new is. (is, refl))
+  pub no_folder_yet : (before : List Step → Type 0) (out : Device) (tally : T) → Walk (OfFolders []) before before out out tally tally
+  no_folder_yet before out tally = walk_none (λ old new. new ≡ old) (OfFolders []) before before out tally (λ old new is. (is, refl))
       (goes_none (λ old new. new ≡ old) before (λ past. refl))
 
   -- the next one
   pub next_below : (levels : ℕ) (depth : Option ℕ) (folder : Bor Path) (taken : List (Bor Path)) (before mid after : List Step → Type 0) (out0 out1 out : Device) (tally0 tally1 tally : T)
       → IsDepthBelow folder.now depth → levels ≡ unwrap_or depth 0
-      → Walk (λ past. ForEach (AreEntriesBelow (does visitor) past root) taken) before mid out0 out1 tally0 tally1
-      → Walk (λ past. AreEntries (does visitor) past root levels folder.now) mid after out1 out tally1 tally
-      → Walk (λ past. ForEach (AreEntriesBelow (does visitor) past root) (taken ++ folder ∷ [])) before after out0 out tally0 tally
+      → Walk (OfFolders taken) before mid out0 out1 tally0 tally1
+      → Walk (OfFolder levels folder.now) mid after out1 out tally1 tally
+      → Walk (OfFolders (taken ++ folder ∷ [])) before after out0 out tally0 tally
   next_below levels depth folder taken before mid after out0 out1 out tally0 tally1 tally deep so_deep one two =
-      walk_more (λ past. ForEach (AreEntriesBelow (does visitor) past root) taken) (λ past. AreEntries (does visitor) past root levels folder.now)
-      (λ past. ForEach (AreEntriesBelow (does visitor) past root) (taken ++ folder ∷ []))
+      walk_more (OfFolders taken) (OfFolder levels folder.now)
+      (OfFolders (taken ++ folder ∷ []))
       before mid after out0 out1 out tally0 tally1 tally
-      (λ old middle visits more done are entries.
-      let there = entries_seen root (does visitor) (does visitor) old middle (earlier (does visitor) (laws.onward visitor) root old middle done) levels folder.now more entries in
-      for_each_push (AreEntriesBelow (does visitor) old root) taken folder visits more are (depth, deep, subst (λ n. AreEntries (does visitor) old root n folder.now more) so_deep there))
+      (λ old middle new visits more done next are entries.
+      let there = entries_seen root (Moment new) (Moment new) old middle (earlier (does visitor) (laws.onward visitor) root old middle new done) levels folder.now more entries in
+      let far = for_each_as (AreEntriesBelow (Moment middle) old root) (AreEntriesBelow (Moment new) old root) taken visits (λ item part is. (
+        is.0,
+        is.1,
+        entries_seen root (Moment middle) (Moment new) old old (later (does visitor) (laws.onward visitor) root old middle new next) (unwrap_or is.0 0) item.now part is.2,
+      )) are in
+      for_each_push (AreEntriesBelow (Moment new) old root) taken folder visits more far (depth, deep, subst (λ n. AreEntries (Moment new) old root n folder.now more) so_deep there))
       one two
 
 -- a walk of entries that stay as they were
 pub tells_now : {L T : Type 0} (Tells : List L → (out0 out : Device) → (tally0 tally : T) → Type 0) (Says : (old new : List Step) → Visit → List L → Type 0)
     (Does : (old new : List Step) → Type 0) (Listless : Type 0) (root : Path) (folders : List (Bor Path)) (before after : List Step → Type 0) (out0 out : Device) (tally0 tally : T)
     → ((old new : List Step) → Does old new → IsSameWithin root old new)
-    → TellsWalk Tells Says Does Listless root (λ past. AreEntriesSince Does past root folders) before after out0 out tally0 tally
-    → TellsWalk Tells Says Does Listless root (λ past. AreEntriesOf past root folders) before after out0 out tally0 tally
+    → TellsWalk Tells Says Does Listless root (λ past new. AreEntriesBetween Does past new root folders) before after out0 out tally0 tally
+    → TellsWalk Tells Says Does Listless root (λ past new. AreEntriesOf past root folders) before after out0 out tally0 tally
 tells_now Tells Says Does Listless root folders before after out0 out tally0 tally same walk = record {
   visits = walk.visits;
   lines = walk.lines;
   told = walk.told;
   goes = goes_so _ _ before after (λ old new went is. record {
-    are = entries_now Does root same old folders walk.visits is.are;
+    are = entries_now (IsMoment Does new) root old (λ at moment. same old at moment.since) folders walk.visits is.are;
     says = is.says;
     does = is.does;
     unlisted = is.unlisted;

@@ -2,7 +2,7 @@
 use Rattle.std.proofs.Common.{◌≡◌, ◌||◌, ℕ, List, [], ◌∷◌, ◌++◌, refl, sym, ◌∙◌, ap, append_assoc, is_some}
 use Rattle.msr_devices.proofs.Chaining.{calm_same}
 use Rattle.msr_tree.proofs.Changes.{same_now}
-use Rattle.msr_tree.specs.Listing.{has_folder, is_there}
+use Rattle.msr_tree.specs.Listing.{has_folder}
 use Rattle.msr_tree.specs.Steps.{Failed, Path, Spares, Step, Unlisted, now}
 use Rattle.msr_folders.proofs.VisitLemmas.{part_none, stops_more, these_more, these_none}
 use Rattle.msr_folders.specs.Entries.{IsSameWithin, StandsWithin}

@@ -67,6 +67,15 @@ abbrev pub AreEntriesSince : (Since : (past at : List Step) → Type 0) → List
 AreEntriesSince Since past root [] visits = AreEntries Since past root 4 [] visits
 AreEntriesSince Since past root (folder ∷ folders) visits = ForEach (AreEntriesBelow Since past root) (folder ∷ folders) visits
 
+-- A moment between two others, by what is done.
+pub record IsMoment (Does : (old new : List Step) → Type 0) (new past at : List Step) : Type 0 where
+  pub since : Does past at
+  pub until : Does at new
+
+-- the entries of these folders, each as it was at a moment between two others
+abbrev pub AreEntriesBetween : (Does : (old new : List Step) → Type 0) → (old new : List Step) → (root : Path) → List (Bor Path) → List Visit → Type 0
+AreEntriesBetween Does old new = AreEntriesSince (IsMoment Does new) old
+
 -- no step was done since
 abbrev pub IsNow : (past at : List Step) → Type 0
 IsNow past at = at ≡ past

@@ -3,7 +3,7 @@ use Rattle.std.specs.Prelude.{ℕ, List, [], Option, None, Some}
 use Rattle.msr_devices.specs.Device.{Device}
 use Rattle.msr_tree.specs.Listing.{IsListing, listed}
 use Rattle.msr_tree.specs.Steps.{Path, Step}
-use Rattle.msr_folders.specs.Entries.{AreEntries, AreOfEntry, ForEach, Visit}
+use Rattle.msr_folders.specs.Entries.{AreEntries, AreOfEntry, ForEach, IsMoment, Visit}
 use Rattle.msr_folders.specs.Paths.{below, joined}
 use Rattle.msr_folders.specs.Walks.{TellsWalk}
 use Rattle.msr_folders.specs.declared.opened.Opened.{Opened}
@@ -21,6 +21,6 @@ abbrev pub OpensFolder : {F L T : Type 0} → (Tells : List L → (out0 out : De
     → (Says : (old new : List Step) → Visit → List L → Type 0) → (Does : (old new : List Step) → Type 0) → (Listless : Type 0) → (root : Path)
     → (levels : ℕ) → (folder : Path) → Option (Opened F) → (before after : List Step → Type 0) → (out0 out : Device) → (tally0 tally : T) → Type 0
 OpensFolder Tells Says Does Listless root levels folder None before after out0 out tally0 tally =
-    TellsWalk Tells Says Does Listless root (λ past. AreEntries Does past root levels folder) before after out0 out tally0 tally
+    TellsWalk Tells Says Does Listless root (λ past new. AreEntries (IsMoment Does new) past root levels folder) before after out0 out tally0 tally
 OpensFolder Tells Says Does Listless root levels folder (Some opened) before after out0 out tally0 tally =
-    TellsWalk Tells Says Does Listless root (AreSoFar Does root levels folder (listed opened.names.items) []) before after out0 out tally0 tally
+    TellsWalk Tells Says Does Listless root (λ past new. AreSoFar (IsMoment Does new) root levels folder (listed opened.names.items) [] past) before after out0 out tally0 tally

@@ -47,8 +47,8 @@ pub record IsSaidBetween {L : Type 0} (Says : (old new : List Step) → Visit �
 -- These visits were made, and no others, and what was told says this of each; and, if no visit lists a folder, one was visited
 -- as such that has no list just where a call gave none.
 pub record IsWalked {L : Type 0} (Says : (old new : List Step) → Visit → List L → Type 0) (Does : (old new : List Step) → Type 0)
-    (Listless : Type 0) (root : Path) (Are : List Step → List Visit → Type 0) (visits : List Visit) (lines : List L) (old new : List Step) : Type 0 where
-  pub are : Are old visits
+    (Listless : Type 0) (root : Path) (Are : (old new : List Step) → List Visit → Type 0) (visits : List Visit) (lines : List L) (old new : List Step) : Type 0 where
+  pub are : Are old new visits
   pub says : ForEach (IsSaidBetween Says Does old new) visits lines
   pub does : Does old new
   pub unlisted : Listless → unlisted_after new ≡ unlisted_after old ++ unlisted_in root visits
@@ -56,7 +56,7 @@ pub record IsWalked {L : Type 0} (Says : (old new : List Step) → Visit → Lis
 -- What was told on a walk.
 pub record TellsWalk {L T : Type 0} (Tells : List L → (out0 out : Device) → (tally0 tally : T) → Type 0)
     (Says : (old new : List Step) → Visit → List L → Type 0) (Does : (old new : List Step) → Type 0) (Listless : Type 0) (root : Path)
-    (Are : List Step → List Visit → Type 0) (before after : List Step → Type 0) (out0 out : Device) (tally0 tally : T) : Type 0 where
+    (Are : (old new : List Step) → List Visit → Type 0) (before after : List Step → Type 0) (out0 out : Device) (tally0 tally : T) : Type 0 where
   pub visits : List Visit
   pub lines : List L
   pub told : Tells lines out0 out tally0 tally

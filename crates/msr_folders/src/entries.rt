@@ -4,7 +4,7 @@ ghost use Rattle.msr_devices.specs.Device.{CanCountCall, Device};
 ghost use Rattle.msr_devices.specs.declared.fault.DeviceFault.{DeviceFault};
 ghost use Rattle.msr_tree.specs.Calls.{Goes};
 ghost use Rattle.msr_tree.specs.Steps.{Path, Step};
-ghost use Rattle.msr_folders.specs.Entries.{AreEntries, AreEntriesSince, Entry, Left, Visit, WithoutList};
+ghost use Rattle.msr_folders.specs.Entries.{AreEntries, AreEntriesBetween, Entry, IsMoment, Left, Visit, WithoutList};
 ghost use Rattle.msr_folders.specs.Opening.{OpensFolder};
 ghost use Rattle.msr_folders.specs.Paths.{joined};
 ghost use Rattle.msr_folders.specs.Walks.{HoldsAt, HoldsListed, TellsEntering, TellsVisit, TellsWalk, VisitDoes, VisitLaws};
@@ -181,7 +181,7 @@ fn visit_folder<T: Tree, V: EntryVisitor, O: Sink>(
     requires holds { HoldsAt (T.went tree.old) (V.holds walk.now.visitor.now tally.old) }
     ensures told { OnOk result (TellsWalk (V.tells walk.now.visitor.now) (V.says walk.now.visitor.now)
         (V.does walk.now.visitor.now) (V.listless walk.now.visitor.now) walk.now.root.now
-        (λ past. AreEntries (V.does walk.now.visitor.now) past walk.now.root.now levels folder.now)
+        (λ past new. AreEntries (IsMoment (V.does walk.now.visitor.now) new) past walk.now.root.now levels folder.now)
         (T.went tree.old) (T.went tree.new) (O.device out.old) (O.device out.new) tally.old tally.new) }
     ensures stops { IfErr result (V.stops walk.now.visitor.now (O.device out.old) (O.device out.new)) }
     ensures does { Goes (T.went tree.old) (T.went tree.new) (V.does walk.now.visitor.now) }
@@ -221,7 +221,7 @@ pub fn visit_entries<T: Tree, V: EntryVisitor, O: Sink>(
     requires holds { HoldsAt (T.went tree.old) (V.holds walk.now.visitor.now tally.old) }
     ensures told { OnOk result (TellsWalk (V.tells walk.now.visitor.now) (V.says walk.now.visitor.now)
         (V.does walk.now.visitor.now) (V.listless walk.now.visitor.now) walk.now.root.now
-        (λ past. AreEntriesSince (V.does walk.now.visitor.now) past walk.now.root.now walk.now.below.now)
+        (λ past new. AreEntriesBetween (V.does walk.now.visitor.now) past new walk.now.root.now walk.now.below.now)
         (T.went tree.old) (T.went tree.new) (O.device out.old) (O.device out.new) tally.old tally.new) }
     ensures stops { IfErr result (V.stops walk.now.visitor.now (O.device out.old) (O.device out.new)) }
     ensures does { Goes (T.went tree.old) (T.went tree.new) (V.does walk.now.visitor.now) }

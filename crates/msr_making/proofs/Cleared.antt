@@ -33,9 +33,6 @@ use Rattle.msr_making.proofs.Owns.{AreNone, more_beside, none_beside, none_empty
 use Rattle.msr_making.proofs.Sights.{asks_as}
 use Rattle.msr_making.proofs.Untouched.{cleared_for, kept_for, untouched_by}
 
-abbrev pub ended : DayOutcome → Result DayOutcome AllocError
-ended outcome = Ok outcome
-
 -- three names go
 module _ (files : DayFiles) where
   one_gone : {A : Type 0} (at : Path) (answer : Result A TreeFault) → ((name : Path) → IsNoneOf name (beside_paths files) → IsNoneOf name (at ∷ [])) → (old new : List Step) → DoesStep (Removed at) answer old new → ChangesFiles (beside_paths files) old new

@@ -9,7 +9,7 @@ use Rattle.msr_exchange.specs.declared.work.DayWork.{DayWork}
 use Rattle.msr_folders.proofs.StoppingLemmas.{later_still, later_then, not_both, until_line, until_more, until_none, until_stopped}
 use Rattle.msr_folders.proofs.VisitLemmas.{these_one}
 use Rattle.msr_folders.proofs.WalkedLemmas.{goes_none, goes_so, goes_then}
-use Rattle.msr_folders.specs.Entries.{AreEntriesSince, Visit}
+use Rattle.msr_folders.specs.Entries.{AreEntriesBetween, Visit}
 use Rattle.msr_folders.specs.Stopping.{IsLater, entries_of}
 use Rattle.msr_folders.specs.Visits.{IsWalk}
 use Rattle.msr_folders.specs.Walks.{TellsVisit, TellsWalk, VisitDoes, VisitLaws}
@@ -107,7 +107,7 @@ module _ (on : Course) (work : DayWork) where
   }
 
   abbrev pub Walks : (below : List (Bor Path)) (before after : List Step → Type 0) (out0 out : Device) (old new : Progress) → Type 0
-  Walks below before after out0 out old new = TellsWalk TellsSaid (IsSaid on work) IsLater ⊥ (walked on work) (λ past. AreEntriesSince IsLater past (walked on work) below)
+  Walks below before after out0 out old new = TellsWalk TellsSaid (IsSaid on work) IsLater ⊥ (walked on work) (λ past new. AreEntriesBetween IsLater past new (walked on work) below)
       before after out0 out old new
 
 pub both_courses : (work : DayWork) (below : List (Bor Path)) (before mid after : List Step → Type 0) (out0 out1 out : Device) (old between new : Progress)

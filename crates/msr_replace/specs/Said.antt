@@ -6,7 +6,7 @@ use Rattle.msr_devices.specs.declared.fault.DeviceFault.{DeviceFault}
 use Rattle.msr_exchange.specs.Work.{names_in}
 use Rattle.msr_exchange.specs.declared.work.DayWork.{DayWork}
 use Rattle.msr_folders.specs.Days.{IsDay, IsNoDay}
-use Rattle.msr_folders.specs.Entries.{AreEntriesSince, Entry, Left, Passed, Visit, WithoutList}
+use Rattle.msr_folders.specs.Entries.{AreEntriesBetween, Entry, Left, Passed, Visit, WithoutList}
 use Rattle.msr_folders.specs.Paths.{joined, told_folder}
 use Rattle.msr_folders.specs.Stopping.{IsLater, TellsUntil}
 use Rattle.msr_folders.specs.Walks.{IsWalked}
@@ -129,7 +129,7 @@ IsSaid on work old new visit said = (said ≡ None ∷ []) ⊎ IsSaidGoing on wo
 
 -- these entries of a folder were visited, each as it was at a moment of the walk, and this was said
 abbrev pub IsCourse : Course → DayWork → List (Bor Path) → List Visit → List Said → (old new : List Step) → Type 0
-IsCourse on work below = IsWalked (IsSaid on work) IsLater ⊥ (walked on work) (λ past. AreEntriesSince IsLater past (walked on work) below)
+IsCourse on work below = IsWalked (IsSaid on work) IsLater ⊥ (walked on work) (λ past new. AreEntriesBetween IsLater past new (walked on work) below)
 
 -- What is done of the tree in a function that answers what may be told.
 pub record Does {A : Type 0} (Is : A → (old new : List Step) → Type 0) (result : Result A DeviceFault) (old new : List Step) : Type 0 where

@@ -5,7 +5,7 @@ ghost use Rattle.msr_devices.specs.Device.{CanCountCall, HasFailed};
 ghost use Rattle.msr_exchange.specs.Work.{AreThreeFolders};
 ghost use Rattle.msr_folders.specs.Stopping.{IsLater};
 ghost use Rattle.msr_folders.specs.Walks.{TellsWalk};
-ghost use Rattle.msr_folders.specs.Entries.{AreEntriesSince};
+ghost use Rattle.msr_folders.specs.Entries.{AreEntriesBetween};
 ghost use Rattle.msr_options.specs.Tasks.{AreApartFrom, StandApart};
 ghost use Rattle.msr_replace.specs.Said.{IsSaid, TellsSaid, walked};
 ghost use Rattle.msr_replace.specs.Tree.{IsWorkOf, ReplacesTree, TellsCourses};
@@ -65,7 +65,7 @@ where
     requires apart { AreThreeFolders work.now }
     requires count { CanCountCall (O.device out.old) }
     ensures told { OnOk result (TellsWalk TellsSaid (IsSaid course work.now) IsLater ⊥ (walked course work.now)
-        (λ past. AreEntriesSince IsLater past (walked course work.now) below.now)
+        (λ past new. AreEntriesBetween IsLater past new (walked course work.now) below.now)
         (T.went tree.old) (T.went tree.new) (O.device out.old) (O.device out.new) progress.old progress.new) }
     ensures stops { IfErr result (StopsTellingExchanges (O.device out.old) (O.device out.new)) }
 {

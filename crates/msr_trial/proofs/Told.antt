@@ -4,7 +4,7 @@ use Rattle.msr_devices.proofs.Chaining.{calm_same}
 use Rattle.msr_devices.specs.Device.{Device}
 use Rattle.msr_devices.specs.declared.fault.DeviceFault.TheVariants.{Memory}
 use Rattle.msr_folders.proofs.VisitLemmas.{part_none, these_none}
-use Rattle.msr_folders.proofs.WalkedLemmas.{goes_none, goes_so}
+use Rattle.msr_folders.proofs.ReadingLemmas.{visit_by, visited_by, visited_still}
 use Rattle.msr_folders.specs.Days.{IsDay, IsNoDay}
 use Rattle.msr_folders.specs.Entries.{Entry as Found, Left, Visit, WithoutList}
 use Rattle.msr_folders.specs.Paths.{joined, told_folder}
@@ -18,9 +18,8 @@ use Rattle.msr_outcomes.specs.declared.tally.Tally.{Tally}
 use Rattle.msr_sds.specs.SdsPath.{HasDate, IsWaveform, ReadsAs, SdsPath}
 use Rattle.msr_sds.specs.declared.SdsFault.{SdsFault}
 use Rattle.msr_sds.specs.declared.SdsFault.TheVariants.{BadDay, NotSds, NotWaveform}
-use Rattle.msr_tree.proofs.Reading.{look_lists_none, look_reads, looks_none}
 use Rattle.msr_tree.specs.Calls.{Goes}
-use Rattle.msr_tree.specs.Reads.{OnlyLooks, OnlyReads}
+use Rattle.msr_tree.specs.Reads.{OnlyReads}
 use Rattle.msr_tree.specs.Steps.{Path, Step}
 use Rattle.msr_tree.specs.declared.kind.FileKind.{FileKind}
 use Rattle.msr_tree.specs.declared.kind.FileKind.TheVariants.{Gone}
@@ -37,18 +36,10 @@ none_told days out = (part_none (IsTrialEntry days) (IsTrialLine days) out, (cal
 pub none_told_yet : (days : DayOptions) (out : Device) (tally : Tally) → TellsTrial days [] out out tally tally
 none_told_yet days out tally = these_none (IsTrialEntry days) (IsTrialLine days) IsTally out tally
 
-pub visit_looks : (old new : List Step) → OnlyLooks old new → VisitDoes OnlyReads (Unit {0}) old new
-visit_looks old new looks = record { does = look_reads old new looks; lists_none = λ none. look_lists_none old new looks }
-
--- where nothing is done
-pub visits_nothing : (before : List Step → Type 0) → Goes before before (VisitDoes OnlyReads (Unit {0}))
-visits_nothing before = goes_none (VisitDoes OnlyReads (Unit {0})) before (λ past. visit_looks past past (looks_none past))
-
 -- a day was tried
 pub tries_looks : (days : DayOptions) (path : Path) (result : Result Outcome AllocError) (before after : List Step → Type 0)
     → Goes before after (TriesDay days path result) → Goes before after (VisitDoes OnlyReads (Unit {0}))
-tries_looks days path result before after goes =
-    goes_so (TriesDay days path result) (VisitDoes OnlyReads (Unit {0})) before after (λ old new went is. visit_looks old new is.looks) goes
+tries_looks days path result before after goes = visit_by (TriesDay days path result) before after (λ old new is. is.looks) goes
 
 abbrev unlisted_entry : Path → Entry
 unlisted_entry path = record { path = path; channel = []; outcome = Refused Listing }
@@ -62,33 +53,29 @@ module _ (days : DayOptions) (root : Path) where
       → kind ≢ Gone → IsDay path → Goes before after (TriesDay days (joined root path) (Ok outcome))
       → TellsTrial days (record { path = path; channel = channel; outcome = outcome } ∷ []) out0 out tally0 tally
       → TellsOf (Found path kind) before after out0 out tally0 tally
-  visited_day path channel outcome kind before after out0 out tally0 tally there day goes told = record {
-    lines = record { path = path; channel = channel; outcome = outcome } ∷ [];
-    told = told;
-    goes = goes_so (TriesDay days (joined root path) (Ok outcome)) _ before after (λ old new went is. record {
-      done = visit_looks old new is.looks;
-      says = (
-        channel,
-        outcome,
-        refl,
-        record {
-          gone = λ gone. absurd (there gone);
-          day = λ some one_day. is.says;
-          other = λ some none. absurd (none day);
-        },
-      );
-    }) goes;
-  }
+  visited_day path channel outcome kind before after out0 out tally0 tally there day goes told =
+      visited_by (TellsTrial days) (IsTrialOfVisit root days) (Found path kind) (record { path = path; channel = channel; outcome = outcome } ∷ [])
+      (TriesDay days (joined root path) (Ok outcome)) before after out0 out tally0 tally
+      (λ old new is. (
+        is.looks,
+        (
+          channel,
+          outcome,
+          refl,
+          record {
+            gone = λ gone. absurd (there gone);
+            day = λ some one_day. is.says;
+            other = λ some none. absurd (none day);
+          },
+        ),
+      )) goes told
 
   -- where nothing is done
   told_still : (visit : Visit) (entry : Entry) (before : List Step → Type 0) (out0 out : Device) (tally0 tally : Tally)
       → ((past : List Step) → IsTrialOfVisit root days past past visit (entry ∷ []))
       → TellsTrial days (entry ∷ []) out0 out tally0 tally → TellsOf visit before before out0 out tally0 tally
-  told_still visit entry before out0 out tally0 tally so told = record {
-    lines = entry ∷ [];
-    told = told;
-    goes = goes_none _ before (λ past. record { done = visit_looks past past (looks_none past); says = so past });
-  }
+  told_still visit entry before out0 out tally0 tally so told =
+      visited_still (TellsTrial days) (IsTrialOfVisit root days) visit (entry ∷ []) before out0 out tally0 tally so told
 
   -- what is no day
   pub visited_other : (path : Path) (kind : FileKind) (fault : SdsFault) (before : List Step → Type 0) (out0 out : Device) (tally0 tally : Tally)
@@ -109,11 +96,8 @@ module _ (days : DayOptions) (root : Path) where
 
   -- a folder whose days were tried
   pub visited_left : (folder : Path) (before : List Step → Type 0) (out : Device) (tally : Tally) → TellsOf (Left folder) before before out out tally tally
-  visited_left folder before out tally = record {
-    lines = [];
-    told = none_told_yet days out tally;
-    goes = goes_none _ before (λ past. record { done = visit_looks past past (looks_none past); says = refl });
-  }
+  visited_left folder before out tally =
+      visited_still (TellsTrial days) (IsTrialOfVisit root days) (Left folder) [] before out out tally tally (λ past. refl) (none_told_yet days out tally)
 
   -- a folder that has no list
   pub visited_unlisted : (folder path : Path) (before : List Step → Type 0) (out0 out : Device) (tally0 tally : Tally) → path ≡ told_folder folder

@@ -53,4 +53,4 @@ IsTrialOfVisit root days old new (Left folder) entries = entries ≡ []
 abbrev pub IsArchiveTried : Trying → List Visit → List Entry → (old new : List Step) → Type 0
 IsArchiveTried asked visits entries old new =
     IsWalked (IsTrialOfVisit asked.root.now asked.days) OnlyReads (Unit {0}) asked.root.now
-    (λ past. AreEntriesOf past asked.root.now asked.below.items) visits entries old new
+    (λ past new. AreEntriesOf past asked.root.now asked.below.items) visits entries old new

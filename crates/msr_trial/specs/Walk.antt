@@ -28,7 +28,7 @@ TellsTrial days = TellsThese (IsTrialEntry days) (IsTrialLine days) IsTally
 -- the visits of an archive were told
 abbrev pub TellsTrialOf : Trying → (before after : List Step → Type 0) (out0 out : Device) (tally0 tally : Tally) → Type 0
 TellsTrialOf asked = TellsWalk (TellsTrial asked.days) (IsTrialOfVisit asked.root.now asked.days) OnlyReads (Unit {0}) asked.root.now
-    (λ past. AreEntriesOf past asked.root.now asked.below.items)
+    (λ past new. AreEntriesOf past asked.root.now asked.below.items)
 
 -- that was printed when the walk stopped
 abbrev pub StopsTrial : DayOptions → Device → Device → DeviceFault → Type 0

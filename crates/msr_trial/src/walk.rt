@@ -1,14 +1,11 @@
 //! The walk through the folders of an archive.
 ghost use Rattle.std.specs.Prelude.{◌≡◌, ◌≢◌, ◌↔◌, ◌∷◌, [], IfErr, IfOk, IsErrOf, OnOk};
 ghost use Rattle.msr_devices.specs.Device.{CanCountCall, HasFailed};
-ghost use Rattle.msr_devices.proofs.Chaining.{calm_same};
-ghost use Rattle.msr_folders.proofs.ReadingLemmas.{none_holds};
-ghost use Rattle.msr_folders.proofs.VisitLemmas.{part_none, stops_more, these_more, these_none};
+ghost use Rattle.msr_folders.proofs.ReadingLemmas.{none_holds, reading_laws};
 ghost use Rattle.msr_folders.specs.Entries.{Entry as Found};
 ghost use Rattle.msr_folders.specs.Walks.{TellsVisit, VisitDoes};
 ghost use Rattle.msr_outcomes.specs.Entries.{Entry, IsTally};
 ghost use Rattle.msr_sds.specs.SdsPath.{ReadsAsDay};
-ghost use Rattle.msr_tree.proofs.Reading.{reads_none, reads_then, reads_unlisted};
 ghost use Rattle.msr_tree.specs.Calls.{Goes};
 ghost use Rattle.msr_tree.specs.Reads.{OnlyReads};
 ghost use Rattle.msr_tree.specs.declared.kind.FileKind.{FileKind};
@@ -145,17 +142,7 @@ impl EntryVisitor for Trier<'_> {
 
     ghost root = { λ trier. trier.asked.now.root.now };
 
-    ghost laws = { record {
-      calm = λ trier lines out0 out tally0 tally these. these.told.calm;
-      none = λ trier. these_none (IsTrialEntry trier.asked.now.days) (IsTrialLine trier.asked.now.days) IsTally;
-      more = λ trier. these_more (IsTrialEntry trier.asked.now.days) (IsTrialLine trier.asked.now.days) IsTally;
-      refused = λ trier out. (part_none (IsTrialEntry trier.asked.now.days) (IsTrialLine trier.asked.now.days) out, (calm_same out).steady);
-      later = λ trier lines out0 out1 out tally0 tally1 fault these stopped.
-          stops_more (IsTrialEntry trier.asked.now.days) (IsTrialLine trier.asked.now.days) IsTally out0 out1 out tally0 tally1 fault these.told stopped;
-      still = λ trier. reads_none;
-      onward = λ trier. reads_then;
-      unlisted = λ trier. reads_unlisted;
-    } };
+    ghost laws = { reading_laws (λ trier. IsTrialEntry trier.asked.now.days) (λ trier. IsTrialLine trier.asked.now.days) IsTally };
 
     ghost listed = { none_holds };
 

@@ -165,9 +165,9 @@ module _ (old from to new : List Step) (before : OnlyReads old from) (after : On
 -- both walks
 both_told : (archive : Verifying) (visits records : List Visit) (entries orphans : List JudgedEntry) (old mid new : List Step)
     → IsWalked (IsToldOfRoot archive.known (names_asked archive.names) archive.folders.root.now archive.folders.out.now archive.folders.reports.now) OnlyReads (Unit {0}) archive.folders.root.now
-    (λ past. AreEntriesOf past archive.folders.root.now archive.below.items) visits entries old mid
+    (λ past new. AreEntriesOf past archive.folders.root.now archive.below.items) visits entries old mid
     → IsWalked (IsToldOfOut archive.known archive.folders.root.now archive.folders.out.now) OnlyReads (Unit {0}) archive.folders.out.now
-    (λ past. AreEntriesOf past archive.folders.out.now archive.below.items) records orphans mid new
+    (λ past new. AreEntriesOf past archive.folders.out.now archive.below.items) records orphans mid new
     → IsArchiveVerified archive.known (names_asked archive.names) archive.folders.root.now archive.folders.out.now archive.folders.reports.now archive.below.items entries orphans old new
 both_told archive visits records entries orphans old mid new one two =
     let root = archive.folders.root.now in
@@ -188,9 +188,9 @@ both_told archive visits records entries orphans old mid new one two =
 
 pub archive_told : (archive : Verifying) (before mid after : List Step → Type 0) (out0 out1 out : Device) (tally0 tally1 tally : VerifyTally)
     → TellsWalk (TellsEntries archive) (IsToldOfRoot archive.known (names_asked archive.names) archive.folders.root.now archive.folders.out.now archive.folders.reports.now) OnlyReads (Unit {0}) archive.folders.root.now
-    (λ past. AreEntriesOf past archive.folders.root.now archive.below.items) before mid out0 out1 tally0 tally1
+    (λ past new. AreEntriesOf past archive.folders.root.now archive.below.items) before mid out0 out1 tally0 tally1
     → TellsWalk (TellsEntries archive) (IsToldOfOut archive.known archive.folders.root.now archive.folders.out.now) OnlyReads (Unit {0}) archive.folders.out.now
-    (λ past. AreEntriesOf past archive.folders.out.now archive.below.items) mid after out1 out tally1 tally
+    (λ past new. AreEntriesOf past archive.folders.out.now archive.below.items) mid after out1 out tally1 tally
     → TellsArchive archive before after out0 out tally0 tally
 archive_told archive before mid after out0 out1 out tally0 tally1 tally one two = record {
   entries = one.lines;

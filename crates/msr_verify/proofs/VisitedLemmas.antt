@@ -2,17 +2,16 @@
 use Rattle.std.proofs.Common.{◌≡◌, ◌↔◌, inl, inr, ℕ, true, false, List, [], ◌∷◌, refl, Result, Ok, Err}
 use Rattle.msr_devices.specs.Device.{Device}
 use Rattle.msr_folders.proofs.VisitLemmas.{these_none}
-use Rattle.msr_folders.proofs.WalkedLemmas.{goes_none, goes_so}
+use Rattle.msr_folders.proofs.ReadingLemmas.{visited_by, visited_still}
 use Rattle.msr_folders.specs.Days.{IsDay, IsNoDay}
 use Rattle.msr_folders.specs.Entries.{Entry, Left, Visit, WithoutList}
 use Rattle.msr_folders.specs.Paths.{joined, told_folder}
-use Rattle.msr_folders.specs.Walks.{TellsVisit, VisitDoes}
+use Rattle.msr_folders.specs.Walks.{TellsVisit}
 use Rattle.msr_sds.specs.SdsPath.{HasDate, IsWaveform, ReadsAs, SdsPath}
 use Rattle.msr_sds.specs.declared.SdsFault.{SdsFault}
 use Rattle.msr_sds.specs.declared.SdsFault.TheVariants.{BadDay, NotSds, NotWaveform}
-use Rattle.msr_tree.proofs.Reading.{look_lists_none, look_reads, looks_none}
 use Rattle.msr_tree.specs.Calls.{Goes}
-use Rattle.msr_tree.specs.Reads.{OnlyLooks, OnlyReads}
+use Rattle.msr_tree.specs.Reads.{OnlyReads}
 use Rattle.msr_tree.specs.Steps.{Path, Step}
 use Rattle.msr_tree.specs.declared.kind.FileKind.{FileKind}
 use Rattle.msr_tree.specs.declared.kind.FileKind.TheVariants.{Folder, Gone, Other}
@@ -30,48 +29,13 @@ use Rattle.msr_verify.specs.declared.judgement.Judgement.TheVariants.{Orphan, Re
 use Rattle.msr_verify.specs.declared.judgement.Refusal.TheVariants.{RecordsListing}
 use Rattle.msr_verify.specs.declared.tally.VerifyTally.{VerifyTally}
 
-pub visit_looks : (old new : List Step) → OnlyLooks old new → VisitDoes OnlyReads (Unit {0}) old new
-visit_looks old new looks = record { does = look_reads old new looks; lists_none = λ none. look_lists_none old new looks }
-
--- a visit that makes this call
-pub visit_by : (Does : (old new : List Step) → Type 0) (before after : List Step → Type 0) → ((old new : List Step) → Does old new → OnlyLooks old new)
-    → Goes before after Does → Goes before after (VisitDoes OnlyReads (Unit {0}))
-visit_by Does before after so goes = goes_so Does (VisitDoes OnlyReads (Unit {0})) before after (λ old new went is. visit_looks old new (so old new is)) goes
-
-visited : (asked : Verifying) (Says : (old new : List Step) → Visit → List JudgedEntry → Type 0) (visit : Visit) (entries : List JudgedEntry) (Does : (old new : List Step) → Type 0)
-    (before after : List Step → Type 0) (out0 out : Device) (tally0 tally : VerifyTally)
-    → ((old new : List Step) → Does old new → OnlyLooks old new × Says old new visit entries)
-    → Goes before after Does → TellsEntries asked entries out0 out tally0 tally
-    → TellsVisit (TellsEntries asked) Says OnlyReads (Unit {0}) visit before after out0 out tally0 tally
-visited asked Says visit entries Does before after out0 out tally0 tally so goes told = record {
-  lines = entries;
-  told = told;
-  goes = goes_so _ _ before after (λ old new went is.
-      let both = so old new is in
-      record { done = visit_looks old new both.0; says = both.1 }) goes;
-}
-
-visited_still : (asked : Verifying) (Says : (old new : List Step) → Visit → List JudgedEntry → Type 0) (visit : Visit) (entries : List JudgedEntry)
-    (before : List Step → Type 0) (out0 out : Device) (tally0 tally : VerifyTally)
-    → ((past : List Step) → Says past past visit entries) → TellsEntries asked entries out0 out tally0 tally
-    → TellsVisit (TellsEntries asked) Says OnlyReads (Unit {0}) visit before before out0 out tally0 tally
-visited_still asked Says visit entries before out0 out tally0 tally so told = record {
-  lines = entries;
-  told = told;
-  goes = goes_none _ before (λ past. record { done = visit_looks past past (looks_none past); says = so past });
-}
-
 pub none_told_yet : (asked : Verifying) (out : Device) (tally : VerifyTally) → TellsEntries asked [] out out tally tally
 none_told_yet asked out tally = these_none (IsJudgedEntry asked) (IsToldLine asked) IsVerifyTally out tally
 
--- at the end of a folder nothing is done
-pub left_folder : (before : List Step → Type 0) → Goes before before (VisitDoes OnlyReads (Unit {0}))
-left_folder before = goes_none (VisitDoes OnlyReads (Unit {0})) before (λ past. visit_looks past past (looks_none past))
-
--- then nothing is told
+-- at the end of a folder nothing is told
 pub left_quiet : (asked : Verifying) (Says : (old new : List Step) → Visit → List JudgedEntry → Type 0) (folder : Path) (before : List Step → Type 0) (out : Device) (tally : VerifyTally)
     → ((past : List Step) → Says past past (Left folder) []) → TellsVisit (TellsEntries asked) Says OnlyReads (Unit {0}) (Left folder) before before out out tally tally
-left_quiet asked Says folder before out tally so = visited_still asked Says (Left folder) [] before out out tally tally so (none_told_yet asked out tally)
+left_quiet asked Says folder before out tally so = visited_still (TellsEntries asked) Says (Left folder) [] before out out tally tally so (none_told_yet asked out tally)
 
 -- A path that is read as no day.
 module _ (path : List ℕ) (result : Result SdsPath SdsFault)
@@ -94,7 +58,7 @@ pub visited_day : (asked : Verifying) (root out_root reports path : Path) (kind 
     → TellsEntries asked (record { path = path; judgement = known_as asked.known path judgement } ∷ []) out0 out tally0 tally
     → TellsVisit (TellsEntries asked) (IsToldOfRoot asked.known (names_asked asked.names) root out_root reports) OnlyReads (Unit {0}) (Entry path kind) before after out0 out tally0 tally
 visited_day asked root out_root reports path kind judgement before after out0 out tally0 tally day goes told =
-    visited asked (IsToldOfRoot asked.known (names_asked asked.names) root out_root reports) (Entry path kind) (record { path = path; judgement = known_as asked.known path judgement } ∷ [])
+    visited_by (TellsEntries asked) (IsToldOfRoot asked.known (names_asked asked.names) root out_root reports) (Entry path kind) (record { path = path; judgement = known_as asked.known path judgement } ∷ [])
     (JudgesNamed (names_for (day_name day.0) (names_asked asked.names)) (day_places root out_root reports path) (Ok judgement)) before after out0 out tally0 tally
     (λ old new is. (is.looks, (judgement, refl, record { day = λ one. (day.0, day.1, is.says); other = λ none. absurd (none day) }))) goes told
 
@@ -104,7 +68,7 @@ pub visited_other : (asked : Verifying) (root out_root reports path : Path) (kin
     → TellsEntries asked (record { path = path; judgement = known_as asked.known path (other_judgement kind fault) } ∷ []) out0 out tally0 tally
     → TellsVisit (TellsEntries asked) (IsToldOfRoot asked.known (names_asked asked.names) root out_root reports) OnlyReads (Unit {0}) (Entry path kind) before before out0 out tally0 tally
 visited_other asked root out_root reports path kind fault before out0 out tally0 tally none is told =
-    visited_still asked (IsToldOfRoot asked.known (names_asked asked.names) root out_root reports) (Entry path kind) (record { path = path; judgement = known_as asked.known path (other_judgement kind fault) } ∷ [])
+    visited_still (TellsEntries asked) (IsToldOfRoot asked.known (names_asked asked.names) root out_root reports) (Entry path kind) (record { path = path; judgement = known_as asked.known path (other_judgement kind fault) } ∷ [])
     before out0 out tally0 tally
     (λ past. (other_judgement kind fault, refl, record { day = λ day. absurd (none day); other = λ no_day. (fault, is, refl) })) told
 
@@ -112,7 +76,7 @@ visited_other asked root out_root reports path kind fault before out0 out tally0
 pub passed_other : (asked : Verifying) (root out_root path : Path) (kind : FileKind) (before : List Step → Type 0) (out : Device) (tally : VerifyTally) → ¬ (IsDay path)
     → TellsVisit (TellsEntries asked) (IsToldOfOut asked.known root out_root) OnlyReads (Unit {0}) (Entry path kind) before before out out tally tally
 passed_other asked root out_root path kind before out tally none =
-    visited_still asked (IsToldOfOut asked.known root out_root) (Entry path kind) [] before out out tally tally
+    visited_still (TellsEntries asked) (IsToldOfOut asked.known root out_root) (Entry path kind) [] before out out tally tally
     (λ past. record { orphan = λ day. absurd (none day); other = λ no_day. refl }) (none_told_yet asked out tally)
 
 -- a day of the records that the archive may have
@@ -120,7 +84,7 @@ pub passed_day : (asked : Verifying) (root out_root path : Path) (kind : FileKin
     → Goes before after (MayHave (joined root path) (Ok true))
     → TellsVisit (TellsEntries asked) (IsToldOfOut asked.known root out_root) OnlyReads (Unit {0}) (Entry path kind) before after out out tally tally
 passed_day asked root out_root path kind before after out tally day goes =
-    visited asked (IsToldOfOut asked.known root out_root) (Entry path kind) [] (MayHave (joined root path) (Ok true)) before after out out tally tally
+    visited_by (TellsEntries asked) (IsToldOfOut asked.known root out_root) (Entry path kind) [] (MayHave (joined root path) (Ok true)) before after out out tally tally
     (λ old new is. (is.looks, record { orphan = λ one. inr (refl, is.yes refl); other = λ none. absurd (none day) })) goes (none_told_yet asked out tally)
 
 -- one that it does not have
@@ -129,7 +93,7 @@ pub visited_orphan : (asked : Verifying) (root out_root path : Path) (kind : Fil
     → TellsEntries asked (record { path = path; judgement = Orphan } ∷ []) out0 out tally0 tally
     → TellsVisit (TellsEntries asked) (IsToldOfOut asked.known root out_root) OnlyReads (Unit {0}) (Entry path kind) before after out0 out tally0 tally
 visited_orphan asked root out_root path kind before after out0 out tally0 tally day goes told =
-    visited asked (IsToldOfOut asked.known root out_root) (Entry path kind) (record { path = path; judgement = Orphan } ∷ []) (MayHave (joined root path) (Ok false))
+    visited_by (TellsEntries asked) (IsToldOfOut asked.known root out_root) (Entry path kind) (record { path = path; judgement = Orphan } ∷ []) (MayHave (joined root path) (Ok false))
     before after out0 out tally0 tally
     (λ old new is. (is.looks, record { orphan = λ one. inl (refl, is.no refl); other = λ none. absurd (none day) })) goes told
 
@@ -138,7 +102,7 @@ pub passed_folder : (asked : Verifying) (root out_root folder : Path) (before af
     → Goes before after (MayHave (joined out_root folder) (Ok false))
     → TellsVisit (TellsEntries asked) (IsToldOfOut asked.known root out_root) OnlyReads (Unit {0}) (WithoutList folder) before after out out tally tally
 passed_folder asked root out_root folder before after out tally goes =
-    visited asked (IsToldOfOut asked.known root out_root) (WithoutList folder) [] (MayHave (joined out_root folder) (Ok false)) before after out out tally tally
+    visited_by (TellsEntries asked) (IsToldOfOut asked.known root out_root) (WithoutList folder) [] (MayHave (joined out_root folder) (Ok false)) before after out out tally tally
     (λ old new is. (is.looks, inr (refl, is.no refl))) goes (none_told_yet asked out tally)
 
 -- one that may be there
@@ -147,6 +111,6 @@ pub visited_records : (asked : Verifying) (root out_root folder : Path) (before 
     → TellsEntries asked (record { path = told_folder folder; judgement = known_as asked.known (told_folder folder) (Refused RecordsListing) } ∷ []) out0 out tally0 tally
     → TellsVisit (TellsEntries asked) (IsToldOfOut asked.known root out_root) OnlyReads (Unit {0}) (WithoutList folder) before after out0 out tally0 tally
 visited_records asked root out_root folder before after out0 out tally0 tally goes told =
-    visited asked (IsToldOfOut asked.known root out_root) (WithoutList folder) (record { path = told_folder folder; judgement = known_as asked.known (told_folder folder) (Refused RecordsListing) } ∷ [])
+    visited_by (TellsEntries asked) (IsToldOfOut asked.known root out_root) (WithoutList folder) (record { path = told_folder folder; judgement = known_as asked.known (told_folder folder) (Refused RecordsListing) } ∷ [])
     (MayHave (joined out_root folder) (Ok true)) before after out0 out tally0 tally
     (λ old new is. (is.looks, inl refl)) goes told

@@ -7,4 +7,3 @@ pub mod Laws
 pub mod Lines
 pub mod Opening
 pub mod Walk
-pub mod VisitorLaws

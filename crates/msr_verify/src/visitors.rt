@@ -1,13 +1,13 @@
 //! What is told of an entry of the archive, and of one of its records.
 ghost use Rattle.std.specs.Prelude.{◌≡◌, ◌∷◌, [], IfErr, OnOk};
 ghost use Rattle.msr_devices.specs.Device.{CanCountCall};
-ghost use Rattle.msr_folders.proofs.ReadingLemmas.{none_holds};
+ghost use Rattle.msr_folders.proofs.ReadingLemmas.{none_holds, reading_laws};
 ghost use Rattle.msr_sds.specs.declared.SdsFault.{SdsFault};
 ghost use Rattle.msr_tree.specs.Reads.{OnlyReads};
-ghost use Rattle.msr_verify.specs.VisitorLaws.{judged_laws};
-ghost use Rattle.msr_verify.specs.Entries.{IsJudgementOf, JudgedEntry};
+ghost use Rattle.msr_verify.specs.Entries.{IsJudgementOf, IsVerifyTally, JudgedEntry};
 ghost use Rattle.msr_verify.specs.Files.{IsToldOfOut, IsToldOfRoot, names_asked, other_judgement};
-ghost use Rattle.msr_verify.specs.Known.{known_as};
+ghost use Rattle.msr_verify.specs.Known.{IsJudgedEntry, known_as};
+ghost use Rattle.msr_verify.specs.Lines.{IsToldLine};
 ghost use Rattle.msr_verify.specs.Walk.{StopsTellingJudged, TellsEntries};
 
 use crate::day::{judge_day, may_have};
@@ -84,7 +84,7 @@ impl EntryVisitor for Judging<'_> {
 
     ghost root = { λ judging. judging.archive.now.folders.root.now };
 
-    ghost laws = { judged_laws (λ judging. judging.archive.now) };
+    ghost laws = { reading_laws (λ judging. IsJudgedEntry judging.archive.now) (λ judging. IsToldLine judging.archive.now) IsVerifyTally };
 
     ghost listed = { none_holds };
 
@@ -199,7 +199,7 @@ impl EntryVisitor for Searching<'_> {
 
     ghost root = { λ searching. searching.archive.now.folders.out.now };
 
-    ghost laws = { judged_laws (λ searching. searching.archive.now) };
+    ghost laws = { reading_laws (λ searching. IsJudgedEntry searching.archive.now) (λ searching. IsToldLine searching.archive.now) IsVerifyTally };
 
     ghost listed = { none_holds };
 

@@ -5,7 +5,7 @@ use Rattle.msr_devices.proofs.Chaining.{takes_append}
 use Rattle.std.specs.Borrow.{Bor}
 use Rattle.msr_folders.proofs.WalkedLemmas.{goes_then, tells_now, walk_left}
 use Rattle.msr_folders.proofs.WithinLemmas.{root_same, within_laws, within_then}
-use Rattle.msr_folders.specs.Entries.{AreEntriesOf, AreEntriesSince, Visit}
+use Rattle.msr_folders.specs.Entries.{AreEntriesBetween, AreEntriesOf, Visit}
 use Rattle.msr_folders.specs.Visits.{IsWalk}
 use Rattle.msr_folders.specs.Walks.{TellsWalk as TellsVisits}
 use Rattle.msr_options.specs.declared.task.Archiving.{Archiving}
@@ -28,7 +28,7 @@ abbrev pub TellsArchive : {P : Type 0} → (P → Tally) → Archiving → (befo
 TellsArchive tally archive =
     TellsVisits (TellsOutcomesOf tally archive) (IsToldOfVisit archive.folders.root.now archive.folders.out.now archive.folders.reports.now archive)
     (ChangesWithin archive.folders.out.now archive.folders.reports.now) (Unit {0}) archive.folders.root.now
-    (λ past. AreEntriesOf past archive.folders.root.now archive.below.items)
+    (λ past new. AreEntriesOf past archive.folders.root.now archive.below.items)
 
 pub tree_ends : {P : Type 0} (tally : P → Tally) (archive : Archiving) (before after : List Step → Type 0) (out0 out1 out : Device) (of0 of : P) (walked : Walked)
     → (told : TellsArchive tally archive before after out0 out1 of0 of) → Takes out1 out (summary archive told.told.told.entries)
@@ -53,7 +53,7 @@ pub told_and_left : {P : Type 0} (tally : P → Tally) (archive : Archiving)
     → (below : List (Bor Path)) (before mid after : List Step → Type 0) (out0 out : Device) (of0 of1 of : P) → below ≡ archive.below.items → tally of ≡ tally of1
     → TellsVisits (TellsOutcomesOf tally archive) (IsToldOfVisit archive.folders.root.now archive.folders.out.now archive.folders.reports.now archive)
     (ChangesWithin archive.folders.out.now archive.folders.reports.now) (Unit {0}) archive.folders.root.now
-    (λ past. AreEntriesSince (ChangesWithin archive.folders.out.now archive.folders.reports.now) past archive.folders.root.now below) before mid out0 out of0 of1
+    (λ past new. AreEntriesBetween (ChangesWithin archive.folders.out.now archive.folders.reports.now) past new archive.folders.root.now below) before mid out0 out of0 of1
     → Goes mid after (WorksFor archive.folders) → TellsArchive tally archive before after out0 out of0 of
 told_and_left tally archive apart below before mid after out0 out of0 of1 of is same told goes =
     let root : Path = archive.folders.root.now in
@@ -61,11 +61,11 @@ told_and_left tally archive apart below before mid after out0 out of0 of1 of is 
     let reports : Path = archive.folders.reports.now in
     let says : (old new : List Step) → Visit → List Entry → Type 0 = IsToldOfVisit root outf reports archive in
     let does : (old new : List Step) → Type 0 = ChangesWithin outf reports in
-    subst (λ b. TellsVisits (TellsOutcomesOf tally archive) says does (Unit {0}) root (λ past. AreEntriesOf past root b) before after out0 out of0 of) is
+    subst (λ b. TellsVisits (TellsOutcomesOf tally archive) says does (Unit {0}) root (λ past new. AreEntriesOf past root b) before after out0 out of0 of) is
     (walk_left {V = Unit {0}} (λ v. TellsOutcomesOf tally archive) (λ v. StopsTellingOutcomes archive) (λ v. says) (λ v. does) (λ v. Unit {0})
     (within_laws {V = Unit {0}} (λ v. IsEntry archive) (λ v. IsEntryLine archive) (λ entries counted. IsTally entries (tally counted))
     (λ v. outf) (λ v. reports))
-    tt root (λ past. AreEntriesOf past root below) before mid after out0 out of0 of1 of
+    tt root (λ past new. AreEntriesOf past root below) before mid after out0 out of0 of1 of (λ old middle new visits are. are)
     (tells_now (TellsOutcomesOf tally archive) says does (Unit {0}) root below before mid out0 out of0 of1
     (λ old new changes. root_same outf reports root apart old new changes) told)
     (λ at. none_among tally archive at of1 of same) goes)

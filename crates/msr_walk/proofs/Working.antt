@@ -96,19 +96,6 @@ module _ (out reports : Path) where
       → Goes before after (WorksWithin out reports)
   goes_works_then before mid after one two = goes_then _ _ _ before mid after works_then one two
 
-  -- a name within one of them is taken away
-  pub works_removed : {T : Type 0} (path given : Path) (result : Result T TreeFault) (before after : List Step → Type 0) → given ≡ path
-      → StandsWithin out path ⊎ StandsWithin reports path → Goes before after (DoesStep (Removed given) result) → Goes before after (WorksWithin out reports)
-  works_removed path given result before after same is goes = goes_so _ _ before after (λ old new went does.
-      works_only (given ∷ []) old new
-      (λ name lacks none. (
-        ⊎_elim
-            (λ one. apart_from out name given (subst (λ p. StandsWithin out p) (sym same) one) lacks)
-            (λ other. apart_from reports name given (subst (λ p. StandsWithin reports p) (sym same) other) none) is,
-        tt,
-      ))
-      (removes_only given result old new does) (leaves_does (Removed given) result old new tt does)) goes
-
 -- lists of days
 pub all_at : {X : Type 0} (P : X → Type 0) (xs : List X) (i : ℕ) (x : X) → AllByRecursion P xs → i < length xs → x ≡ get_or xs i x → P x
 all_at P [] i x all lt is = absurd (omega (arith, lt))

@@ -123,7 +123,7 @@ abbrev pub IsArchiveTold : Archiving → List Visit → List Entry → (old new 
 IsArchiveTold archive visits entries old new =
     let folders = archive.folders in
     IsWalked (IsToldOfVisit folders.root.now folders.out.now folders.reports.now archive) (ChangesWithin folders.out.now folders.reports.now) (Unit {0})
-    folders.root.now (λ past. AreEntriesOf past folders.root.now archive.below.items) visits entries old new
+    folders.root.now (λ past new. AreEntriesOf past folders.root.now archive.below.items) visits entries old new
 
 -- The whole text was printed: a line for each entry of the archive, in order, but for those that are left out, and then what
 -- all of these sum up to.

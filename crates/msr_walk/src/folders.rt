@@ -251,7 +251,7 @@ impl<'a, C: Claims> Walker<'a, C> {
         requires count { CanCountCall (O.device out.old) }
         requires days { AreWaitingAt (T.went tree.old) self.now.archive.now.folders.reports.now progress.old.batch.days.items }
         ensures told { OnOk result (TellsVisits (TellsOutcomesOf (λ of. of.tally) self.now.archive.now) (IsToldOfVisit self.now.archive.now.folders.root.now self.now.archive.now.folders.out.now self.now.archive.now.folders.reports.now self.now.archive.now) (ChangesWithin self.now.archive.now.folders.out.now self.now.archive.now.folders.reports.now) (Unit {0}) self.now.archive.now.folders.root.now
-            (λ past. AreEntriesOf past self.now.archive.now.folders.root.now self.now.archive.now.below.items)
+            (λ past new. AreEntriesOf past self.now.archive.now.folders.root.now self.now.archive.now.below.items)
             (T.went tree.old) (T.went tree.new) (O.device out.old) (O.device out.new) progress.old progress.new) }
         ensures stops { IfErr result (StopsTellingOutcomes self.now.archive.now (O.device out.old) (O.device out.new)) }
         ensures does { Goes (T.went tree.old) (T.went tree.new) (ChangesWithin self.now.archive.now.folders.out.now self.now.archive.now.folders.reports.now) }

@@ -1,15 +1,15 @@
-use Rattle.std.proofs.Common.{rules, ◌≡◌, ◌≢◌, ◌<◌, ◌+◌, ◌-◌, ◌++◌, ◌∙◌, List, ℕ, [], ◌∷◌, Ok, refl, sym, ap, subst, take, get_or, length, arith}
+use Rattle.std.proofs.Common.{◌≡◌, ◌≢◌, ◌<◌, ◌+◌, ◌-◌, ◌++◌, ◌∙◌, List, ℕ, [], ◌∷◌, sym, ap, subst, take, get_or, length, arith}
 use Rattle.std.proofs.lemmas.List.{length-map, take_more}
 use Rattle.std.proofs.Math.Seq.{take-length}
 use Rattle.std.specs.Prelude.{string_bytes}
-use Rattle.msr_tree.specs.Listing.{IsListing, IsTold, ListsFolder, listed}
+use Rattle.msr_tree.specs.Listing.{IsTold, listed}
 use Rattle.msr_tree.specs.Steps.{Path, Step}
 use Rattle.msr_tree.specs.declared.kind.FileKind.{FileKind}
 use Rattle.msr_tree.specs.declared.kind.FileKind.TheVariants.{Folder, Other}
-use Rattle.msr_folders.specs.Entries.{AreEntries, Entry}
+use Rattle.msr_folders.specs.Entries.{AreEntries, Entry, IsMoment}
 use Rattle.msr_folders.specs.Opening.{AreSoFar}
 use Rattle.msr_folders.specs.Paths.{below, joined}
-use Rattle.msr_folders.specs.Walks.{HoldsAt, TellsVisit, TellsWalk, VisitDoes}
+use Rattle.msr_folders.specs.Walks.{TellsVisit, TellsWalk}
 use Rattle.msr_folders.proofs.WalkedLemmas.{all_names, does_then, does_walk, name_at, next_entry, next_folder, next_name, on_ok_as}
 use Rattle.msr_folders.proofs.entries.+visit_folder.Goals.{then-levels-eq0, else-levels-eq0, then-levels-gt0+then-eq+in_ok-visit_folder, else-levels-gt0+in_ok-visit_entry, else-levels-gt0-via-then-levels-gt0+else-eq, else-levels-gt0-via-else-levels-gt0}
 use Rattle.msr_folders.proofs.entries.+visit_folder.Goals as goal
@@ -22,7 +22,7 @@ loop-name-init g t c =
     let visitor = c.args.walk.now.visitor.now in
     let root : Path = c.args.walk.now.root.now in (
       subst (λ items. TellsWalk (g.V.EntryVisitor.tells visitor) (g.V.EntryVisitor.says visitor) (g.V.EntryVisitor.does visitor) (g.V.EntryVisitor.listless visitor) root
-          (AreSoFar (g.V.EntryVisitor.does visitor) root c.args.levels c.args.folder.now (listed items) [])
+          (λ past new. AreSoFar (IsMoment (g.V.EntryVisitor.does visitor) new) root c.args.levels c.args.folder.now (listed items) [] past)
           (g.T.Tree.went c.args.tree.now) (g.T.Tree.went c.open_folder.new.tree)
           (g.O.Sink.device c.args.out.now) (g.O.Sink.device c.open_folder.new.out) c.args.tally.now c.open_folder.new.tally)
           (sym c.deref-name-items.ensures.value) (rw c.in-Some.is at c.in_ok-opened.ensures.told),
@@ -58,7 +58,7 @@ loop-name-preserved g t c =
                 (g.T.Tree.went c.loop-name.tree) (g.T.Tree.went w.visit_folder.new.tree)
                 (g.O.Sink.device c.loop-name.out) (g.O.Sink.device w.visit_folder.new.out) c.loop-name.tally w.visit_folder.new.tally w.if-levels-gt0.true
                 (subst (λ p. TellsWalk (g.V.EntryVisitor.tells visitor) (g.V.EntryVisitor.says visitor) (g.V.EntryVisitor.does visitor) (g.V.EntryVisitor.listless visitor) root
-                (λ past. AreEntries (g.V.EntryVisitor.does visitor) past root (levels - 1) p) (g.T.Tree.went c.loop-name.tree) (g.T.Tree.went w.visit_folder.new.tree)
+                (λ past new. AreEntries (IsMoment (g.V.EntryVisitor.does visitor) new) past root (levels - 1) p) (g.T.Tree.went c.loop-name.tree) (g.T.Tree.went w.visit_folder.new.tree)
                 (g.O.Sink.device c.loop-name.out) (g.O.Sink.device w.visit_folder.new.out) c.loop-name.tally w.visit_folder.new.tally) at w.in_ok-visit_folder.ensures.told)),
             w.visit_folder.ensures.holds,
           )
@@ -113,7 +113,7 @@ returns-clause-told g t c =
     (g.O.Sink.device c.args.out.now) (g.O.Sink.device c.loop-name.out) (g.O.Sink.device c.leave_folder.new.out)
     c.args.tally.now c.loop-name.tally c.leave_folder.new.tally
     (subst (λ taken. TellsWalk (g.V.EntryVisitor.tells visitor) (g.V.EntryVisitor.says visitor) (g.V.EntryVisitor.does visitor) (g.V.EntryVisitor.listless visitor) root
-    (AreSoFar (g.V.EntryVisitor.does visitor) root levels folder names taken) (g.T.Tree.went c.args.tree.now) (g.T.Tree.went c.loop-name.tree)
+    (λ past new. AreSoFar (IsMoment (g.V.EntryVisitor.does visitor) new) root levels folder names taken past) (g.T.Tree.went c.args.tree.now) (g.T.Tree.went c.loop-name.tree)
     (g.O.Sink.device c.args.out.now) (g.O.Sink.device c.loop-name.out) c.args.tally.now c.loop-name.tally) all c.loop-name.invariant.0) left)
     c.leave_folder.ensures.told
 
@@ -126,7 +126,8 @@ returns-clause-does g t c =
     (g.T.Tree.went c.args.tree.now) (g.T.Tree.went c.loop-name.tree) (g.T.Tree.went c.leave_folder.new.tree)
     (does_walk g.V.EntryVisitor.tells g.V.EntryVisitor.stops g.V.EntryVisitor.says g.V.EntryVisitor.does
     g.V.EntryVisitor.listless g.met.V.EntryVisitor.laws visitor root
-    (AreSoFar (g.V.EntryVisitor.does visitor) root c.args.levels c.args.folder.now (listed c.deref-name-items.result.now) (take c.loop-name.name-index (listed c.deref-name-items.result.now)))
+    (λ past new. AreSoFar (IsMoment (g.V.EntryVisitor.does visitor) new) root c.args.levels c.args.folder.now
+    (listed c.deref-name-items.result.now) (take c.loop-name.name-index (listed c.deref-name-items.result.now)) past)
     (g.T.Tree.went c.args.tree.now) (g.T.Tree.went c.loop-name.tree)
     (g.O.Sink.device c.args.out.now) (g.O.Sink.device c.loop-name.out) c.args.tally.now c.loop-name.tally c.loop-name.invariant.0)
     c.leave_folder.ensures.does

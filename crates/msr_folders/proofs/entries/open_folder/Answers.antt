@@ -1,7 +1,7 @@
 use Rattle.std.proofs.Common.{rules, ◌≡◌}
 use Rattle.msr_tree.specs.Listing.{listed}
 use Rattle.msr_folders.specs.Paths.{joined}
-use Rattle.msr_folders.proofs.WalkedLemmas.{does_both, does_listed, does_then, does_visit, opens_listed, opens_passed, opens_unlisted}
+use Rattle.msr_folders.proofs.WalkedLemmas.{does_entered, opens_listed, opens_passed, opens_unlisted}
 use Rattle.msr_folders.proofs.entries.open_folder.Goals as goal
 
 pub returns-in_default-clause-told : goal.returns-in_default-clause-told
@@ -25,20 +25,10 @@ returns-in-Ok-clause-told g c =
 pub returns-in_err-visit_unlisted-in-Err-Failed-clause-does :
     goal.returns-in_err-visit_unlisted-in-Err-Failed-clause-does
 returns-in_err-visit_unlisted-in-Err-Failed-clause-does g c =
-    let visitor = c.args.walk.now.visitor.now in
-    let root = c.args.walk.now.root.now in
-    let one = g.T.Tree.went c.args.tree.now in
-    let two = g.T.Tree.went c.enter_folder.new.tree in
-    let three = g.T.Tree.went c.list.new.self in
-    does_then g.V.EntryVisitor.tells g.V.EntryVisitor.stops g.V.EntryVisitor.says g.V.EntryVisitor.does g.V.EntryVisitor.listless
-    g.met.V.EntryVisitor.laws visitor root one three (g.T.Tree.went c.visit_unlisted.new.tree)
-    (does_both g.V.EntryVisitor.tells g.V.EntryVisitor.stops g.V.EntryVisitor.says g.V.EntryVisitor.does g.V.EntryVisitor.listless
-    g.met.V.EntryVisitor.laws visitor root one two three
-    (does_visit g.V.EntryVisitor.tells g.V.EntryVisitor.stops g.V.EntryVisitor.says g.V.EntryVisitor.does g.V.EntryVisitor.listless
-    g.met.V.EntryVisitor.laws visitor root one two c.enter_folder.ensures.does)
-    (does_listed g.V.EntryVisitor.tells g.V.EntryVisitor.stops g.V.EntryVisitor.says g.V.EntryVisitor.does g.V.EntryVisitor.listless
-    g.met.V.EntryVisitor.laws visitor root c.as_str.result.now (λ names. listed names.items) c.list.result two three c.list.ensures.went))
-    c.visit_unlisted.ensures.does
+    does_entered g.V.EntryVisitor.tells g.V.EntryVisitor.stops g.V.EntryVisitor.says g.V.EntryVisitor.does g.V.EntryVisitor.listless
+    g.met.V.EntryVisitor.laws c.args.walk.now.visitor.now c.args.walk.now.root.now c.as_str.result.now (λ names. listed names.items) c.list.result
+    (g.T.Tree.went c.args.tree.now) (g.T.Tree.went c.enter_folder.new.tree) (g.T.Tree.went c.list.new.self) (g.T.Tree.went c.visit_unlisted.new.tree)
+    c.enter_folder.ensures.does c.list.ensures.went c.visit_unlisted.ensures.does
 
 pub returns-clause-told : goal.returns-clause-told
 returns-clause-told g c =
@@ -53,17 +43,7 @@ returns-clause-told g c =
 
 pub returns-clause-does : goal.returns-clause-does
 returns-clause-does g c =
-    let visitor = c.args.walk.now.visitor.now in
-    let root = c.args.walk.now.root.now in
-    let one = g.T.Tree.went c.args.tree.now in
-    let two = g.T.Tree.went c.enter_folder.new.tree in
-    let three = g.T.Tree.went c.list.new.self in
-    does_then g.V.EntryVisitor.tells g.V.EntryVisitor.stops g.V.EntryVisitor.says g.V.EntryVisitor.does g.V.EntryVisitor.listless
-    g.met.V.EntryVisitor.laws visitor root one three (g.T.Tree.went c.visit_unlisted.new.tree)
-    (does_both g.V.EntryVisitor.tells g.V.EntryVisitor.stops g.V.EntryVisitor.says g.V.EntryVisitor.does g.V.EntryVisitor.listless
-    g.met.V.EntryVisitor.laws visitor root one two three
-    (does_visit g.V.EntryVisitor.tells g.V.EntryVisitor.stops g.V.EntryVisitor.says g.V.EntryVisitor.does g.V.EntryVisitor.listless
-    g.met.V.EntryVisitor.laws visitor root one two c.enter_folder.ensures.does)
-    (does_listed g.V.EntryVisitor.tells g.V.EntryVisitor.stops g.V.EntryVisitor.says g.V.EntryVisitor.does g.V.EntryVisitor.listless
-    g.met.V.EntryVisitor.laws visitor root c.as_str.result.now (λ names. listed names.items) c.list.result two three c.list.ensures.went))
-    c.visit_unlisted.ensures.does
+    does_entered g.V.EntryVisitor.tells g.V.EntryVisitor.stops g.V.EntryVisitor.says g.V.EntryVisitor.does g.V.EntryVisitor.listless
+    g.met.V.EntryVisitor.laws c.args.walk.now.visitor.now c.args.walk.now.root.now c.as_str.result.now (λ names. listed names.items) c.list.result
+    (g.T.Tree.went c.args.tree.now) (g.T.Tree.went c.enter_folder.new.tree) (g.T.Tree.went c.list.new.self) (g.T.Tree.went c.visit_unlisted.new.tree)
+    c.enter_folder.ensures.does c.list.ensures.went c.visit_unlisted.ensures.does

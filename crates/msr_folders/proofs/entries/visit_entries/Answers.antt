@@ -3,7 +3,7 @@ use Rattle.std.proofs.lemmas.List.{take_more}
 use Rattle.std.specs.Borrow.{Bor}
 use Rattle.msr_tree.specs.Steps.{Path}
 use Rattle.msr_folders.proofs.WalkedLemmas.{is_nothing, next_below, no_folder_yet, on_ok_as}
-use Rattle.msr_folders.specs.Entries.{AreEntriesSince}
+use Rattle.msr_folders.specs.Entries.{AreEntriesBetween}
 use Rattle.msr_folders.specs.Walks.{TellsWalk}
 use Rattle.msr_folders.proofs.entries.visit_entries.Goals as goal
 
@@ -13,7 +13,7 @@ returns-then-is_empty-clause-told g c =
     let root : Path = c.args.walk.now.root.now in
     let none : c.args.walk.now.below.now ≡ [] = is_nothing c.args.walk.now.below.now c.is_empty.result c.is_empty.ensures c.if-is_empty.true in
     on_ok_as c.visit_folder.result (λ told. subst (λ folders. TellsWalk (g.V.EntryVisitor.tells visitor) (g.V.EntryVisitor.says visitor)
-    (g.V.EntryVisitor.does visitor) (g.V.EntryVisitor.listless visitor) root (λ past. AreEntriesSince (g.V.EntryVisitor.does visitor) past root folders)
+    (g.V.EntryVisitor.does visitor) (g.V.EntryVisitor.listless visitor) root (λ past new. AreEntriesBetween (g.V.EntryVisitor.does visitor) past new root folders)
     (g.T.Tree.went c.args.tree.now) (g.T.Tree.went c.visit_folder.new.tree)
     (g.O.Sink.device c.args.out.now) (g.O.Sink.device c.visit_folder.new.out) c.args.tally.now c.visit_folder.new.tally) (sym none) told)
     c.visit_folder.ensures.told

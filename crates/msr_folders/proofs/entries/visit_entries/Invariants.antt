@@ -1,5 +1,5 @@
 use Rattle.std.proofs.Common.{take}
-use Rattle.msr_folders.specs.Entries.{AreEntriesBelow, ForEach}
+use Rattle.msr_folders.specs.Entries.{AreEntriesBelow, ForEach, IsMoment}
 use Rattle.msr_folders.specs.Walks.{HoldsAt, TellsWalk}
 use Rattle.msr_folders.proofs.entries.visit_entries.Given as goal
 
@@ -7,6 +7,6 @@ use Rattle.msr_folders.proofs.entries.visit_entries.Given as goal
 abbrev pub invariant-loop-folder : goal.invariant-loop-folder
 invariant-loop-folder g l = TellsWalk (g.V.EntryVisitor.tells l.fn.walk.visitor.now) (g.V.EntryVisitor.says l.fn.walk.visitor.now)
     (g.V.EntryVisitor.does l.fn.walk.visitor.now) (g.V.EntryVisitor.listless l.fn.walk.visitor.now) l.fn.walk.root.now
-    (λ past. ForEach (AreEntriesBelow (g.V.EntryVisitor.does l.fn.walk.visitor.now) past l.fn.walk.root.now) (take l.folder-index l.fn.walk.below.now))
+    (λ past new. ForEach (AreEntriesBelow (IsMoment (g.V.EntryVisitor.does l.fn.walk.visitor.now) new) past l.fn.walk.root.now) (take l.folder-index l.fn.walk.below.now))
     (g.T.Tree.went l.fn.tree) (g.T.Tree.went l.tree) (g.O.Sink.device l.fn.out) (g.O.Sink.device l.out) l.fn.tally l.tally
     × HoldsAt (g.T.Tree.went l.tree) (g.V.EntryVisitor.holds l.fn.walk.visitor.now l.tally)

@@ -1,10 +1,11 @@
 use Rattle.std.proofs.Common.{rules, ◌≡◌}
 use Rattle.std.proofs.lemmas.Result.{err_from_is_err_and}
+use Rattle.msr_folders.proofs.ReadingLemmas.{visits_nothing}
 use Rattle.msr_folders.proofs.WalkedLemmas.{on_ok_as}
 use Rattle.msr_folders.specs.Paths.{joined}
 use Rattle.msr_outcomes.specs.Entries.{IsDayOf}
 use Rattle.msr_trial.proofs.Packed.{tried_as}
-use Rattle.msr_trial.proofs.Told.{none_told, tries_looks, visited_day, visits_nothing}
+use Rattle.msr_trial.proofs.Told.{none_told, tries_looks, visited_day}
 use Rattle.msr_trial.specs.Entries.{IsTriedAs}
 use Rattle.msr_trial.proofs.walk.Trier.visit_day.Goals as goal
 

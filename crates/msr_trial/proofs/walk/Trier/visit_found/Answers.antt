@@ -1,6 +1,7 @@
+use Rattle.msr_folders.proofs.ReadingLemmas.{visits_nothing}
 use Rattle.msr_folders.proofs.WalkedLemmas.{on_ok_as}
 use Rattle.msr_folders.specs.Days.{IsNoDay}
-use Rattle.msr_trial.proofs.Told.{no_day, visited_other, visits_nothing}
+use Rattle.msr_trial.proofs.Told.{no_day, visited_other}
 use Rattle.msr_trial.proofs.walk.Trier.visit_found.Goals as goal
 
 pub returns-in-Err-clause-told : goal.returns-in-Err-clause-told

@@ -1,4 +1,5 @@
-use Rattle.msr_trial.proofs.Told.{none_told_yet, visits_nothing}
+use Rattle.msr_folders.proofs.ReadingLemmas.{visits_nothing}
+use Rattle.msr_trial.proofs.Told.{none_told_yet}
 use Rattle.msr_trial.proofs.walk.TrierEntryVisitor.enter_folder.Goals as goal
 
 pub returns-clause-told : goal.returns-clause-told

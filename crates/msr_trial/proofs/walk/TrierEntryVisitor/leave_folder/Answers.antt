@@ -1,4 +1,5 @@
-use Rattle.msr_trial.proofs.Told.{visited_left, visits_nothing}
+use Rattle.msr_folders.proofs.ReadingLemmas.{visits_nothing}
+use Rattle.msr_trial.proofs.Told.{visited_left}
 use Rattle.msr_trial.proofs.walk.TrierEntryVisitor.leave_folder.Goals as goal
 
 pub returns-clause-told : goal.returns-clause-told

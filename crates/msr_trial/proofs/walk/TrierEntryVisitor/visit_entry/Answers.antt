@@ -1,5 +1,6 @@
+use Rattle.msr_folders.proofs.ReadingLemmas.{visits_nothing}
 use Rattle.msr_folders.proofs.WalkedLemmas.{on_ok_as}
-use Rattle.msr_trial.proofs.Told.{visited_gone, visits_nothing}
+use Rattle.msr_trial.proofs.Told.{visited_gone}
 use Rattle.msr_trial.proofs.walk.TrierEntryVisitor.visit_entry.Goals as goal
 
 pub returns-in-Gone-clause-told : goal.returns-in-Gone-clause-told

@@ -1,5 +1,6 @@
+use Rattle.msr_folders.proofs.ReadingLemmas.{visits_nothing}
 use Rattle.msr_folders.proofs.WalkedLemmas.{on_ok_as}
-use Rattle.msr_trial.proofs.Told.{visited_unlisted, visits_nothing}
+use Rattle.msr_trial.proofs.Told.{visited_unlisted}
 use Rattle.msr_trial.proofs.walk.TrierEntryVisitor.visit_unlisted.Goals as goal
 
 pub returns-clause-told : goal.returns-clause-told

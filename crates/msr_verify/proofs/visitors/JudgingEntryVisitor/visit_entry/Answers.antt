@@ -5,7 +5,8 @@ use Rattle.msr_belonging.specs.Names.{day_name}
 use Rattle.msr_folders.specs.Days.{IsNoDay}
 use Rattle.msr_options.specs.Days.{names_for}
 use Rattle.msr_verify.proofs.EntriesFound.{judged, none_told}
-use Rattle.msr_verify.proofs.VisitedLemmas.{no_day, other_is, visit_by, visited_day, visited_other}
+use Rattle.msr_folders.proofs.ReadingLemmas.{visit_by}
+use Rattle.msr_verify.proofs.VisitedLemmas.{no_day, other_is, visited_day, visited_other}
 use Rattle.msr_verify.specs.Files.{JudgesNamed, day_places, names_asked}
 use Rattle.msr_verify.proofs.visitors.JudgingEntryVisitor.visit_entry.Goals as goal
 

@@ -1,6 +1,7 @@
 use Rattle.std.proofs.Common.{refl}
 use Rattle.msr_verify.specs.Files.{IsToldOfOut}
-use Rattle.msr_verify.proofs.VisitedLemmas.{left_folder, left_quiet}
+use Rattle.msr_folders.proofs.ReadingLemmas.{visits_nothing}
+use Rattle.msr_verify.proofs.VisitedLemmas.{left_quiet}
 use Rattle.msr_verify.proofs.visitors.SearchingEntryVisitor.leave_folder.Goals as goal
 
 pub returns-clause-told : goal.returns-clause-told
@@ -10,4 +11,4 @@ returns-clause-told g c =
     (g.T.Tree.went c.args._tree.now) (g.O.Sink.device c.args._out.now) c.args._tally.now (λ past. refl)
 
 pub returns-clause-does : goal.returns-clause-does
-returns-clause-does g c = left_folder (g.T.Tree.went c.args._tree.now)
+returns-clause-does g c = visits_nothing (g.T.Tree.went c.args._tree.now)

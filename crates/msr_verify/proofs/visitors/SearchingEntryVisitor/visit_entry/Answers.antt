@@ -3,7 +3,8 @@ use Rattle.std.proofs.lemmas.Result.{err_from_is_err_and}
 use Rattle.msr_folders.proofs.WalkedLemmas.{on_ok_as}
 use Rattle.msr_folders.specs.Paths.{joined}
 use Rattle.msr_verify.proofs.EntriesFound.{none_told}
-use Rattle.msr_verify.proofs.VisitedLemmas.{passed_day, passed_other, visit_by, visited_orphan}
+use Rattle.msr_folders.proofs.ReadingLemmas.{visit_by}
+use Rattle.msr_verify.proofs.VisitedLemmas.{passed_day, passed_other, visited_orphan}
 use Rattle.msr_verify.specs.Opening.{MayHave}
 use Rattle.msr_verify.proofs.visitors.SearchingEntryVisitor.visit_entry.Goals as goal
 
