@@ -1,5 +1,5 @@
 -- Of a day of which it may be asked that its segments belong to it.
-use Rattle.std.proofs.Common.{◌≡◌, ◌<◌, ◌⊎◌, inl, inr, ℕ, true, false, List, Option, None, Some, refl, sym, ◌∙◌, ap, subst, Result, Ok, Err, IfOk}
+use Rattle.std.proofs.Common.{◌≡◌, ◌<◌, ◌⊎◌, inl, inr, ℕ, true, false, List, [], Option, None, Some, refl, sym, ◌∙◌, ap, subst, Result, Ok, Err, IfOk}
 use Rattle.msr_belonging.specs.Belonging.{IsFoundAsAsked, told_segments}
 use Rattle.msr_devices.specs.Device.{Device, HasLeft}
 use Rattle.msr_devices.specs.declared.fault.DeviceFault.{DeviceFault}
@@ -19,6 +19,7 @@ use Rattle.msr_tree.specs.Steps.{Path, Step, failures, seen}
 use Rattle.msr_verify.proofs.OpeningLemmas.{left_is}
 use Rattle.msr_verify.proofs.TellingThere.{again_there}
 use Rattle.msr_verify.specs.Day.{verify_fault_of_report}
+use Rattle.msr_verify.specs.Entries.{HasAstray, HasDayAnswer}
 use Rattle.msr_verify.specs.Files.{DayPlaces, IsJudgementThere, IsNamedThere, JudgesDay, JudgesNamed, TellsSegments, asks_again}
 use Rattle.msr_verify.specs.Opening.{IsReportCut, IsToldAgain, JudgesSegments, OpensFile}
 use Rattle.msr_verify.specs.declared.day.Unjudged.TheVariants as unjudged
@@ -37,6 +38,18 @@ good_of : (names : Names) (judgement : Judgement) → asks_again names judgement
 good_of (Of name) Verified asks = inl refl
 good_of (Of name) InPlace asks = inr refl
 good_of names judgement asks = absurd cc
+
+-- what is found of the segments of a report
+pub astray_told : (names : Names) (report : Report) (text : List ℕ) (found : DayName) → IsReadFrom report text
+    → IsFoundAsAsked names (told_segments report.segments.items) (Some found) → HasAstray found
+astray_told (Of name) report text found reads is = record { name = name; text = text; report = report; read = reads; astray = is }
+astray_told names report text found reads is = absurd cc
+
+-- what is told of a day whose report is at fault says that some files have it
+pub cut_told : (text : List ℕ) (why : ReportFault) → ReadsReport text (Err why) → HasDayAnswer (Err (verify_fault_of_report why))
+cut_told text (report_stop.Line line) reads = record { file = []; records = []; text = text; answers = reads }
+cut_told text report_stop.Read reads = record { file = []; records = []; text = text; answers = tt }
+cut_told text report_stop.Memory reads = record { file = []; records = []; text = text; answers = tt }
 
 -- A report is read again.
 module _ (names : Names) (report : Path) (judgement : Judgement) where
