@@ -2,6 +2,9 @@
 ghost use Rattle.std.specs.Prelude.{◌≡◌, ◌∷◌, [], IfErr, OnOk};
 ghost use Rattle.msr_devices.specs.Device.{CanCountCall};
 ghost use Rattle.msr_folders.proofs.ReadingLemmas.{none_holds, reading_laws};
+ghost use Rattle.msr_belonging.specs.Names.{day_name};
+ghost use Rattle.msr_options.specs.Days.{names_for};
+ghost use Rattle.msr_sds.specs.SdsPath.{HasForm};
 ghost use Rattle.msr_sds.specs.declared.SdsFault.{SdsFault};
 ghost use Rattle.msr_tree.specs.Reads.{OnlyReads};
 ghost use Rattle.msr_verify.specs.Entries.{IsJudgementOf, IsVerifyTally, JudgedEntry};
@@ -54,6 +57,14 @@ fn other_judgement(kind: FileKind, fault: SdsFault) -> Judgement
         FileKind::Gone => Judgement::Refused(Refusal::FileUnopened),
         FileKind::Folder | FileKind::Other => Judgement::Skipped(fault),
     }
+}
+
+/// The names that the segments of the day with this path have to have.
+fn names_of(archive: &Verifying<'_>, name: &SdsName<'_>) -> Names
+    requires { HasForm name.now }
+    ensures { result ≡ names_for (day_name name.now) (names_asked archive.now.names) }
+{
+    Names::asked(archive.names).for_day(day_name(name))
 }
 
 /// Judges each day of the archive.
@@ -111,7 +122,7 @@ impl EntryVisitor for Judging<'_> {
         match SdsName::parse(path) {
             Ok(name) => {
                 let archive = self.archive;
-                let names = Names::asked(archive.names).for_day(day_name(&name));
+                let names = names_of(archive, &name);
                 let judgement = judge_day(tree, self.alloc, archive.folders, path, names)?;
                 let reason = tree.reason();
                 tell(

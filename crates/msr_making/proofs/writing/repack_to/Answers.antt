@@ -1,0 +1,20 @@
+use Rattle.msr_making.proofs.Days.{placed_refused, placed_was}
+use Rattle.msr_making.proofs.writing.repack_to.Goals as goal
+
+pub returns-in-Err-clause-told : goal.returns-in-Err-clause-told
+returns-in-Err-clause-told g c =
+    let does = c.in-Err.ensures.repacks in
+    placed_was c.args.asked.now does.input does.written does.told c.in-Err.why does.answers
+
+pub returns-in-Err-clause-goes : goal.returns-in-Err-clause-goes
+returns-in-Err-clause-goes g c =
+    let does = c.in-Err.ensures.repacks in
+    record {
+      input = does.input;
+      written = does.written;
+      told = does.told;
+      left = does.left;
+      wrote = does.wrote;
+      told_all = does.told_all;
+      answers = placed_refused c.args.asked.now c.args.bytes_read does.input does.written does.told c.in-Err.why does.answers;
+    }
