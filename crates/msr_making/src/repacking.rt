@@ -79,6 +79,7 @@ pub(crate) fn first_length<S: Source>(
 
 /// What a report tells of a day that was repacked so, with the bytes that the input has.
 fn counted(report: &Report, bytes_read: u64, options: Options) -> Repacked
+    requires { IsProper report.now }
     ensures read { result.read ≡ report.now.counts.read }
     ensures written { result.written ≡ records_in report.now.segments.items }
     ensures input { result.bytes_read ≡ bytes_read }

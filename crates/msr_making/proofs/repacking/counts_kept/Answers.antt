@@ -23,7 +23,7 @@ returns-clause-left g c =
           | else-is_strict-via-else-is_strict w ↦ (let lenient = sym c.is_strict.ensures ∙ w.if-is_strict.false in
               absurd cc)
         ];
-        belong = subst (λ (found : Option DayName). IsFoundAsAsked c.args.asked.now.names (told_segments c.in-Ok.report.segments.items) found) (none_of c.misplaced.result (c.is_some.ensures ∙ c.if-is_some.false)) c.misplaced.ensures;
+        belong = subst (λ (found : Option DayName). IsFoundAsAsked c.args.asked.now.names (told_segments c.in-Ok.report.segments.items) found) (none_of c.misplaced.result (sym c.is_some.ensures ∙ c.if-is_some.false)) c.misplaced.ensures;
         read = c.counted.ensures.read;
         written = c.counted.ensures.written;
         bytes = search rules;
