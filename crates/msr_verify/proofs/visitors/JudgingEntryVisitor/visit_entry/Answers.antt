@@ -16,7 +16,7 @@ returns-in_err-judgement-in-Ok-clause-stops g c =
 pub returns-in_err-judgement-in-Ok-clause-does : goal.returns-in_err-judgement-in-Ok-clause-does
 returns-in_err-judgement-in-Ok-clause-does g c =
     let folders = c.args.self.now.archive.now.folders in
-    visit_by (JudgesNamed c.names_of.result (day_places folders.root.now folders.out.now folders.reports.now c.args.path.now) (Err c.in_err-judgement-in-Ok.field-0.0)) _ _
+    visit_by (JudgesNamed c.names_of-names.result (day_places folders.root.now folders.out.now folders.reports.now c.args.path.now) (Err c.in_err-judgement-in-Ok.field-0.0)) _ _
     (λ old new is. is.looks) c.in_err-judgement-in-Ok.ensures.goes
 
 pub returns-in_ok-judgement-in-Ok-clause-told : goal.returns-in_ok-judgement-in-Ok-clause-told
@@ -24,7 +24,7 @@ returns-in_ok-judgement-in-Ok-clause-told g c =
     let folders = c.args.self.now.archive.now.folders in
     on_ok_as c.tell.result (λ told. visited_day c.args.self.now.archive.now folders.root.now folders.out.now folders.reports.now c.args.path.now c.args.kind c.in_ok-judgement-in-Ok.judgement
     (g.T.Tree.went c.args.tree.now) (g.T.Tree.went c.judge_day.new.tree) (g.O.Sink.device c.args.out.now) (g.O.Sink.device c.tell.new.out)
-    c.args.tally.now c.tell.new.tally (c.in-Ok.name, c.in-Ok.ensures.found) (rw c.names_of.ensures at c.in_ok-judgement-in-Ok.ensures.goes) told)
+    c.args.tally.now c.tell.new.tally (c.in-Ok.name, c.in-Ok.ensures.found) (rw c.names_of-names.ensures at c.in_ok-judgement-in-Ok.ensures.goes) told)
     (c.tell.ensures.told (judged _ c.in_ok-judgement-in-Ok.judgement (c.in-Ok.name, c.in-Ok.ensures.found) c.in_ok-judgement-in-Ok.ensures.told))
 
 pub returns-in_ok-judgement-in-Ok-clause-stops : goal.returns-in_ok-judgement-in-Ok-clause-stops
@@ -34,7 +34,7 @@ returns-in_ok-judgement-in-Ok-clause-stops g c =
 pub returns-in_ok-judgement-in-Ok-clause-does : goal.returns-in_ok-judgement-in-Ok-clause-does
 returns-in_ok-judgement-in-Ok-clause-does g c =
     let folders = c.args.self.now.archive.now.folders in
-    visit_by (JudgesNamed c.names_of.result (day_places folders.root.now folders.out.now folders.reports.now c.args.path.now) (Ok c.in_ok-judgement-in-Ok.judgement)) _ _
+    visit_by (JudgesNamed c.names_of-names.result (day_places folders.root.now folders.out.now folders.reports.now c.args.path.now) (Ok c.in_ok-judgement-in-Ok.judgement)) _ _
     (λ old new is. is.looks) c.in_ok-judgement-in-Ok.ensures.goes
 
 pub returns-in-Err-clause-told : goal.returns-in-Err-clause-told
