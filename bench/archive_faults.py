@@ -52,7 +52,7 @@ TEXTS = {
 }
 KILLED = -signal.SIGKILL
 # The first words of lines that are counted as refused, and the calls without which no name of a day changes.
-REFUSED = "refused", "notshown", "differs", "shrunk"
+REFUSED = "refused", "notshown", "differs", "shrunk", "misplaced"
 NAMING = {"naming", "removing", "syncing", KILLED}
 
 Walked = collections.namedtuple("Walked", "status printed complained files")
@@ -154,7 +154,7 @@ class Tree:
 
 def entries_of(printed):
     """The lines of entries of a whole walk."""
-    words = ("done", "same", "skipped", "refused", "notshown", "differs", "shrunk")
+    words = ("done", "same", "skipped", "refused", "notshown", "differs", "shrunk", "misplaced")
     return [line for line in printed.splitlines() if line.split(" ")[0] in words]
 
 

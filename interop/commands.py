@@ -16,7 +16,7 @@ import walks
 from reports import NotAReport, parsed, verdict
 
 OF_RECORDS = ("--length", "--no-int24", "--tolerance", "--strict")
-OF_KEPT = ("--resume", "--check", "--only-smaller", "--keep-old")
+OF_KEPT = ("--resume", "--check", "--only-smaller", "--keep-old", "--names")
 OF_DAYS = (*OF_KEPT, "--bytes")
 OF_ORIGINALS = ("--undo", "--below", "--only-smaller", "--older-than", "--touch", "--int24")
 COMMANDS = {
@@ -26,7 +26,7 @@ COMMANDS = {
     "check": ((), (2, 2)),
     "compare": (("--tolerance",), (2, 2)),
     "archive": ((*OF_RECORDS, "--below", *OF_DAYS, "--older-than", "--known", "--quiet", "--json", "--dry-run"), (3, 3)),
-    "verify": (("--known", "--quiet", "--json", "--below"), (3, 3)),
+    "verify": (("--known", "--names", "--quiet", "--json", "--below"), (3, 3)),
     "replace": (OF_ORIGINALS, (4, 4)),
 }
 # The options that have a value; of a number the least and the greatest.
@@ -35,7 +35,7 @@ WALKS = ("archive", "verify", "replace")
 LENGTHS = [2**exponent for exponent in range(8, 17)]
 HINT_OF_LENGTHS = b"hint: msrepack writes records of %d, %d, %d, %d, %d, %d, %d, %d or %d bytes\n" % tuple(LENGTHS)
 
-OF_TASK = "command names length kinds tolerance strict json quiet below resume check only_smaller keep_old bytes"
+OF_TASK = "command names length kinds tolerance strict json quiet below resume check only_smaller keep_old misplaced bytes"
 Task = namedtuple("Task", f"{OF_TASK} aside undo older_than touch int24 known dry_run")
 Device = namedtuple("Device", "most fails")
 # What a run is given beside its words.

@@ -428,6 +428,16 @@ def name(key):
     return ".".join("".join(map(letter, field)) for field in fields)
 
 
+def codes(key):
+    """Network, station, location and channel, without the spaces after them, as they stand in a path."""
+    return tuple(bytes(field).decode("latin-1").rstrip(" ") for field in key[:4])
+
+
+def code_text(code):
+    """A code, each byte of it as a line of a report has it."""
+    return "".join(letter if letter.isascii() and letter.isalnum() else "_" if letter == " " else f"%{ord(letter):02x}" for letter in code)
+
+
 def segment_line(segment):
     key = segment.key
     year, day, hour, minute, second, fract, fine = parts(segment.start)

@@ -52,6 +52,10 @@ class Shrunk(NotDone):
     """A day with fewer samples than an earlier walk left of it: how many that were, and how many it has."""
 
 
+class Misplaced(NotDone):
+    """A day whose segments do not belong to it: the name of one, and the year and the day of its first sample."""
+
+
 def is_like(pattern, path):
     """Whether the path is that one, or begins and ends as the pattern does around its `*`."""
     if pattern is None or "*" not in pattern:
@@ -225,6 +229,9 @@ class Walk:
             return f'{{"what":"{word}","path":"{path}"{self.told(*counts)}}}'
         return f"{word} {path}{self.told(*counts)}"
 
+    def misplaced(self, path, name, year, day):
+        return misplaced_line(path, name, year, day, self.task.json)
+
     def shrunk(self, path, was, samples):
         if self.task.json:
             return f'{{"what":"shrunk","path":"{path}","samples_was":{was},"samples":{samples}}}'
@@ -298,6 +305,9 @@ class Walk:
         except Shrunk as why:
             self.refused += 1
             return self.shrunk(path, *why.args)
+        except Misplaced as why:
+            self.refused += 1
+            return self.misplaced(path, *why.args)
         except NotKept as why:
             self.refused += 1
             return self.line(str(why), path)
@@ -440,6 +450,7 @@ class Walk:
         is_small = not self.task.only_smaller or written * length < size
         is_whole = os.path.isfile(places.records) and os.path.getsize(places.records) == written * report.length
         is_strict = not self.task.strict or report.counts[2] == 0
+        is_strict = is_strict and not (self.task.misplaced and stray(source, read_regular(source), report.tolerance))
         is_kept = is_asked and is_small and is_whole and is_strict and is_as_it_was
         return (report.counts[0], written, size, written * length) if is_kept else None
 
@@ -481,6 +492,9 @@ class Walk:
             raise NotDone(fault, "file" if fault.startswith("offset") else None)
         read = parsed(report.encode())
         counts = read.counts[0], sum(line.records for line in read.lines), len(content), len(records)
+        found = self.task.misplaced and stray(source, content, self.task.tolerance)
+        if found:
+            raise Misplaced(*found)
         if self.task.keep_old and all(map(os.path.isfile, places[:2])):
             self.look_back(places.report, samples_in(read))
         if self.task.only_smaller and len(content) <= len(records):
@@ -676,7 +690,13 @@ class Verification:
         if why:
             return self.told("skipped", path, why)
         try:
-            return self.told(self.found_of(*(f"{top}/{path}" for top in (self.root, self.out, self.reports))), path)
+            word = self.found_of(*(f"{top}/{path}" for top in (self.root, self.out, self.reports)))
+            if self.task.misplaced and word in self.GOOD:
+                found = self.stray(path)
+                if found:
+                    self.sums["refused"] += 1
+                    return misplaced_line(path, *found, self.task.json)
+            return self.told(word, path)
         except NotDone as why:
             return self.refused(path, *why.args)
 
@@ -719,6 +739,12 @@ class Verification:
         except (NotAReport, model.Refused):
             return "missing"
 
+    def stray(self, path):
+        """What of ROOT's file does not belong to its path, read with the tolerance that the report tells."""
+        tolerance = parsed(read_regular(f"{self.reports}/{path}.txt")).tolerance
+        source = f"{self.root}/{path}"
+        return stray(source, read_regular(source), tolerance)
+
     def opened(self, which, path):
         """The bytes of a regular file; None if reading fails."""
         try:
@@ -734,6 +760,34 @@ class Verification:
         if content is None:
             raise NotDone(f"{which}: read fault")
         return content
+
+
+def stray(path, content, tolerance):
+    """The name of the segment by which a file does not belong to its path, and the year and the day of its first sample:
+    the first segment of another name; or the first of all, if none has a sample on the day."""
+    network, station, location, channel, _, year, day = os.path.basename(path).split(".")
+    segments = model.read_all(content, tolerance).segments
+    others = [segment for segment in segments if model.codes(segment.key) != (network, station, location, channel)]
+    first_of_day = model.instant(int(year), int(day), 0, 0, 0, 0)
+    if not others and not any(has_sample_between(segment, first_of_day, first_of_day + model.DAY) for segment in segments):
+        others = segments
+    if not others:
+        return None
+    found = others[0]
+    year, day, *_ = model.parts(found.start)
+    return ".".join(model.code_text(code) for code in model.codes(found.key)), year, day
+
+
+def has_sample_between(segment, first, end):
+    """Whether the rounded instant of a sample is not before the first instant, and before the other: one by one."""
+    places = range(len(segment.samples))
+    return any(first <= model.rounded(model.nominal(segment.key, segment.start, place)) < end for place in places)
+
+
+def misplaced_line(path, name, year, day, in_json):
+    if in_json:
+        return f'{{"what":"misplaced","path":"{path}","id":"{name}","year":{year},"day":{day}}}'
+    return f"misplaced {path} {name} {year:04},{day:03}"
 
 
 def samples_in(report):

@@ -128,6 +128,23 @@ class Shrunk:
         return f"shrunk {self.path} samples {self.was} {self.samples}"
 
 
+@dataclass(frozen=True)
+class Misplaced:
+    """The file has a segment of this channel that begins on this day of the year, and does not belong to the path.
+
+    >>> parse("misplaced 2020/XX/TEST/BHN.D/XX.TEST.00.BHN.D.2020.001 XX.TEST.00.BHZ 2020,032")
+    Misplaced(path='2020/XX/TEST/BHN.D/XX.TEST.00.BHN.D.2020.001', id='XX.TEST.00.BHZ', year=2020, day=32)
+    """
+
+    path: str
+    id: str
+    year: int
+    day: int
+
+    def __str__(self) -> str:
+        return f"misplaced {self.path} {self.id} {self.year:04},{self.day:03}"
+
+
 class Young(_Named):
     """The file was changed in the last days, or in the future, and was left alone.
 
@@ -327,8 +344,8 @@ class VerifyTotals:
         )
 
 
-ArchiveLine = Union[Done, Would, Same, Larger, Young, NotShown, Differs, Changed, Shrunk, Skipped, Refused, Known, Channel, ArchiveTotals]
-VerifyLine = Union[Verified, InPlace, Missing, NotShown, Differs, Skipped, Refused, Known, Orphan, VerifyTotals]
+ArchiveLine = Union[Done, Would, Same, Larger, Young, NotShown, Differs, Changed, Shrunk, Misplaced, Skipped, Refused, Known, Channel, ArchiveTotals]
+VerifyLine = Union[Verified, InPlace, Missing, NotShown, Differs, Misplaced, Skipped, Refused, Known, Orphan, VerifyTotals]
 Line = Union[ArchiveLine, VerifyLine]
 
 N = "([0-9]+)"
@@ -378,6 +395,10 @@ FORMS: Tuple[Tuple["re.Pattern[str]", Maker], ...] = (
     ),
     (re.compile(f"({'|'.join(NAMED)}) (.*)"), lambda word, path: NAMED[word](path)),
     (re.compile(f"shrunk (.*) samples {N} {N}"), lambda path, *counts: Shrunk(path, *map(int, counts))),
+    (
+        re.compile("misplaced (.*) ([0-9A-Za-z_%.]*) ([0-9]{4}),([0-9]{3})"),
+        lambda path, name, *day: Misplaced(path, name, *map(int, day)),
+    ),
     (re.compile("skipped (.*?): (not an SDS path|not waveform data|bad day)"), Skipped),
     (re.compile(f"({'|'.join(REFUSED)}) (.*?): (?:(report|records|file): )?({TEXTS})"), _refused),
     (
@@ -434,6 +455,8 @@ def parse_object(text: str) -> Line:
         return Skipped(path, members["text"])
     if what == "shrunk":
         return Shrunk(path, members["samples_was"], members["samples"])
+    if what == "misplaced":
+        return Misplaced(path, **members)
     if what in REFUSED:
         return _refused_object(REFUSED[what], path, members["text"], members.get("side"), members.get("reason"))
     return COUNTED[what](path, **members) if what in COUNTED else NAMED[what](path)

@@ -31,6 +31,7 @@ def archive(
     keep_old: bool = False,
     older_than: int = 0,
     known: Optional[Path] = None,
+    names: bool = False,
     bytes: bool = False,
     timeout: Optional[float] = None,
 ) -> Iterator[ArchiveLine]:
@@ -58,6 +59,7 @@ def archive(
         "--check": check,
         "--only-smaller": only_smaller,
         "--keep-old": keep_old,
+        "--names": names,
         "--bytes": bytes,
     }
     words = ["archive", "--json", f"--length={length}", f"--tolerance={tolerance}", *options(chosen)]
@@ -101,6 +103,7 @@ def verify(
     out: Path,
     reports: Path,
     *,
+    names: bool = False,
     below: Optional[Iterable[str]] = None,
     known: Optional[Path] = None,
     timeout: Optional[float] = None,
@@ -118,7 +121,7 @@ def verify(
     (4, 0, 0)
     """
     nothing = VerifyTotals(0, 0, 0, 0, 0, 0, 0, None if known is None else 0)
-    words = ["verify", "--json", *_known_word(known)]
+    words = ["verify", "--json", *options({"--names": names}), *_known_word(known)]
     return cast(Iterator[VerifyLine], _walk(words, below, (root, out, reports), nothing, timeout))
 
 

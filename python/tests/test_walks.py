@@ -30,7 +30,7 @@ def echo(what, **members):
 DONE, NONE = echo("done", path=DAY.format(1), read=2, written=1), echo("files", files=0, skipped=0, refused=0)
 TYPES = {
     "done": lines.Done, "same": lines.Same, "larger": lines.Larger, "notshown": lines.NotShown, "differs": lines.Differs,
-    "changed": lines.Changed, "shrunk": lines.Shrunk, "young": lines.Young, "skipped": lines.Skipped, "refused": lines.Refused,
+    "changed": lines.Changed, "shrunk": lines.Shrunk, "misplaced": lines.Misplaced, "young": lines.Young, "skipped": lines.Skipped, "refused": lines.Refused,
     "channel": lines.Channel, "verified": lines.Verified, "inplace": lines.InPlace, "missing": lines.Missing,
     "orphan": lines.Orphan,
 }

@@ -9,9 +9,9 @@ _msrepack() {
         compare) words='--tolerance --help' ;;
         archive)
             words='--length --no-int24 --tolerance --strict --below --resume --check --only-smaller --keep-old'
-            words="$words --older-than --known --bytes --quiet --json --dry-run --help"
+            words="$words --older-than --known --names --bytes --quiet --json --dry-run --help"
             ;;
-        verify) words='--known --quiet --json --below --help' ;;
+        verify) words='--known --names --quiet --json --below --help' ;;
         replace) words='--undo --below --only-smaller --older-than --touch --int24 --help' ;;
     esac
     if [ "$COMP_CWORD" -eq 1 ]; then

@@ -38,6 +38,10 @@ complete -c msrepack -n '__fish_seen_subcommand_from archive' -l check -d 'Hold 
 complete -c msrepack -n '__fish_seen_subcommand_from archive' -l only-smaller -d 'Keep only what gets smaller in bytes'
 complete -c msrepack -n '__fish_seen_subcommand_from archive' -l keep-old \
     -d 'Keep what an earlier walk made of a file that is refused, or has fewer samples'
+complete -c msrepack -n '__fish_seen_subcommand_from archive' -l names \
+    -d 'Keep only files whose segments are of the channel and the day of their path'
+complete -c msrepack -n '__fish_seen_subcommand_from verify' -l names \
+    -d 'Tell files whose segments are not of the channel and the day of their path'
 complete -c msrepack -n '__fish_seen_subcommand_from replace' -l undo -d 'Put the originals back'
 complete -c msrepack -n '__fish_seen_subcommand_from replace' -l only-smaller -d 'Only days whose records are fewer bytes'
 complete -c msrepack -n '__fish_seen_subcommand_from archive replace' -x -l older-than \

@@ -9,6 +9,8 @@ use Rattle.msr_options.specs.Choice.{Choice, record_size}
 use Rattle.msr_arguments.specs.declared.words.LineFault.{LineFault}
 use Rattle.msr_arguments.specs.declared.words.LineFault.TheVariants.{SameFile, OneStandardInput, NotBelow, Overlap, TouchedOriginals}
 use Rattle.msr_options.specs.declared.days.DayOptions.{DayOptions}
+use Rattle.msr_options.specs.declared.names.Names.{Names}
+use Rattle.msr_options.specs.declared.names.Names.TheVariants.{Any, Own}
 use Rattle.msr_kinds.specs.declared.kinds.Kinds.{Kinds}
 use Rattle.msr_kinds.specs.declared.kinds.Kinds.TheVariants.{All, WithoutInt24}
 use Rattle.msr_options.specs.declared.known.Known.{Known}
@@ -47,6 +49,11 @@ IsKindsOf (Some text) kinds = (text ≡ codes "true" → kinds ≡ WithoutInt24)
 abbrev pub IsFormOf : (text : Option (List ℕ)) → (form : ListForm) → Type 0
 IsFormOf None form = form ≡ Words
 IsFormOf (Some text) form = (text ≡ codes "true" → form ≡ Json) × (text ≡ codes "false" → form ≡ Words)
+
+-- the names that segments have to have, by the text of the flag that asks for those of their paths
+abbrev pub IsNamesOf : (text : Option (List ℕ)) → (names : Names) → Type 0
+IsNamesOf None names = names ≡ Any
+IsNamesOf (Some text) names = (text ≡ codes "true" → names ≡ Own) × (text ≡ codes "false" → names ≡ Any)
 
 -- the values of an argument that may be given several times
 abbrev pub texts_under : Found → (name : List ℕ) → List (List ℕ)
@@ -94,6 +101,7 @@ pub record AsksFlags (found : Found) (days : DayOptions) : Type 0 where
   pub check : IsFlagOf (one_text found (codes "check")) days.check
   pub only_smaller : IsFlagOf (one_text found (codes "only-smaller")) days.only_smaller
   pub keep_old : IsFlagOf (one_text found (codes "keep-old")) days.keep_old
+  pub names : IsNamesOf (one_text found (codes "names")) days.names
   pub bytes : IsFlagOf (one_text found (codes "bytes")) days.bytes
 
 -- lines are to be told as was found
@@ -141,6 +149,7 @@ pub record AsksTrial (found : Found) (asked : Trying) : Type 0 where
 pub record AsksVerify (found : Found) (asked : Verifying) : Type 0 where
   pub folders : AsksFolders found asked.folders
   pub below : AsksBelow found (map (λ folder. folder.now) asked.below.items)
+  pub names : IsFlagOf (one_text found (codes "names")) asked.names
   pub telling : AsksTelling found asked.telling
   pub known : AsksKnown found asked.known
 

@@ -77,8 +77,8 @@ rules_of verb.Check = file_rule (codes "PACKED") ∷ file_rule (codes "REPORT") 
 rules_of verb.Compare = tolerance_rule ∷ file_rule (codes "ONE") ∷ file_rule (codes "OTHER") ∷ []
 rules_of verb.Archive = day_length_rule ∷ flag_rule (codes "no-int24") ∷ tolerance_rule ∷ flag_rule (codes "strict")
     ∷ below_rule ∷ flag_rule (codes "resume") ∷ flag_rule (codes "check") ∷ flag_rule (codes "only-smaller")
-    ∷ flag_rule (codes "keep-old") ∷ days_rule (codes "0") ∷ known_rule ∷ flag_rule (codes "bytes") ∷ flag_rule (codes "quiet") ∷ flag_rule (codes "json") ∷ flag_rule (codes "dry-run") ∷ folder_rules
-rules_of verb.Verify = known_rule ∷ flag_rule (codes "quiet") ∷ flag_rule (codes "json") ∷ below_rule ∷ folder_rules
+    ∷ flag_rule (codes "keep-old") ∷ days_rule (codes "0") ∷ known_rule ∷ flag_rule (codes "names") ∷ flag_rule (codes "bytes") ∷ flag_rule (codes "quiet") ∷ flag_rule (codes "json") ∷ flag_rule (codes "dry-run") ∷ folder_rules
+rules_of verb.Verify = known_rule ∷ flag_rule (codes "names") ∷ flag_rule (codes "quiet") ∷ flag_rule (codes "json") ∷ below_rule ∷ folder_rules
 rules_of verb.Replace = flag_rule (codes "undo") ∷ below_rule ∷ flag_rule (codes "only-smaller") ∷ days_rule (codes "7")
     ∷ flag_rule (codes "touch") ∷ flag_rule (codes "int24") ∷ file_rule (codes "ROOT") ∷ file_rule (codes "OUT")
     ∷ file_rule (codes "REPORTS") ∷ file_rule (codes "ASIDE") ∷ []

@@ -188,6 +188,9 @@ changed PATH                          the same, and the file was changed meanwhi
 larger PATH read N written M          it did not get smaller, with --only-smaller: not kept
 shrunk PATH samples N M               it has M samples, and N by the report of an earlier
                                       walk, with --keep-old: what that left stays
+misplaced PATH NET.STA.LOC.CHAN YEAR,DAY
+                                      a segment is of this channel and begins on this day,
+                                      and does not belong here, with --names: not kept
 young PATH                            the file was changed in the last DAYS days, or in
                                       the future, with --older-than: left alone
 
@@ -220,6 +223,7 @@ Status 0 if all was walked and nothing refused, else 1; 2 if the command line is
         KEEP_OLD,
         DAYS_OLDER_THAN,
         DAYS_KNOWN,
+        DAY_NAMES,
         BYTES,
         DAYS_QUIET,
         DAYS_JSON,
@@ -287,6 +291,10 @@ missing PATH                          no report is there, or no records, and tha
                                       shown
 notshown PATH                         the report does not show that
 differs PATH                          file and records have not the same segments
+misplaced PATH NET.STA.LOC.CHAN YEAR,DAY
+                                      it would be verified or inplace, but a segment is of
+                                      this channel and begins on this day, and does not
+                                      belong here, with --names
 refused PATH: file: TEXT              a fault of the file, as `offset 512: 1 Truncated`,
                                       or `read fault`, `out of memory` or `cannot open`
 refused PATH: records: TEXT           one of the records, also `the file itself`, if they
@@ -311,6 +319,7 @@ and has no day of waveform data; 2 if the command line is wrong.",
   msrepack verify --quiet --below 2020/XX sds packed reports",
     arguments: &[
         KNOWN,
+        NAMES,
         QUIET,
         LINES_JSON,
         BELOW,
@@ -464,7 +473,25 @@ const DRY_RUN_ASKED: Argument = Argument::Flag(
     "Tell what repacking would give, and write nothing; without OUT and REPORTS",
     "Tell what repacking would give, and write nothing: each file is packed, and
 `would PATH read N written M` printed in place of `done`. OUT and REPORTS are not given,
-nor --resume, --check, --only-smaller or --keep-old",
+nor --resume, --check, --only-smaller, --keep-old or --names",
+);
+
+const DAY_NAMES: Argument = Argument::Flag(
+    "names",
+    "Keep only files whose segments are of the channel and the day of their path",
+    "Keep only files whose segments belong to their path: each is of its network, station,
+location and channel, and one has a sample on its day. If a file has others, `misplaced
+PATH NET.STA.LOC.CHAN YEAR,DAY` is printed, the name and the first day of the first
+segment of another name, else of the first; it is one of those refused",
+);
+
+const NAMES: Argument = Argument::Flag(
+    "names",
+    "Tell files whose segments are not of the channel and the day of their path",
+    "Tell files whose segments do not belong to their path: of a file that would be verified
+or inplace, each is to be of its network, station, location and channel, and one to have
+a sample on its day. Else `misplaced PATH NET.STA.LOC.CHAN YEAR,DAY` is printed, as by
+`archive`; it is one of those refused",
 );
 
 const UNDO: Argument = Argument::Flag(

@@ -14,6 +14,7 @@ use clap::error::ErrorKind;
 use msr_kinds::{Kinds, Length};
 use msr_options::{
     Archiving, Checking, Comparing, DayOptions, Ending, Feeding, Folders, Known, ListForm, Listing,
+    Names,
     NoTask, Options, Repacking, Replacing, Task, Telling, Verb, Verifying, overlap,
 };
 use msr_sds::levels_below;
@@ -255,6 +256,7 @@ pub(crate) fn days_in<'a>(found: &ArgMatches<'a>) -> Result<DayOptions, LineFaul
         only_smaller: flag_in(found, "only-smaller"),
         keep_old: flag_in(found, "keep-old"),
         older_than: older_than_in(found),
+        names: Names::asked(flag_in(found, "names")),
         bytes: flag_in(found, "bytes"),
         telling: telling_in(found),
     })
@@ -299,6 +301,7 @@ fn verifying_in<'a>(alloc: Global, found: &ArgMatches<'a>) -> Result<Verifying<'
     Ok(Verifying {
         folders,
         below,
+        names: flag_in(found, "names"),
         telling: telling_in(found),
         known: known_in(found),
     })

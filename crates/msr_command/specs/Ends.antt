@@ -354,6 +354,7 @@ WalksKnown asked out0 out (Ok walked) = WalksArchive asked out0 out (Ok (done_of
 WalksKnown asked out0 out (Err stop) = WalksArchive asked out0 out (Err stop)
 
 pub record IsVerifyingRead (asked read : Verifying) : Type 0 where
+  pub names : read.names ≡ asked.names
   pub telling : read.telling ≡ asked.telling
   pub known : IsKnownRead asked.known read.known
 

@@ -424,6 +424,7 @@ fn verify_known<'a, R: Files, O: Sink>(
             let read = Verifying {
                 folders: asked.folders,
                 below,
+                names: asked.names,
                 telling: asked.telling,
                 known: Known::Lines(&lines),
             };

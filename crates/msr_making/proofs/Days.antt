@@ -13,13 +13,13 @@ use Rattle.msr_tool.specs.declared.fault.ToolFault.TheVariants as fault
 use Rattle.std.specs.declared.alloc.AllocError.{AllocError}
 use Rattle.msr_tree.specs.declared.tree.TreeFault.{TreeFault}
 use Rattle.msr_tree.specs.declared.tree.TreeFault.TheVariants as call
-use Rattle.msr_making.specs.Day.{CountAnswers, HasAnswer, IsDayOutcome, IsDone, IsReadOrMemory, IsRepackedDay, RepacksDay, VerifiedAnswers}
+use Rattle.msr_making.specs.Day.{CountAnswers, HasAnswer, IsDayOutcome, IsDone, IsReadOrMemory, IsRepackedDay, PlacedAnswers, RepacksDay, RepacksPlaced, VerifiedAnswers}
 use Rattle.msr_making.specs.Ending.{IsRepackedAs, NamedAs, WasHeld}
 use Rattle.msr_making.specs.Shrinking.{IsStopOfReading, counts_of}
 use Rattle.msr_making.specs.Verifying.{WasVerifiedAs}
-use Rattle.msr_making.specs.Writing.{IsFit, WasRepacked}
+use Rattle.msr_making.specs.Writing.{IsFit, RepackedOf, WasRepacked}
 use Rattle.msr_making.specs.declared.answer.DayFault.{DayFault}
-use Rattle.msr_making.specs.declared.answer.DayFault.TheVariants.{CannotOpen, Changed, ClaimedByAnother, Differs, Larger, NotShown, Tool}
+use Rattle.msr_making.specs.declared.answer.DayFault.TheVariants.{CannotOpen, Changed, ClaimedByAnother, Differs, Larger, Misplaced, NotShown, Tool}
 use Rattle.msr_making.specs.declared.answer.DayOutcome.{DayOutcome}
 use Rattle.msr_making.specs.declared.answer.DayOutcome.TheVariants as outcomes
 use Rattle.msr_making.specs.declared.answer.Repacked.{Repacked}
@@ -38,6 +38,32 @@ day_stops choice source records0 records text0 text why does = record {
   told_all = does.told_all;
   answers = does.answers;
 }
+
+pub placed_stops : (asked : DayOptions) (source records0 records text0 text : Device) (why : ToolFault) →
+    Reports asked.options source records0 records text0 text (Err why)
+    → RepacksPlaced asked source records0 records text0 text (Err (Tool why))
+placed_stops asked source records0 records text0 text why does = record {
+  input = does.input;
+  written = does.written;
+  told = does.told;
+  left = does.left;
+  wrote = does.wrote;
+  told_all = does.told_all;
+  answers = does.answers;
+}
+
+-- what is not repacked for a day
+pub placed_refused : (asked : DayOptions) (bytes_read : ℕ) (input records told : List ℕ) (why : DayFault) → PlacedAnswers asked input records told (Err why)
+    → RepackedOf asked bytes_read input records told (Err (Refused why))
+placed_refused asked bytes_read input records told (Misplaced found) is = is
+placed_refused asked bytes_read input records told (Tool why) is = is
+placed_refused asked bytes_read input records told why is = absurd is
+
+pub placed_was : (asked : DayOptions) (input records told : List ℕ) (why : DayFault) → PlacedAnswers asked input records told (Err why)
+    → WasRepacked asked (Err (Refused why))
+placed_was asked input records told (Misplaced found) is = record { input = input; written = records; told = told; is = is }
+placed_was asked input records told (Tool why) is = record { input = input; written = records; told = told; answers = is }
+placed_was asked input records told why is = absurd is
 
 -- all of a text is a part of it
 pub told_whole : (choice : Choice) (input written told : List ℕ) (report : Report) →
@@ -101,6 +127,7 @@ day_unkept asked repacked _ does check is = absurd is
 pub unfit_as : (asked : DayOptions) (stop : Stop) → WasRepacked asked (Err stop) → IsRepackedAs asked (Err stop)
 unfit_as asked (Refused (CannotOpen unopened)) is = tt
 unfit_as asked (Refused (Larger repacked)) is = is
+unfit_as asked (Refused (Misplaced found)) is = is
 unfit_as asked (Refused (Tool why)) is = is
 unfit_as asked (Refused why) is = absurd is
 unfit_as asked Memory is = tt

@@ -21,7 +21,7 @@ use Rattle.msr_making.specs.Stamping.{StampsAsked}
 use Rattle.msr_making.specs.Told.{IsKeptFor, IsLeftFor, IsOutcomeThere, IsRefusedThere, IsUnshrunk, LeavesSamples, stays_for}
 use Rattle.msr_making.specs.declared.answer.DayEnd.{DayEnd}
 use Rattle.msr_making.specs.declared.answer.DayFault.{DayFault}
-use Rattle.msr_making.specs.declared.answer.DayFault.TheVariants.{CannotOpen, Changed, ClaimedByAnother, Differs, Gone, Larger, Listing, NotShown, Shrunk, Tool}
+use Rattle.msr_making.specs.declared.answer.DayFault.TheVariants.{CannotOpen, Changed, ClaimedByAnother, Differs, Gone, Larger, Listing, Misplaced, NotShown, Shrunk, Tool}
 use Rattle.msr_making.specs.declared.answer.DayOutcome.{DayOutcome}
 use Rattle.msr_making.specs.declared.answer.DayOutcome.TheVariants.{Done, Refused, Same, Young}
 use Rattle.msr_making.specs.declared.answer.Left.{Left}
@@ -47,6 +47,7 @@ refused_later asked paths Differs old mid new few is = is
 refused_later asked paths Changed old mid new few is = is
 refused_later asked paths (Larger repacked) old mid new few is = is
 refused_later asked paths (Shrunk shrinkage) old mid new few is = is
+refused_later asked paths (Misplaced found) old mid new few is = is
 refused_later asked paths (Tool fault) old mid new few is = is
 refused_later asked paths ClaimedByAnother old mid new few is = is
 refused_later asked paths Gone old mid new few is = is
@@ -79,7 +80,7 @@ module _ (input : Path) (look : DayLook) (files : DayFiles) (was_left : Bool) (a
               record {
                 records = it.records;
                 text = it.text;
-                repack = record { input = it.bytes; has_input = it.has_input; answers = it.fit.counted; bytes_read = it.fit.read };
+                repack = record { input = it.bytes; has_input = it.has_input; answers = it.fit.counted; belong = it.fit.belong; bytes_read = it.fit.read };
                 has_records = seen_kept (files.stamp.part ∷ []) files.records.path q r none.records y.changes ∙ it.has_records;
                 has_report = seen_kept (files.stamp.part ∷ []) files.report.path q r none.report y.changes ∙ it.has_report;
                 verified = it.verified;
@@ -214,7 +215,7 @@ module _ (paths : DayPaths) (asked : DayOptions) (old mid new : List Step) (chan
     repacked = is.repacked;
     records = is.records;
     text = is.text;
-    repack = record { input = is.repack.input; has_input = seen_so paths.input _ is.repack.has_input; answers = is.repack.answers; bytes_read = is.repack.bytes_read };
+    repack = record { input = is.repack.input; has_input = seen_so paths.input _ is.repack.has_input; answers = is.repack.answers; belong = is.repack.belong; bytes_read = is.repack.bytes_read };
     check = is.check;
     unshown = is.unshown;
   }
@@ -222,7 +223,7 @@ module _ (paths : DayPaths) (asked : DayOptions) (old mid new : List Step) (chan
     repacked = is.repacked;
     records = is.records;
     text = is.text;
-    repack = record { input = is.repack.input; has_input = seen_so paths.input _ is.repack.has_input; answers = is.repack.answers; bytes_read = is.repack.bytes_read };
+    repack = record { input = is.repack.input; has_input = seen_so paths.input _ is.repack.has_input; answers = is.repack.answers; belong = is.repack.belong; bytes_read = is.repack.bytes_read };
     check = is.check;
     other = is.other;
   }
@@ -230,14 +231,14 @@ module _ (paths : DayPaths) (asked : DayOptions) (old mid new : List Step) (chan
     repacked = is.repacked;
     records = is.records;
     text = is.text;
-    repack = record { input = is.repack.input; has_input = seen_so paths.input _ is.repack.has_input; answers = is.repack.answers; bytes_read = is.repack.bytes_read };
+    repack = record { input = is.repack.input; has_input = seen_so paths.input _ is.repack.has_input; answers = is.repack.answers; belong = is.repack.belong; bytes_read = is.repack.bytes_read };
     check = is.check;
     other = is.other;
   }
   refused_before (Larger repacked) is = record {
     records = is.records;
     text = is.text;
-    repack = record { input = is.repack.input; has_input = seen_so paths.input _ is.repack.has_input; answers = is.repack.answers; bytes_read = is.repack.bytes_read };
+    repack = record { input = is.repack.input; has_input = seen_so paths.input _ is.repack.has_input; answers = is.repack.answers; belong = is.repack.belong; bytes_read = is.repack.bytes_read };
     only_smaller = is.only_smaller;
     larger = is.larger;
     unshrunk = unshrunk_so repacked is.unshrunk;
@@ -246,12 +247,13 @@ module _ (paths : DayPaths) (asked : DayOptions) (old mid new : List Step) (chan
     repacked = is.repacked;
     records = is.records;
     text = is.text;
-    repack = record { input = is.repack.input; has_input = seen_so paths.input _ is.repack.has_input; answers = is.repack.answers; bytes_read = is.repack.bytes_read };
+    repack = record { input = is.repack.input; has_input = seen_so paths.input _ is.repack.has_input; answers = is.repack.answers; belong = is.repack.belong; bytes_read = is.repack.bytes_read };
     keep_old = is.keep_old;
     left = samples_so shrinkage.was is.left;
     is = is.is;
     fewer = is.fewer;
   }
+  refused_before (Misplaced found) is = record { input = is.input; records = is.records; text = is.text; has_input = seen_so paths.input _ is.has_input; is = is.is }
   refused_before (Tool fault) is = record { input = is.input; written = is.written; told = is.told; has_input = seen_so paths.input _ is.has_input; answers = is.answers }
   refused_before ClaimedByAnother is = is
   refused_before Gone is = is
@@ -261,7 +263,7 @@ module _ (paths : DayPaths) (asked : DayOptions) (old mid new : List Step) (chan
   outcome_before (Done repacked) is = record {
     records = is.records;
     text = is.text;
-    repack = record { input = is.repack.input; has_input = seen_so paths.input _ is.repack.has_input; answers = is.repack.answers; bytes_read = is.repack.bytes_read };
+    repack = record { input = is.repack.input; has_input = seen_so paths.input _ is.repack.has_input; answers = is.repack.answers; belong = is.repack.belong; bytes_read = is.repack.bytes_read };
     has_records = is.has_records;
     has_report = is.has_report;
     verified = is.verified;

@@ -17,7 +17,7 @@ use Rattle.msr_making.specs.Places.{AreFileNames, DayPaths, paths_of}
 use Rattle.msr_making.specs.Shrinking.{HeldAgainst, HeldFor, HoldsAgainst, IsFewer, IsNoFewer, IsUntold, counts_of}
 use Rattle.msr_making.specs.Told.{IsRepackOf, IsUnshrunk, LeavesSamples}
 use Rattle.msr_making.specs.Writing.{IfSeen, IsWrittenTo, WritesDay, WrittenAs}
-use Rattle.msr_making.specs.declared.answer.DayFault.TheVariants.{CannotOpen, Larger, Tool}
+use Rattle.msr_making.specs.declared.answer.DayFault.TheVariants.{CannotOpen, Larger, Misplaced, Tool}
 use Rattle.msr_making.specs.declared.answer.Repacked.{Repacked}
 use Rattle.msr_making.specs.declared.answer.Stop.{Stop}
 use Rattle.msr_making.specs.declared.answer.Stop.TheVariants.{Memory, Refused}
@@ -127,7 +127,7 @@ module _ (input : Path) (look : DayLook) (files : DayFiles) (asked : DayOptions)
       held_said : (written result : Result Repacked Stop) → ChangesFiles [] mid new → WrittenAs (IfSeen input old) ((look.input ≡ Unknown) ⊎ (failures old < failures mid)) files asked (λ bytes. length bytes) written mid
           → HeldAgainst paths look asked (counts_of written) written result mid new → HeldAs input files asked result old new
       held_said (Ok repacked) result still wrote held = held_of repacked wrote.2.records wrote.2.text (Ok repacked) result
-          (record { input = wrote.0; has_input = wrote.1; answers = wrote.2.fit.counted; bytes_read = wrote.2.fit.read })
+          (record { input = wrote.0; has_input = wrote.1; answers = wrote.2.fit.counted; belong = wrote.2.fit.belong; bytes_read = wrote.2.fit.read })
           (λ same unshrunk. subst (λ (r : Result Repacked Stop). HeldAs input files asked r old new) (sym same) (record { wrote = (wrote.0, wrote.1, later); unshrunk = unshrunk }))
           held
         where
@@ -143,7 +143,7 @@ module _ (input : Path) (look : DayLook) (files : DayFiles) (asked : DayOptions)
           }
       held_said (Err (Refused (Larger repacked))) result still wrote held =
           let repack : IsRepackOf asked paths repacked wrote.2.records wrote.2.text old =
-          record { input = wrote.0; has_input = wrote.1; answers = wrote.2.answers.counted; bytes_read = wrote.2.answers.read } in
+          record { input = wrote.0; has_input = wrote.1; answers = wrote.2.answers.counted; belong = wrote.2.answers.belong; bytes_read = wrote.2.answers.read } in
           held_of repacked wrote.2.records wrote.2.text (Err (Refused (Larger repacked))) result repack
           (λ same unshrunk. subst (λ (r : Result Repacked Stop). HeldAs input files asked r old new) (sym same) (record {
             records = wrote.2.records;
@@ -157,6 +157,8 @@ module _ (input : Path) (look : DayLook) (files : DayFiles) (asked : DayOptions)
           (⊎_elim (λ unknown. absurd (at.known.input unknown)) (λ failed. let few = no_fewer [] mid new still in inr (omega arith)) wrote)
       held_said (Err (Refused (Tool why))) result still wrote held = subst (λ (r : Result Repacked Stop). HeldAs input files asked r old new) (sym held)
           (record { input = wrote.0; written = wrote.2.records; told = wrote.2.text; has_input = wrote.1; answers = wrote.2.answers })
+      held_said (Err (Refused (Misplaced found))) result still wrote held = subst (λ (r : Result Repacked Stop). HeldAs input files asked r old new) (sym held)
+          (record { input = wrote.0; records = wrote.2.records; text = wrote.2.text; has_input = wrote.1; is = wrote.2.answers })
       held_said (Err (Refused why)) result still wrote held = absurd wrote.2.answers
       held_said (Err Memory) result still wrote held = subst (λ (r : Result Repacked Stop). HeldAs input files asked r old new) (sym held) tt
 

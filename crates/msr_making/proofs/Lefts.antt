@@ -2,7 +2,6 @@
 use Rattle.std.proofs.Common.{◌≡◌, ◌⊎◌, ◌<◌, ◌||◌, inl, inr, ⊎_elim, ℕ, Bool, true, false, List, [], refl, sym, ◌∙◌, ap, subst, Result, Ok, Err, Option, Some, None, IfSome, IsSomeAnd, IsTrue, option_map, length, arith}
 use Rattle.std.specs.declared.alloc.AllocError.{AllocError}
 use Rattle.msr_devices.specs.Device.{Device, HasLeft, unused}
-use Rattle.msr_options.specs.Choice.{Choice}
 use Rattle.msr_options.specs.declared.days.DayOptions.{DayOptions}
 use Rattle.msr_tree.specs.Calls.{AreOneFile, Goes, Looks, Opens, Tells}
 use Rattle.msr_tree.specs.Folders.{ChangesFiles}
@@ -79,24 +78,24 @@ module _ {R : Type 0} (path : Path) (device : R → Device) where
   pub text_memory : (text : List ℕ) (why : TreeFault) (e : AllocError) (one two : List Step → Type 0) → Goes one two (Tells Says (Err why)) → Goes one two (AsksForText path text (Err e))
   text_memory text why e one two goes = asks_by Says (Err why) _ (no_memory Bool e) one two (λ p q tells. tt) goes
 
-  report_of : (choice : Choice) (bytes_read : ℕ) (reader : R) (found : Option Repacked) (past : List Step) → IfSome found (λ repacked. IsReportLeft choice (device reader) repacked)
-      → IfSome found (λ repacked. repacked.bytes_read ≡ bytes_read) → Says past reader → IfSome found (IsReportThere path choice bytes_read past)
-  report_of choice bytes_read reader None past is read opens = tt
-  report_of choice bytes_read reader (Some repacked) past is read opens = record { is = is.is; has = left_is path past (device reader) is.is.text opens is.left; read = read }
+  report_of : (asked : DayOptions) (bytes_read : ℕ) (reader : R) (found : Option Repacked) (past : List Step) → IfSome found (λ repacked. IsReportLeft asked (device reader) repacked)
+      → IfSome found (λ repacked. repacked.bytes_read ≡ bytes_read) → Says past reader → IfSome found (IsReportThere path asked bytes_read past)
+  report_of asked bytes_read reader None past is read opens = tt
+  report_of asked bytes_read reader (Some repacked) past is read opens = record { is = is.is; has = left_is path past (device reader) is.is.text opens is.left; read = read }
 
-  pub report_there : (choice : Choice) (bytes_read : ℕ) (reader : R) (found : Option Repacked) (one two : List Step → Type 0) → IfSome found (λ repacked. IsReportLeft choice (device reader) repacked)
-      → IfSome found (λ repacked. repacked.bytes_read ≡ bytes_read) → Goes one two (Tells Says (Ok reader)) → Goes one two (AsksForReport path choice bytes_read (Ok found))
-  report_there choice bytes_read reader found one two is read goes = asks_by Says (Ok reader) _ (answered found) one two (λ p q tells. report_of choice bytes_read reader found p is read tells.1) goes
+  pub report_there : (asked : DayOptions) (bytes_read : ℕ) (reader : R) (found : Option Repacked) (one two : List Step → Type 0) → IfSome found (λ repacked. IsReportLeft asked (device reader) repacked)
+      → IfSome found (λ repacked. repacked.bytes_read ≡ bytes_read) → Goes one two (Tells Says (Ok reader)) → Goes one two (AsksForReport path asked bytes_read (Ok found))
+  report_there asked bytes_read reader found one two is read goes = asks_by Says (Ok reader) _ (answered found) one two (λ p q tells. report_of asked bytes_read reader found p is read tells.1) goes
 
-  pub report_none : (choice : Choice) (bytes_read : ℕ) (why : TreeFault) (one two : List Step → Type 0) → Goes one two (Tells Says (Err why)) → Goes one two (AsksForReport path choice bytes_read (Ok None))
-  report_none choice bytes_read why one two goes = asks_by Says (Err why) _ (answered None) one two (λ p q tells. tt) goes
+  pub report_none : (asked : DayOptions) (bytes_read : ℕ) (why : TreeFault) (one two : List Step → Type 0) → Goes one two (Tells Says (Err why)) → Goes one two (AsksForReport path asked bytes_read (Ok None))
+  report_none asked bytes_read why one two goes = asks_by Says (Err why) _ (answered None) one two (λ p q tells. tt) goes
 
-  pub report_memory : (choice : Choice) (bytes_read : ℕ) (why : TreeFault) (e : AllocError) (one two : List Step → Type 0) → Goes one two (Tells Says (Err why)) → Goes one two (AsksForReport path choice bytes_read (Err e))
-  report_memory choice bytes_read why e one two goes = asks_by Says (Err why) _ (no_memory (Option Repacked) e) one two (λ p q tells. tt) goes
+  pub report_memory : (asked : DayOptions) (bytes_read : ℕ) (why : TreeFault) (e : AllocError) (one two : List Step → Type 0) → Goes one two (Tells Says (Err why)) → Goes one two (AsksForReport path asked bytes_read (Err e))
+  report_memory asked bytes_read why e one two goes = asks_by Says (Err why) _ (no_memory (Option Repacked) e) one two (λ p q tells. tt) goes
 
-pub kept_of_left : (choice : Choice) (source : Device) (found : Option Repacked) → IfSome found (IsReportLeft choice source) → IfSome found (IsReportKept choice)
-kept_of_left choice source None is = tt
-kept_of_left choice source (Some repacked) is = is.is
+pub kept_of_left : (asked : DayOptions) (source : Device) (found : Option Repacked) → IfSome found (IsReportLeft asked source) → IfSome found (IsReportKept asked)
+kept_of_left asked source None is = tt
+kept_of_left asked source (Some repacked) is = is.is
 
 -- a regular file that was found has bytes
 pub has_bytes : (path : Path) (past : List Step) (sight : Sight) (facts : Facts) → IsRegular sight facts → IsSightAt path past sight → IsSomeAnd (seen past path) (λ bytes. facts.bytes ≡ length bytes)
@@ -117,12 +116,12 @@ pub left_there : (paths : DayPaths) (look : DayLook) (asked : DayOptions) (input
     → stamp ≡ stamp_of input → answer ≡ true → found ≡ Some repacked
     → IsRegular look.input input → IsRegular look.records records → (records.bytes ≡ repacked.bytes_written) → (IsTrue asked.only_smaller → GotSmaller repacked)
     → (one two three : List Step → Type 0)
-    → Goes one two (AsksForText paths.stamp (stamp_text stamp) (Ok answer)) → Goes two three (AsksForReport paths.report asked.options input.bytes (Ok found))
+    → Goes one two (AsksForText paths.stamp (stamp_text stamp) (Ok answer)) → Goes two three (AsksForReport paths.report asked input.bytes (Ok found))
     → Goes one three (AsksForKept paths look asked (Ok (Some repacked)))
 left_there paths look asked input records stamp answer found repacked is_stamp so is_found own_regular records_regular size smaller one two three a b =
     asks_then _ _ _ (answered answer) (answered found) (answered (Some repacked)) one two three
     (λ p q r x y text said. λ looked.
-    let there : IsReportThere paths.report asked.options input.bytes q repacked = subst (λ (f : Option Repacked). IfSome f (IsReportThere paths.report asked.options input.bytes q)) is_found said in
+    let there : IsReportThere paths.report asked input.bytes q repacked = subst (λ (f : Option Repacked). IfSome f (IsReportThere paths.report asked input.bytes q)) is_found said in
     let bytes : stamp.bytes ≡ input.bytes = ap (λ (s : Stamp). s.bytes) is_stamp in
     record {
       stamp = stamp;

@@ -55,7 +55,7 @@ module _ (input : Path) (look : DayLook) (files : DayFiles) (asked : DayOptions)
     repacked = repacked;
     records = records;
     text = text;
-    repack = record { input = bytes; has_input = has; answers = fit.counted; bytes_read = fit.read };
+    repack = record { input = bytes; has_input = has; answers = fit.counted; belong = fit.belong; bytes_read = fit.read };
     check = check;
     unshown = is;
   }
@@ -63,7 +63,7 @@ module _ (input : Path) (look : DayLook) (files : DayFiles) (asked : DayOptions)
     repacked = repacked;
     records = records;
     text = text;
-    repack = record { input = bytes; has_input = has; answers = fit.counted; bytes_read = fit.read };
+    repack = record { input = bytes; has_input = has; answers = fit.counted; belong = fit.belong; bytes_read = fit.read };
     check = check;
     other = is;
   }
@@ -71,7 +71,7 @@ module _ (input : Path) (look : DayLook) (files : DayFiles) (asked : DayOptions)
     repacked = repacked;
     records = records;
     text = text;
-    repack = record { input = bytes; has_input = has; answers = fit.counted; bytes_read = fit.read };
+    repack = record { input = bytes; has_input = has; answers = fit.counted; belong = fit.belong; bytes_read = fit.read };
     check = check;
     other = is;
   }

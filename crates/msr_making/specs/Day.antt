@@ -17,6 +17,8 @@ use Rattle.msr_compare.specs.declared.fault.CompareFault.TheVariants.{One, Other
 use Rattle.msr_tool.specs.Settings.{settings_of}
 use Rattle.msr_options.specs.Choice.{Choice, as_strict, record_size}
 use Rattle.msr_options.specs.declared.days.DayOptions.{DayOptions}
+use Rattle.msr_options.specs.declared.names.DayName.{DayName}
+use Rattle.msr_belonging.specs.Belonging.{IsFoundAsAsked, told_segments}
 use Rattle.msr_tool.specs.Tasks.{IsReported, ReportAnswers}
 use Rattle.msr_tool.specs.declared.fault.ToolFault.{ToolFault}
 use Rattle.msr_tool.specs.declared.fault.ToolFault.TheVariants.{Memory, Read}
@@ -26,7 +28,7 @@ use Rattle.msr_folders.specs.Totals.{saturated}
 use Rattle.msr_making.specs.declared.answer.DayOutcome.{DayOutcome}
 use Rattle.msr_making.specs.declared.answer.DayOutcome.TheVariants as outcomes
 use Rattle.msr_making.specs.declared.answer.DayFault.{DayFault}
-use Rattle.msr_making.specs.declared.answer.DayFault.TheVariants.{CannotOpen, Changed, NotShown, Differs, Larger, Shrunk, ClaimedByAnother, Tool}
+use Rattle.msr_making.specs.declared.answer.DayFault.TheVariants.{CannotOpen, Changed, NotShown, Differs, Larger, Misplaced, Shrunk, ClaimedByAnother, Tool}
 use Rattle.msr_making.specs.declared.answer.Repacked.{Repacked}
 use Rattle.msr_making.specs.declared.answer.Shrinkage.{Shrinkage}
 
@@ -54,6 +56,24 @@ abbrev pub CountAnswers : Choice → (input written told : List ℕ) → Result 
 CountAnswers choice input written told (Ok repacked) = IsCounted choice input written told repacked
 CountAnswers choice input written told (Err fault) = ReportAnswers choice input written told (Err fault)
 
+-- The input was repacked with these counts, and its segments belong to the day if that is asked for.
+pub record IsPlaced (asked : DayOptions) (input records told : List ℕ) (repacked : Repacked) : Type 0 where
+  pub counted : IsCounted asked.options input records told repacked
+  pub belong : IsFoundAsAsked asked.names (told_segments counted.report.segments.items) None
+
+-- It was repacked, and it was asked for that its segments belong to the day: they do not, by the one of this name.
+pub record IsMisplaced (asked : DayOptions) (input records told : List ℕ) (found : DayName) : Type 0 where
+  pub report : Report
+  pub reported : IsReported asked.options input records told report
+  pub is : IsFoundAsAsked asked.names (told_segments report.segments.items) (Some found)
+
+-- what an answer says of a day
+abbrev pub PlacedAnswers : DayOptions → (input written told : List ℕ) → Result Repacked DayFault → Type 0
+PlacedAnswers asked input written told (Ok repacked) = IsPlaced asked input written told repacked
+PlacedAnswers asked input written told (Err (Misplaced found)) = IsMisplaced asked input written told found
+PlacedAnswers asked input written told (Err (Tool fault)) = CountAnswers asked.options input written told (Err fault)
+PlacedAnswers asked input written told (Err why) = ⊥
+
 -- What repacking a day did with its devices, the source, the sink of the records and that of the report.
 pub record RepacksDay (choice : Choice) (source records0 records text0 text : Device)
     (result : Result Repacked ToolFault) : Type 0 where
@@ -65,12 +85,30 @@ pub record RepacksDay (choice : Choice) (source records0 records text0 text : De
   pub told_all : Takes text0 text told
   pub answers : CountAnswers choice input written told result
 
+-- The same of a day to which its segments have to belong, if that is asked for.
+pub record RepacksPlaced (asked : DayOptions) (source records0 records text0 text : Device)
+    (result : Result Repacked DayFault) : Type 0 where
+  pub input : List ℕ
+  pub written : List ℕ
+  pub told : List ℕ
+  pub left : HasLeft source input
+  pub wrote : Takes records0 records written
+  pub told_all : Takes text0 text told
+  pub answers : PlacedAnswers asked input written told result
+
 -- Some input, of which some records and some text were written, has this answer.
 pub record HasAnswer (choice : Choice) (result : Result Repacked ToolFault) : Type 0 where
   pub input : List ℕ
   pub written : List ℕ
   pub told : List ℕ
   pub answers : CountAnswers choice input written told result
+
+-- Some input was repacked, and its segments do not belong to the day, by the one of this name.
+pub record WasMisplaced (asked : DayOptions) (found : DayName) : Type 0 where
+  pub input : List ℕ
+  pub written : List ℕ
+  pub told : List ℕ
+  pub is : IsMisplaced asked input written told found
 
 -- The text is that of a report of this tolerance, which shows that the records are the fewest.
 pub record ShowsWritten (choice : Choice) (records text : List ℕ) : Type 0 where
@@ -209,34 +247,36 @@ IsRepackedDay asked (Err Differs) = IsDifferent asked
 IsRepackedDay asked (Err Changed) = IsDifferent asked
 IsRepackedDay asked (Err (Larger repacked)) = IsLarger asked repacked
 IsRepackedDay asked (Err (Shrunk shrinkage)) = IsShrunk asked shrinkage
+IsRepackedDay asked (Err (Misplaced found)) = WasMisplaced asked found
 IsRepackedDay asked (Err ClaimedByAnother) = ⊤
 IsRepackedDay asked (Err (Tool fault)) = HasAnswer asked.options (Err fault)
 IsRepackedDay asked (Err _) = ⊥
 
 -- Some text is that of a report of these options, and the counts are those of this report, with the bytes of the records
 -- that it counts. A report does not say whether reading was strict: if reading is strict it counts no record whose
--- reverse constant does not agree, as that of a strict repack does.
-pub record IsReportKept (choice : Choice) (repacked : Repacked) : Type 0 where
+-- reverse constant does not agree, as that of a strict repack does. Its segments belong to the day if that is asked for.
+pub record IsReportKept (asked : DayOptions) (repacked : Repacked) : Type 0 where
   pub text : List ℕ
   pub report : Report
   pub reads : IsReadFrom report text
-  pub record_length : bytes_of report.length ≡ record_size choice
-  pub kinds : report.kinds ≡ choice.kinds
-  pub tolerance : report.tolerance ≡ choice.tolerance
-  pub agree : IsTrue choice.strict → report.counts.mismatched ≡ 0
+  pub record_length : bytes_of report.length ≡ record_size asked.options
+  pub kinds : report.kinds ≡ asked.options.kinds
+  pub tolerance : report.tolerance ≡ asked.options.tolerance
+  pub agree : IsTrue asked.options.strict → report.counts.mismatched ≡ 0
+  pub belong : IsFoundAsAsked asked.names (told_segments report.segments.items) None
   pub read : repacked.read ≡ report.counts.read
   pub written : repacked.written ≡ records_in report.segments.items
-  pub bytes : HasBytesWritten choice repacked
+  pub bytes : HasBytesWritten asked.options repacked
   pub samples : repacked.samples ≡ saturated (samples_in report.segments.items)
 
 -- the same of the text that a source has
-pub record IsReportLeft (choice : Choice) (source : Device) (repacked : Repacked) : Type 0 where
-  pub is : IsReportKept choice repacked
+pub record IsReportLeft (asked : DayOptions) (source : Device) (repacked : Repacked) : Type 0 where
+  pub is : IsReportKept asked repacked
   pub left : HasLeft source is.text
 
 -- What an earlier walk left is of these options, and smaller than what was read if that is asked for.
 pub record IsKept (asked : DayOptions) (repacked : Repacked) : Type 0 where
-  pub report : IsReportKept asked.options repacked
+  pub report : IsReportKept asked repacked
   pub smaller : IsTrue asked.only_smaller → GotSmaller repacked
 
 -- It was asked for that days are left alone that an earlier walk did, and this one is kept.

@@ -1,29 +1,33 @@
 -- What an outcome says of a day by what its names lead to, while nobody else changes them.
-use Rattle.std.specs.Prelude.{◌≡◌, ◌<◌, ◌≤◌, ◌⊎◌, ℕ, Bool, true, false, IsTrue, List, length, Some, Ok, Err, IsSome, IsSomeAnd}
+use Rattle.std.specs.Prelude.{◌≡◌, ◌<◌, ◌≤◌, ◌⊎◌, ℕ, Bool, true, false, IsTrue, List, length, None, Some, Ok, Err, IsSome, IsSomeAnd}
 use Rattle.msr_tree.specs.Steps.{Step, failures, now, seen}
 use Rattle.msr_folders.specs.Totals.{saturated}
 use Rattle.msr_options.specs.declared.days.DayOptions.{DayOptions}
 use Rattle.msr_options.specs.declared.hint.Side.{Side}
+use Rattle.msr_options.specs.declared.names.DayName.{DayName}
+use Rattle.msr_belonging.specs.Belonging.{IsFoundAsAsked, told_segments}
 use Rattle.msr_options.specs.declared.hint.Side.TheVariants.{Records, Report as OfReport}
 use Rattle.msr_report.specs.declared.report.Report.{Report}
 use Rattle.msr_report_reader.specs.Reading.{IsReadFrom}
 use Rattle.msr_tool.specs.declared.fault.ToolFault.{ToolFault}
-use Rattle.msr_making.specs.Day.{AsksForAge, CountAnswers, GotSmaller, IsKept, IsOtherData, IsVerifiedBy, ShowsWritten, samples_in}
+use Rattle.msr_making.specs.Day.{AsksForAge, CountAnswers, GotSmaller, IsKept, IsMisplaced, IsOtherData, IsVerifiedBy, ShowsWritten, samples_in}
 use Rattle.msr_making.specs.Places.{DayPaths, IsOneOfMade, IsUnseen}
 use Rattle.msr_making.specs.Stamp.{stamp_text}
 use Rattle.msr_making.specs.declared.answer.DayFault.{DayFault}
-use Rattle.msr_making.specs.declared.answer.DayFault.TheVariants.{CannotOpen, Changed, ClaimedByAnother, Differs, Gone, Larger, Listing, NotShown, Shrunk, Tool}
+use Rattle.msr_making.specs.declared.answer.DayFault.TheVariants.{CannotOpen, Changed, ClaimedByAnother, Differs, Gone, Larger, Listing, Misplaced, NotShown, Shrunk, Tool}
 use Rattle.msr_making.specs.declared.answer.DayOutcome.{DayOutcome}
 use Rattle.msr_making.specs.declared.answer.DayOutcome.TheVariants.{Done, Refused, Same, Young}
 use Rattle.msr_making.specs.declared.answer.Repacked.{Repacked}
 use Rattle.msr_making.specs.declared.answer.Shrinkage.{Shrinkage}
 use Rattle.msr_making.specs.declared.stamp.Stamp.{Stamp}
 
--- The bytes of the day's file were repacked, with these counts, to these records and this text.
+-- The bytes of the day's file were repacked, with these counts, to these records and this text, and their segments belong to
+-- the day if that is asked for.
 pub record IsRepackOf (asked : DayOptions) (paths : DayPaths) (repacked : Repacked) (records text : List ℕ) (old : List Step) : Type 0 where
   pub input : List ℕ
   pub has_input : seen old paths.input ≡ Some input
   pub answers : CountAnswers asked.options input records text (Ok repacked)
+  pub belong : IsFoundAsAsked asked.names (told_segments answers.report.segments.items) None
   pub bytes_read : repacked.bytes_read ≡ length input
 
 -- An earlier walk left records of a day, and a report that tells so many samples.
@@ -114,6 +118,14 @@ pub record IsShrunkThere (asked : DayOptions) (paths : DayPaths) (shrinkage : Sh
   pub is : shrinkage.is ≡ repacked.samples
   pub fewer : shrinkage.is < shrinkage.was
 
+-- It was repacked, and it was asked for that its segments belong to the day: they do not, by the one of this name.
+pub record IsMisplacedThere (asked : DayOptions) (paths : DayPaths) (found : DayName) (old : List Step) : Type 0 where
+  pub input : List ℕ
+  pub records : List ℕ
+  pub text : List ℕ
+  pub has_input : seen old paths.input ≡ Some input
+  pub is : IsMisplaced asked input records text found
+
 -- Why a day is refused. What could not be opened or made says that a call failed, or that the day's own file is one of
 -- those that are made; nothing is said of other processes.
 abbrev pub IsRefusedThere : DayOptions → DayPaths → DayFault → (old new : List Step) → Type 0
@@ -123,6 +135,7 @@ IsRefusedThere asked paths Differs old new = IsDifferentThere asked paths old
 IsRefusedThere asked paths Changed old new = IsDifferentThere asked paths old
 IsRefusedThere asked paths (Larger repacked) old new = IsLargerThere asked paths repacked old
 IsRefusedThere asked paths (Shrunk shrinkage) old new = IsShrunkThere asked paths shrinkage old
+IsRefusedThere asked paths (Misplaced found) old new = IsMisplacedThere asked paths found old
 IsRefusedThere asked paths (Tool fault) old new = IsFaultThere asked paths fault old
 IsRefusedThere asked paths ClaimedByAnother old new = Unit {0}
 IsRefusedThere asked paths Gone old new = ⊥

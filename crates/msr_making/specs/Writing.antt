@@ -1,15 +1,16 @@
 -- What is written of a day, beside the names of its records and its report.
-use Rattle.std.specs.Prelude.{◌≡◌, ◌<◌, ◌⊎◌, ℕ, ⊤, IsTrue, List, [], Some, Result, Ok, Err, length}
+use Rattle.std.specs.Prelude.{◌≡◌, ◌<◌, ◌⊎◌, ℕ, ⊤, IsTrue, List, [], None, Some, Result, Ok, Err, length}
 use Rattle.msr_devices.specs.Device.{Device, HasLeft, Takes}
 use Rattle.msr_options.specs.declared.days.DayOptions.{DayOptions}
 use Rattle.msr_tree.specs.Folders.{ChangesFiles}
 use Rattle.msr_tree.specs.Steps.{Path, Step, failures, seen}
 use Rattle.msr_naming.specs.Promise.{AreReady}
 use Rattle.msr_naming.specs.declared.files.DayFiles.{DayFiles}
-use Rattle.msr_making.specs.Day.{CountAnswers, GotSmaller, HasAnswer, IsLarger}
+use Rattle.msr_belonging.specs.Belonging.{IsFoundAsAsked, told_segments}
+use Rattle.msr_making.specs.Day.{CountAnswers, GotSmaller, HasAnswer, IsLarger, IsMisplaced, WasMisplaced}
 use Rattle.msr_making.specs.Looking.{IsSightAt}
 use Rattle.msr_making.specs.Parts.{ArePartsApart, part_paths}
-use Rattle.msr_making.specs.declared.answer.DayFault.TheVariants.{CannotOpen, Larger, Tool}
+use Rattle.msr_making.specs.declared.answer.DayFault.TheVariants.{CannotOpen, Larger, Misplaced, Tool}
 use Rattle.msr_making.specs.declared.answer.Repacked.{Repacked}
 use Rattle.msr_making.specs.declared.answer.Stop.{Stop}
 use Rattle.msr_making.specs.declared.answer.Stop.TheVariants.{Memory, Refused}
@@ -26,19 +27,23 @@ abbrev pub WasRepacked : DayOptions → Result Repacked Stop → Type 0
 WasRepacked asked (Ok repacked) = IsFit asked repacked
 WasRepacked asked (Err (Refused (CannotOpen unopened))) = ⊤
 WasRepacked asked (Err (Refused (Larger repacked))) = IsLarger asked repacked
+WasRepacked asked (Err (Refused (Misplaced found))) = WasMisplaced asked found
 WasRepacked asked (Err (Refused (Tool fault))) = HasAnswer asked.options (Err fault)
 WasRepacked asked (Err (Refused why)) = ⊥
 WasRepacked asked (Err Memory) = ⊤
 
--- These bytes were repacked to these records and this text, with these counts, which are smaller if that is asked for.
+-- These bytes were repacked to these records and this text, with these counts, which are smaller if that is asked for; and
+-- their segments belong to the day if that is.
 pub record IsFitOf (asked : DayOptions) (bytes_read : ℕ) (input records text : List ℕ) (repacked : Repacked) : Type 0 where
   pub counted : CountAnswers asked.options input records text (Ok repacked)
+  pub belong : IsFoundAsAsked asked.names (told_segments counted.report.segments.items) None
   pub read : repacked.bytes_read ≡ bytes_read
   pub smaller : IsTrue asked.only_smaller → GotSmaller repacked
 
 -- They were repacked, and did not get smaller.
 pub record IsLargerOf (asked : DayOptions) (bytes_read : ℕ) (input records text : List ℕ) (repacked : Repacked) : Type 0 where
   pub counted : CountAnswers asked.options input records text (Ok repacked)
+  pub belong : IsFoundAsAsked asked.names (told_segments counted.report.segments.items) None
   pub read : repacked.bytes_read ≡ bytes_read
   pub only_smaller : IsTrue asked.only_smaller
   pub larger : ¬ (GotSmaller repacked)
@@ -47,6 +52,7 @@ pub record IsLargerOf (asked : DayOptions) (bytes_read : ℕ) (input records tex
 abbrev pub RepackedOf : DayOptions → ℕ → (input records text : List ℕ) → Result Repacked Stop → Type 0
 RepackedOf asked bytes_read input records text (Ok repacked) = IsFitOf asked bytes_read input records text repacked
 RepackedOf asked bytes_read input records text (Err (Refused (Larger repacked))) = IsLargerOf asked bytes_read input records text repacked
+RepackedOf asked bytes_read input records text (Err (Refused (Misplaced found))) = IsMisplaced asked input records text found
 RepackedOf asked bytes_read input records text (Err (Refused (Tool fault))) = CountAnswers asked.options input records text (Err fault)
 RepackedOf asked bytes_read input records text (Err (Refused why)) = ⊥
 RepackedOf asked bytes_read input records text (Err Memory) = ⊥

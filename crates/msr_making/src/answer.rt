@@ -1,6 +1,6 @@
 //! What becomes of a day.
 
-use msr_options::Unopened;
+use msr_options::{DayName, Unopened};
 use msr_tool::ToolFault;
 use std::alloc::AllocError;
 
@@ -40,6 +40,8 @@ pub enum DayFault {
     Larger(Repacked),
     /// It has fewer samples than an earlier walk left of it, and that is to stay.
     Shrunk(Shrinkage),
+    /// Its segments do not belong to it, by the one of this name, and only days are kept whose segments do.
+    Misplaced(DayName),
     /// It stood in the list of its folder, and was gone when it was looked at.
     Gone,
     /// Another walk has the day.

@@ -13,7 +13,7 @@ use crate::looks::{DayLook, is_shared, look_at, look_beside};
 use crate::places::Places;
 use crate::repacking::counts_kept;
 use crate::stamp::{Stamp, gives_text};
-use msr_options::{DayOptions, Options};
+use msr_options::DayOptions;
 use msr_tree::{Facts, Tree, TreeFault};
 use std::alloc::{AllocError, Global};
 
@@ -44,14 +44,14 @@ fn kept_counts<T: Tree>(
     alloc: Global,
     path: &str,
     facts: &Facts,
-    options: Options,
+    asked: &DayOptions,
     bytes_read: u64,
 ) -> Result<Option<Repacked>, AllocError>
-    ensures told { IfOk result (λ found. IfSome found (IsReportKept options)) }
-    ensures goes { Goes (T.went tree.old) (T.went tree.new) (AsksForReport path.now options bytes_read result) }
+    ensures told { IfOk result (λ found. IfSome found (IsReportKept asked.now)) }
+    ensures goes { Goes (T.went tree.old) (T.went tree.new) (AsksForReport path.now asked.now bytes_read result) }
 {
     match tree.open_found(path, facts) {
-        Ok(mut source) => Ok(counts_kept(alloc, &mut source, options, bytes_read)),
+        Ok(mut source) => Ok(counts_kept(alloc, &mut source, asked, bytes_read)),
         Err(TreeFault::Failed) => Ok(None),
         Err(TreeFault::Memory) => Err(AllocError),
     }
@@ -77,14 +77,7 @@ pub(crate) fn kept<T: Tree>(
         return Ok(None);
     }
     let bytes = facts.input.bytes;
-    let found = kept_counts(
-        tree,
-        alloc,
-        places.report,
-        &facts.report,
-        asked.options,
-        bytes,
-    )?;
+    let found = kept_counts(tree, alloc, places.report, &facts.report, asked, bytes)?;
     let Some(repacked) = found else {
         return Ok(None);
     };

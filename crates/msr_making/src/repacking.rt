@@ -7,9 +7,10 @@ ghost use Rattle.msr_tree.specs.Reads.{OnlyLooks};
 ghost use Rattle.msr_options.specs.Choice.{record_size};
 ghost use Rattle.msr_report.specs.Proper.{IsProper, records_in};
 ghost use Rattle.msr_folders.specs.Totals.{saturated};
-ghost use Rattle.msr_making.specs.Day.{IsReportLeft, RepacksDay, samples_in, VerifiesRepack, told_of_report, told_of};
+ghost use Rattle.msr_making.specs.Day.{HasBytesWritten, IsReportLeft, RepacksDay, RepacksPlaced, samples_in, VerifiesRepack, told_of_report, told_of};
 
 use crate::answer::{DayFault, Repacked};
+use msr_belonging::misplaced;
 use msr_compare::{CompareFault, Comparison};
 use msr_devices::{DeviceFault, ReadBuffer, Sink, Source};
 use msr_header::{read_header, record_length};
@@ -76,6 +77,25 @@ pub(crate) fn first_length<S: Source>(
     Ok(own.unwrap_or(other))
 }
 
+/// What a report tells of a day that was repacked so, with the bytes that the input has.
+fn counted(report: &Report, bytes_read: u64, options: Options) -> Repacked
+    requires { IsProper report.now }
+    ensures read { result.read ≡ report.now.counts.read }
+    ensures written { result.written ≡ records_in report.now.segments.items }
+    ensures input { result.bytes_read ≡ bytes_read }
+    ensures bytes { HasBytesWritten options result }
+    ensures samples { result.samples ≡ saturated (samples_in report.now.segments.items) }
+{
+    let written = records_written(report);
+    Repacked {
+        read: report.counts.read,
+        written,
+        bytes_read,
+        bytes_written: bytes_of_records(written, options),
+        samples: samples_reported(report),
+    }
+}
+
 /// Repacks a day, and counts its records and bytes.
 pub fn repack_day_of<S: Source, W: Sink, T: Sink>(
     alloc: Global,
@@ -93,31 +113,52 @@ pub fn repack_day_of<S: Source, W: Sink, T: Sink>(
         (T.device text.old) (T.device text.new) result }
 {
     let report = repack_and_report(alloc, source, records, text, options)?;
-    let written = records_written(&report);
-    Ok(Repacked {
-        read: report.counts.read,
-        written,
-        bytes_read,
-        bytes_written: bytes_of_records(written, options),
-        samples: samples_reported(&report),
-    })
+    Ok(counted(&report, bytes_read, options))
 }
 
-/// The counts of the report that the source has, if it is one of these options, with the bytes that the input has. A
-/// report does not say whether reading was strict, and a strict repack writes what any other does that counts no mismatch.
+/// The same of a day to which its segments have to belong, if that is asked for.
+pub(crate) fn repack_placed<S: Source, W: Sink, T: Sink>(
+    alloc: Global,
+    source: &mut S,
+    bytes_read: u64,
+    records: &mut W,
+    text: &mut T,
+    asked: &DayOptions,
+) -> Result<Repacked, DayFault>
+    requires source { CanCountCall (S.device source.old) }
+    requires records { CanCountCall (W.device records.old) }
+    requires text { CanCountCall (T.device text.old) }
+    ensures read { IfOk result (λ repacked. repacked.bytes_read ≡ bytes_read) }
+    ensures repacks { RepacksPlaced asked.now (S.device source.old) (W.device records.old) (W.device records.new)
+        (T.device text.old) (T.device text.new) result }
+{
+    let report = match repack_and_report(alloc, source, records, text, asked.options) {
+        Ok(report) => report,
+        Err(fault) => return Err(DayFault::Tool(fault)),
+    };
+    if let Some(found) = misplaced(&report, asked.names) {
+        return Err(DayFault::Misplaced(found));
+    }
+    Ok(counted(&report, bytes_read, asked.options))
+}
+
+/// The counts of the report that the source has, if it is one of these options, and its segments belong to the day if that
+/// is asked for, with the bytes that the input has. A report does not say whether reading was strict, and a strict repack
+/// writes what any other does that counts no mismatch.
 pub(crate) fn counts_kept<S: Source>(
     alloc: Global,
     source: &mut S,
-    options: Options,
+    asked: &DayOptions,
     bytes_read: u64,
 ) -> Option<Repacked>
     requires { CanCountCall (S.device source.old) }
-    ensures left { IfSome result (λ repacked. IsReportLeft options (S.device source.old) repacked) }
+    ensures left { IfSome result (λ repacked. IsReportLeft asked.now (S.device source.old) repacked) }
     ensures read { IfSome result (λ repacked. repacked.bytes_read ≡ bytes_read) }
 {
     let Ok(report) = read_report(alloc, source) else {
         return None;
     };
+    let options = asked.options;
     if report.length.bytes() != options.length().bytes()
         || report.kinds != options.form().kinds
         || report.tolerance != options.tolerance()
@@ -127,14 +168,10 @@ pub(crate) fn counts_kept<S: Source>(
     if options.is_strict() && report.counts.mismatched != 0 {
         return None;
     }
-    let written = records_written(&report);
-    Some(Repacked {
-        read: report.counts.read,
-        written,
-        bytes_read,
-        bytes_written: bytes_of_records(written, options),
-        samples: samples_reported(&report),
-    })
+    if misplaced(&report, asked.names).is_some() {
+        return None;
+    }
+    Some(counted(&report, bytes_read, options))
 }
 
 /// What is told of a day whose report is read again, and is at fault.

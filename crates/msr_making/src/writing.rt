@@ -8,7 +8,7 @@ use crate::answer::{DayFault, Repacked, Stop};
 use crate::hold::Hold;
 use crate::looks::Sight;
 use crate::parts::{Parts, begin, called, finish};
-use crate::repacking::repack_day_of;
+use crate::repacking::repack_placed;
 use crate::verifying::open_again;
 use msr_devices::{Sink, Source};
 use msr_naming::DayFiles;
@@ -32,17 +32,16 @@ fn repack_to<S: Source, W: Sink>(
     ensures goes { RepacksParts asked.now bytes_read (S.device source.old) (W.device parts.old.records) (W.device parts.new.records)
         (W.device parts.old.report) (W.device parts.new.report) result }
 {
-    let options = asked.options;
-    let repacked = match repack_day_of(
+    let repacked = match repack_placed(
         alloc,
         source,
         bytes_read,
         &mut parts.records,
         &mut parts.report,
-        options,
+        asked,
     ) {
         Ok(repacked) => repacked,
-        Err(fault) => return Err(Stop::Refused(DayFault::Tool(fault))),
+        Err(why) => return Err(Stop::Refused(why)),
     };
     if asked.only_smaller && repacked.bytes_read <= repacked.bytes_written {
         return Err(Stop::Refused(DayFault::Larger(repacked)));

@@ -2,6 +2,9 @@
 use Rattle.msr_kinds.specs.declared.lengths.Length.{Length}
 use Rattle.msr_options.specs.Choice.{Choice}
 use Rattle.msr_options.specs.declared.days.DayOptions.{DayOptions}
+use Rattle.msr_options.specs.declared.names.DayName.{DayName}
+use Rattle.msr_options.specs.declared.names.Names.{Names}
+use Rattle.msr_options.specs.declared.names.Names.TheVariants.{Any, Of, Own}
 
 -- the same choice for records of another length
 abbrev pub with_length : Length → Choice → Choice
@@ -22,6 +25,17 @@ in_length record_length days = record {
   only_smaller = days.only_smaller;
   keep_old = days.keep_old;
   older_than = days.older_than;
+  names = days.names;
   bytes = days.bytes;
   telling = days.telling;
 }
+
+-- the names that are asked of the day that has this one
+abbrev pub names_for : DayName → Names → Names
+names_for name Any = Any
+names_for name Own = Of name
+names_for name (Of other) = Of other
+
+-- what is asked of that day
+abbrev pub with_name : DayName → DayOptions → DayOptions
+with_name name days = record days { names = names_for name days.names }

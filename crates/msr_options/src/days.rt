@@ -1,6 +1,7 @@
 //! What is asked of the days of an archive.
 ghost use Rattle.std.specs.Prelude.{◌≡◌};
 
+use crate::names::{DayName, Names};
 use crate::options::Options;
 use crate::telling::Telling;
 use msr_kinds::Length;
@@ -22,13 +23,15 @@ pub struct DayOptions {
     pub keep_old: bool,
     /// For so many days a file has to be unchanged; 0 for any file.
     pub older_than: u32,
+    /// Only days are kept of which each segment has this name, and one a sample on the day.
+    pub names: Names,
     /// Whether lines tell bytes too.
     pub bytes: bool,
     pub telling: Telling,
 }
 
 impl DayOptions {
-    ghost use Rattle.msr_options.specs.Days.{in_length};
+    ghost use Rattle.msr_options.specs.Days.{in_length, with_name};
 
     /// The same for records of another length.
     pub fn in_length(&self, length: Length) -> DayOptions
@@ -39,5 +42,12 @@ impl DayOptions {
             .kinds(self.options.form().kinds)
             .strict(self.options.is_strict());
         DayOptions { options, ..*self }
+    }
+    /// What is asked of the day that has this name.
+    pub fn with_name(&self, name: DayName) -> DayOptions
+        ensures { result ≡ with_name name self.now }
+    {
+        let names = self.names.for_day(name);
+        DayOptions { names, ..*self }
     }
 }

@@ -151,6 +151,8 @@ pub struct Verifying<'a> {
     pub folders: Folders<'a>,
     /// The paths, from the archive's folder, of the folders that are walked; none for the whole archive.
     pub below: Vec<&'a str>,
+    /// Whether a day is told whose segments are not of its path's channel, or none of them has a sample on its day.
+    pub names: bool,
     pub telling: Telling,
     pub known: Known<'a>,
 }

@@ -5,6 +5,8 @@ use Rattle.std.specs.Option.{option_or}
 use Rattle.msr_sds.specs.SdsPath.{SdsPath, ReadsAsDay}
 use Rattle.msr_folders.specs.Totals.{Add, saturated, totals_of}
 use Rattle.msr_folders.specs.declared.totals.Total.{Total}
+use Rattle.msr_belonging.specs.Names.{day_name}
+use Rattle.msr_options.specs.Days.{with_name}
 use Rattle.msr_options.specs.declared.days.DayOptions.{DayOptions}
 use Rattle.msr_options.specs.declared.hint.Unopened.{Unopened}
 use Rattle.msr_outcomes.specs.Outcomes.{IsOutcomeOfDay}
@@ -31,10 +33,10 @@ pub record IsDayOf (path channel : List ℕ) : Type 0 where
   pub reads : ReadsAsDay path name
   pub channel_is : channel ≡ channel_of name
 
--- the entry is a day, with this outcome
+-- the entry is a day, with this outcome; what is asked of it may be that its segments are those of its path
 pub record IsToldOfDay (asked : DayOptions) (path channel : List ℕ) (outcome : Outcome) : Type 0 where
   pub day : IsDayOf path channel
-  pub outcome_is : IsOutcomeOfDay asked outcome
+  pub outcome_is : IsOutcomeOfDay (with_name (day_name day.name) asked) outcome
 
 -- what an outcome says of an entry
 abbrev pub IsOutcomeOf : DayOptions → (path channel : List ℕ) → Outcome → Type 0

@@ -6,8 +6,9 @@ use Rattle.msr_folders.specs.Members.{IsReasonMember, IsReasonOf, skip_text}
 use Rattle.msr_folders.specs.Paths.{shown_path, text_json}
 use Rattle.msr_input.specs.declared.fault.ReadFault.TheVariants as stop
 use Rattle.msr_making.specs.declared.answer.DayFault.{DayFault}
-use Rattle.msr_making.specs.declared.answer.DayFault.TheVariants.{CannotOpen, Changed, ClaimedByAnother, Differs, Gone, Larger, Listing, NotShown, Shrunk, Tool}
+use Rattle.msr_making.specs.declared.answer.DayFault.TheVariants.{CannotOpen, Changed, ClaimedByAnother, Differs, Gone, Larger, Listing, Misplaced, NotShown, Shrunk, Tool}
 use Rattle.msr_making.specs.declared.answer.Repacked.{Repacked}
+use Rattle.msr_belonging.specs.Names.{found_json, found_words}
 use Rattle.msr_options.specs.declared.days.DayOptions.{DayOptions}
 use Rattle.msr_options.specs.declared.task.Archiving.{Archiving}
 use Rattle.msr_options.specs.declared.hint.Side.{Side}
@@ -32,6 +33,7 @@ outcome_word (Refused Differs) = codes "differs"
 outcome_word (Refused Changed) = codes "changed"
 outcome_word (Refused (Larger repacked)) = codes "larger"
 outcome_word (Refused (Shrunk shrinkage)) = codes "shrunk"
+outcome_word (Refused (Misplaced found)) = codes "misplaced"
 outcome_word (Refused why) = codes "refused"
 outcome_word (Known why) = codes "known"
 
@@ -74,6 +76,7 @@ outcome_rest bytes (Refused Differs) = []
 outcome_rest bytes (Refused Changed) = []
 outcome_rest bytes (Refused (Larger repacked)) = counts_told bytes repacked
 outcome_rest bytes (Refused (Shrunk shrinkage)) = codes " samples " ++ (decimal shrinkage.was ++ (codes " " ++ decimal shrinkage.is))
+outcome_rest bytes (Refused (Misplaced found)) = found_words found
 outcome_rest bytes (Refused why) = codes ": " ++ day_refusal_text why
 outcome_rest bytes (Known why) = codes ": " ++ day_refusal_text why
 
@@ -121,6 +124,7 @@ outcome_members bytes (Refused Differs) = []
 outcome_members bytes (Refused Changed) = []
 outcome_members bytes (Refused (Larger repacked)) = repacked_json bytes repacked
 outcome_members bytes (Refused (Shrunk shrinkage)) = codes ",\"samples_was\":" ++ (decimal shrinkage.was ++ (codes ",\"samples\":" ++ decimal shrinkage.is))
+outcome_members bytes (Refused (Misplaced found)) = found_json found
 outcome_members bytes (Refused why) = day_refusal_json why
 outcome_members bytes (Known why) = day_refusal_json why
 

@@ -5,6 +5,7 @@ ghost use Rattle.msr_outcomes.specs.Lines.{IsOutcomeJson, IsOutcomeLine, IsLineB
 ghost use Rattle.msr_outcomes.specs.Known.{is_plain, known_as, refusal_line};
 ghost use Rattle.msr_outcomes.specs.Outcomes.{of_day};
 
+use msr_belonging::{found_json, found_words};
 use msr_folders::{JsonText, Shown, ToldFault, fault_json, reason_json, skip_text};
 use msr_input::ReadFault;
 use msr_making::{DayFault, DayOutcome, Repacked, Shrinkage};
@@ -103,7 +104,8 @@ fn day_refusal_text(alloc: Global, why: DayFault) -> Result<String, AllocError>
         | DayFault::Differs
         | DayFault::Changed
         | DayFault::Larger(_)
-        | DayFault::Shrunk(_) => "",
+        | DayFault::Shrunk(_)
+        | DayFault::Misplaced(_) => "",
     };
     String::from_str(alloc, text)
 }
@@ -235,6 +237,7 @@ impl Outcome {
             Outcome::Refused(DayFault::Changed) => "changed",
             Outcome::Refused(DayFault::Larger(_)) => "larger",
             Outcome::Refused(DayFault::Shrunk(_)) => "shrunk",
+            Outcome::Refused(DayFault::Misplaced(_)) => "misplaced",
             Outcome::Refused(_) => "refused",
             Outcome::Known(_) => "known",
         }
@@ -256,6 +259,7 @@ impl Outcome {
             Outcome::Refused(DayFault::Shrunk(Shrinkage { was, is })) => {
                 format!(in alloc; " samples {was} {is}")
             }
+            Outcome::Refused(DayFault::Misplaced(found)) => found_words(alloc, &found),
             Outcome::Refused(why) | Outcome::Known(why) => {
                 let text = day_refusal_text(alloc, why)?;
                 format!(in alloc; ": {text}")
@@ -294,6 +298,7 @@ impl Outcome {
             Outcome::Refused(DayFault::Shrunk(Shrinkage { was, is })) => {
                 format!(in alloc; ",\"samples_was\":{was},\"samples\":{is}")
             }
+            Outcome::Refused(DayFault::Misplaced(found)) => found_json(alloc, &found),
             Outcome::Refused(why) | Outcome::Known(why) => day_refusal_json(alloc, why),
         }
     }

@@ -80,6 +80,7 @@ impl Tally {
                 | DayFault::Differs
                 | DayFault::Changed
                 | DayFault::Shrunk(_)
+                | DayFault::Misplaced(_)
                 | DayFault::Gone
                 | DayFault::ClaimedByAnother
                 | DayFault::Tool(_) => self.refused = self.refused.saturating_add(1),

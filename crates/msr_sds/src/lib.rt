@@ -6,11 +6,12 @@ mod folders;
 mod parts;
 
 ghost use Rattle.std.specs.Prelude.{◌≡◌, ◌↔◌, IfOk};
+ghost use Rattle.std.specs.Str.Parse.{digits_value};
 ghost use Rattle.std.specs.String.{string_bytes};
-ghost use Rattle.msr_sds.specs.SdsPath.{SdsPath, ReadsAs, ReadsAsDay, IsWaveform, HasDate, OneReading, path_of};
+ghost use Rattle.msr_sds.specs.SdsPath.{SdsPath, HasForm, ReadsAs, ReadsAsDay, IsWaveform, HasDate, OneReading, path_of};
 
 pub use folders::{FOLDERS, levels_below};
-use parts::Parts;
+use parts::{Parts, number};
 use std::alloc::{AllocError, Global};
 use std::marker::Model;
 use thiserror::Error;
@@ -99,6 +100,22 @@ impl<'a> SdsName<'a> {
         ensures { result.now ≡ self.now.channel }
     {
         self.parts.channel
+    }
+
+    /// The year.
+    pub fn year(&self) -> u16
+        requires { HasForm self.now }
+        ensures { result ≡ digits_value 10 self.now.year }
+    {
+        number(self.parts.year)
+    }
+
+    /// The day of the year.
+    pub fn day(&self) -> u16
+        requires { HasForm self.now }
+        ensures { result ≡ digits_value 10 self.now.day }
+    {
+        number(self.parts.day)
     }
 
     /// The path that was read.

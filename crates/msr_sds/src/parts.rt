@@ -74,7 +74,7 @@ fn is_data_type(text: &str) -> bool
 }
 
 /// The number that one to four digits say.
-fn number(digits: &str) -> u16
+pub(crate) fn number(digits: &str) -> u16
     requires some { 0 < length digits.now }
     requires few { length digits.now ≤ 4 }
     requires digits { All (λ b. IsTrue (is_ascii_digit b)) digits.now }

@@ -19,7 +19,7 @@ use Rattle.msr_verify.specs.Exact.{VerifiedIsExact}
 use Rattle.msr_verify.specs.Files.{AnswerThere, DayPlaces}
 use Rattle.msr_verify.specs.declared.judging.Finding.TheVariants as finding
 use Rattle.msr_verify.specs.declared.judging.VerifyFault.TheVariants.{File, Records, ReportLine, ReportRead, ReportMemory}
-use Rattle.msr_verify.specs.declared.judgement.Judgement.TheVariants.{Verified, InPlace, Missing, NotShown, Differs, Refused, Skipped, Orphan, Known, KnownMissing}
+use Rattle.msr_verify.specs.declared.judgement.Judgement.TheVariants.{Verified, InPlace, Missing, NotShown, Differs, Misplaced, Refused, Skipped, Orphan, Known, KnownMissing}
 use Rattle.msr_verify.specs.declared.judgement.Refusal.TheVariants.{FileUnopened, RecordsUnopened, ReportUnopened, SameFile, Listing, RecordsListing, Day}
 
 same_bytes : (one other : List ℕ) → Some one ≡ Some other → one ≡ other
@@ -94,40 +94,41 @@ module _ (places : DayPlaces) (old : List Step) (whole : AnswerThere places old 
       (subst (λ (b : List ℕ). IsVerified whole.file whole.records b) (one_text text t) whole.answers))
 
 pub exactly : VerifiedIsExact
-exactly places Verified old new is whole = inl refl
-exactly places Missing old new is whole = ⊎_elim
+exactly names places Verified old new is whole = inl refl
+exactly names places Missing old new is whole = ⊎_elim
     (λ none. absurd (gone old places.report whole.text whole.has_report none))
     (λ other. absurd (gone old places.records whole.records whole.has_records other.no_records))
     is
-exactly places InPlace old new is whole = absurd (gone old places.records whole.records whole.has_records is.0)
-exactly places NotShown old new is whole =
+exactly names places InPlace old new is whole = absurd (gone old places.records whole.records whole.has_records is.0.0)
+exactly names places NotShown old new is whole =
     absurd (shown is.file is.records is.text (shows places old whole is.file is.records is.text is.has_file is.has_records is.has_report) is.answers)
-exactly places Differs old new is whole =
+exactly names places Differs old new is whole =
     absurd (no_difference is.file is.records is.text (shows places old whole is.file is.records is.text is.has_file is.has_records is.has_report) is.answers)
-exactly places (Refused (Day (File (stop.Input found)))) old new is whole = ⊎_elim
+exactly names places (Refused (Day (File (stop.Input found)))) old new is whole = ⊎_elim
     (λ has. absurd (file_has_none has.file has.records has.text (shows places old whole has.file has.records has.text has.has_file has.has_records has.has_report) found has.answers))
     (λ cut. absurd (gone old places.records whole.records whole.has_records cut.no_records)) is
-exactly places (Refused (Day (Records (stop.Input found)))) old new is whole = ⊎_elim
+exactly names places (Refused (Day (Records (stop.Input found)))) old new is whole = ⊎_elim
     (λ has. absurd (records_have_none has.file has.records has.text (shows places old whole has.file has.records has.text has.has_file has.has_records has.has_report) found has.answers))
     (λ cut. absurd (gone old places.records whole.records whole.has_records cut.no_records)) is
-exactly places (Refused (Day (ReportLine line))) old new is whole = ⊎_elim
+exactly names places (Refused (Day (ReportLine line))) old new is whole = ⊎_elim
     (λ has.
     let verified = shows places old whole has.file has.records has.text has.has_file has.has_records has.has_report in
     absurd (reader.no_fault verified.shown.report has.text line verified.shown.read has.answers))
     (λ cut. absurd (gone old places.records whole.records whole.has_records cut.no_records)) is
-exactly places (Refused (Day (File stop.Read))) old new is whole = inr (inr tt)
-exactly places (Refused (Day (File stop.Memory))) old new is whole = inr (inr tt)
-exactly places (Refused (Day (Records stop.Read))) old new is whole = inr (inr tt)
-exactly places (Refused (Day (Records stop.Memory))) old new is whole = inr (inr tt)
-exactly places (Refused (Day ReportRead)) old new is whole = inr (inr tt)
-exactly places (Refused (Day ReportMemory)) old new is whole = inr (inr tt)
-exactly places (Refused SameFile) old new is whole = ⊎_elim (λ one. absurd (whole.apart one)) (λ failed. inr (inl failed)) is
-exactly places (Refused FileUnopened) old new is whole = inr (inl is)
-exactly places (Refused RecordsUnopened) old new is whole = inr (inl is)
-exactly places (Refused ReportUnopened) old new is whole = inr (inl is)
-exactly places (Refused Listing) old new is whole = absurd is
-exactly places (Refused RecordsListing) old new is whole = absurd is
-exactly places (Skipped fault) old new is whole = absurd is
-exactly places Orphan old new is whole = absurd is
-exactly places (Known refusal) old new is whole = absurd is
-exactly places KnownMissing old new is whole = absurd is
+exactly names places (Refused (Day (File stop.Read))) old new is whole = inr (inr (inr tt))
+exactly names places (Refused (Day (File stop.Memory))) old new is whole = inr (inr (inr tt))
+exactly names places (Refused (Day (Records stop.Read))) old new is whole = inr (inr (inr tt))
+exactly names places (Refused (Day (Records stop.Memory))) old new is whole = inr (inr (inr tt))
+exactly names places (Refused (Day ReportRead)) old new is whole = inr (inr (inr tt))
+exactly names places (Refused (Day ReportMemory)) old new is whole = inr (inr (inr tt))
+exactly names places (Refused SameFile) old new is whole = ⊎_elim (λ one. absurd (whole.apart one)) (λ failed. inr (inr (inl failed))) is
+exactly names places (Refused FileUnopened) old new is whole = inr (inr (inl is))
+exactly names places (Refused RecordsUnopened) old new is whole = inr (inr (inl is))
+exactly names places (Refused ReportUnopened) old new is whole = inr (inr (inl is))
+exactly names places (Refused Listing) old new is whole = absurd is
+exactly names places (Refused RecordsListing) old new is whole = absurd is
+exactly names places (Skipped fault) old new is whole = absurd is
+exactly names places (Misplaced found) old new is whole = inr (inl is.1)
+exactly names places Orphan old new is whole = absurd is
+exactly names places (Known refusal) old new is whole = absurd is
+exactly names places KnownMissing old new is whole = absurd is

@@ -40,7 +40,7 @@ unopened places path refusal device (unjudged.Refused found) old new so is =
 unopened places path refusal device unjudged.Memory old new so is = subst (λ l. OnlyLooks old l) (sym is) (looks_none old)
 
 -- what a source has is what was opened
-left_is : (past : List Step) (path : Path) (source : Device) (bytes : List ℕ) → Opens path past source → HasLeft source bytes → seen past path ≡ Some bytes
+pub left_is : (past : List Step) (path : Path) (source : Device) (bytes : List ℕ) → Opens path past source → HasLeft source bytes → seen past path ≡ Some bytes
 left_is past path source bytes opens left =
     let same : opens.0 ≡ bytes = subst (λ (d : Device). HasLeft d bytes) opens.2 left in
     opens.1 ∙ ap (λ b. Some b) same

@@ -1,5 +1,5 @@
 -- What is told of an archive that nobody changes.
-use Rattle.std.proofs.Common.{◌≡◌, ◌<◌, inl, inr, ⊎_elim, ℕ, false, List, ◌++◌, refl, sym, ◌∙◌, ap, subst, append_assoc, arith, option_map, Result}
+use Rattle.std.proofs.Common.{◌≡◌, ◌<◌, inl, inr, ⊎_elim, ℕ, false, List, ◌++◌, refl, sym, ◌∙◌, ap, subst, append_assoc, arith, option_map, Option, None, Some, Result}
 use Rattle.msr_devices.specs.Device.{Device, Takes}
 use Rattle.msr_devices.proofs.Chaining.{takes_append}
 use Rattle.msr_folders.proofs.EntryLemmas.{folders_same, for_each_as}
@@ -11,6 +11,10 @@ use Rattle.msr_folders.specs.Paths.{joined}
 use Rattle.msr_folders.specs.Visits.{IsWalk}
 use Rattle.msr_folders.specs.Walks.{IsSaidBetween, IsWalked, TellsWalk}
 use Rattle.msr_folders.specs.declared.found.WalkFound.{WalkFound}
+use Rattle.msr_belonging.specs.Names.{day_name}
+use Rattle.msr_options.specs.Days.{names_for}
+use Rattle.msr_options.specs.declared.names.DayName.{DayName}
+use Rattle.msr_options.specs.declared.names.Names.{Names}
 use Rattle.msr_options.specs.declared.known.Known.{Known as Asked}
 use Rattle.msr_options.specs.declared.task.Verifying.{Verifying}
 use Rattle.msr_tree.proofs.Reading.{failures_read, now_read, reads_then, there_read}
@@ -19,13 +23,15 @@ use Rattle.msr_tree.specs.Reads.{OnlyReads}
 use Rattle.msr_tree.specs.Steps.{Path, Step, failures, seen}
 use Rattle.msr_verify.specs.Entries.{IsVerifyTally, JudgedEntry}
 use Rattle.msr_verify.specs.Known.{IsJudgedEntry}
-use Rattle.msr_verify.specs.Files.{AnswerThere, DayPlaces, IsArchiveVerified, IsInPlace, IsJudgementThere, IsToldOfOut, IsToldOfRoot, day_places}
+use Rattle.msr_verify.specs.Files.{AnswerThere, DayPlaces, IsArchiveVerified, IsInPlace, IsJudgementThere, IsNamedThere, IsToldOfOut, IsToldOfRoot, TellsSegments, day_places, names_asked}
 use Rattle.msr_verify.specs.Lines.{IsToldLine}
+use Rattle.msr_verify.specs.Opening.{IsToldAgain}
 use Rattle.msr_verify.specs.Walk.{TellsArchive, TellsEntries, TellsVerified, VerifiesTree, judged_summary}
 use Rattle.msr_verify.specs.declared.judging.Finding.{Finding}
 use Rattle.msr_verify.specs.declared.judging.VerifyFault.{VerifyFault}
+use Rattle.msr_verify.specs.declared.judging.VerifyFault.TheVariants.{ReportLine}
 use Rattle.msr_verify.specs.declared.judgement.Judgement.{Judgement}
-use Rattle.msr_verify.specs.declared.judgement.Judgement.TheVariants.{Verified, InPlace, Missing, NotShown, Differs, Refused, Skipped, Orphan, Known, KnownMissing}
+use Rattle.msr_verify.specs.declared.judgement.Judgement.TheVariants.{Verified, InPlace, Missing, NotShown, Differs, Misplaced, Refused, Skipped, Orphan, Known, KnownMissing}
 use Rattle.msr_verify.specs.declared.judgement.Refusal.TheVariants.{FileUnopened, RecordsUnopened, ReportUnopened, SameFile, Listing, RecordsListing, Day}
 use Rattle.msr_verify.specs.declared.tally.VerifyTally.{VerifyTally}
 
@@ -99,22 +105,47 @@ module _ (old from to new : List Step) (before : OnlyReads old from) (after : On
   judged_there places (Refused Listing) is = absurd is
   judged_there places (Refused RecordsListing) is = absurd is
   judged_there places (Skipped fault) is = absurd is
+  judged_there places (Misplaced found) is = absurd is
   judged_there places Orphan is = absurd is
   judged_there places (Known refusal) is = absurd is
   judged_there places KnownMissing is = absurd is
 
-  root_there : (asked : Asked) (root out reports : Path) (visit : Visit) (entries : List JudgedEntry) → IsToldOfRoot asked root out reports from to visit entries → IsToldOfRoot asked root out reports old new visit entries
-  root_there asked root out reports (Entry path kind) entries told = (
+  segments_there : (names : Names) (place : Path) (found : Option DayName) → TellsSegments names place found from → TellsSegments names place found old
+  segments_there names place found is = record { text = is.text; report = is.report; has_report = sym (seen_there place) ∙ is.has_report; read = is.read; is = is.is }
+
+  pub named_there : (names : Names) (places : DayPlaces) (judgement : Judgement) → IsNamedThere names places judgement from to → IsNamedThere names places judgement old new
+  named_there names places Verified is = (judged_there places Verified is.0, segments_there names places.report None is.1)
+  named_there names places InPlace is = (judged_there places InPlace is.0, segments_there names places.report None is.1)
+  named_there names places (Misplaced found) is =
+      (⊎_elim (λ one. inl (judged_there places Verified one)) (λ one. inr (judged_there places InPlace one)) is.0, segments_there names places.report (Some found) is.1)
+  named_there names places Missing is = judged_there places Missing is
+  named_there names places NotShown is = judged_there places NotShown is
+  named_there names places Differs is = judged_there places Differs is
+  named_there names places (Refused why) is = judged_there places (Refused why) is
+  named_there names places (Skipped fault) is = judged_there places (Skipped fault) is
+  named_there names places Orphan is = judged_there places Orphan is
+  named_there names places (Known refusal) is = judged_there places (Known refusal) is
+  named_there names places KnownMissing is = judged_there places KnownMissing is
+
+  pub again_there : (names : Names) (report : Path) (judgement told : Judgement) → IsToldAgain names report judgement told from to → IsToldAgain names report judgement told old new
+  again_there names report judgement (Misplaced found) is = segments_there names report (Some found) is
+  again_there names report judgement (Refused ReportUnopened) is = failed_there is
+  again_there names report judgement (Refused (Day (ReportLine line))) is = (is.0, sym (seen_there report) ∙ is.1, is.2)
+  again_there names report judgement (Refused (Day why)) is = is
+  again_there names report judgement told is = (is.0, segments_there names report None is.1)
+
+  root_there : (asked : Asked) (names : Names) (root out reports : Path) (visit : Visit) (entries : List JudgedEntry) → IsToldOfRoot asked names root out reports from to visit entries → IsToldOfRoot asked names root out reports old new visit entries
+  root_there asked names root out reports (Entry path kind) entries told = (
     told.0,
     told.1,
     record {
-      day = λ is. judged_there (day_places root out reports path) told.0 (told.2.day is);
+      day = λ is. let so = told.2.day is in (so.0, so.1, named_there (names_for (day_name so.0) names) (day_places root out reports path) told.0 so.2);
       other = told.2.other;
     },
   )
-  root_there asked root out reports (WithoutList folder) entries told = told
-  root_there asked root out reports (Passed folder) entries told = told
-  root_there asked root out reports (Left folder) entries told = told
+  root_there asked names root out reports (WithoutList folder) entries told = told
+  root_there asked names root out reports (Passed folder) entries told = told
+  root_there asked names root out reports (Left folder) entries told = told
 
   out_there : (asked : Asked) (root out : Path) (visit : Visit) (entries : List JudgedEntry) → IsToldOfOut asked root out from to visit entries → IsToldOfOut asked root out old new visit entries
   out_there asked root out (Entry path kind) entries told = record {
@@ -133,11 +164,11 @@ module _ (old from to new : List Step) (before : OnlyReads old from) (after : On
 
 -- both walks
 both_told : (archive : Verifying) (visits records : List Visit) (entries orphans : List JudgedEntry) (old mid new : List Step)
-    → IsWalked (IsToldOfRoot archive.known archive.folders.root.now archive.folders.out.now archive.folders.reports.now) OnlyReads (Unit {0}) archive.folders.root.now
+    → IsWalked (IsToldOfRoot archive.known (names_asked archive.names) archive.folders.root.now archive.folders.out.now archive.folders.reports.now) OnlyReads (Unit {0}) archive.folders.root.now
     (λ past new. AreEntriesOf past archive.folders.root.now archive.below.items) visits entries old mid
     → IsWalked (IsToldOfOut archive.known archive.folders.root.now archive.folders.out.now) OnlyReads (Unit {0}) archive.folders.out.now
     (λ past new. AreEntriesOf past archive.folders.out.now archive.below.items) records orphans mid new
-    → IsArchiveVerified archive.known archive.folders.root.now archive.folders.out.now archive.folders.reports.now archive.below.items entries orphans old new
+    → IsArchiveVerified archive.known (names_asked archive.names) archive.folders.root.now archive.folders.out.now archive.folders.reports.now archive.below.items entries orphans old new
 both_told archive visits records entries orphans old mid new one two =
     let root = archive.folders.root.now in
     let out = archive.folders.out.now in
@@ -145,8 +176,8 @@ both_told archive visits records entries orphans old mid new one two =
     record {
       visits = visits;
       are = one.are;
-      told = for_each_as (IsSaidBetween (IsToldOfRoot archive.known root out reports) OnlyReads old mid) (IsToldOfRoot archive.known root out reports old new) visits entries
-          (λ visit part said. root_there old said.from said.to new said.before (reads_then said.to mid new said.after two.does) archive.known root out reports visit part said.says) one.says;
+      told = for_each_as (IsSaidBetween (IsToldOfRoot archive.known (names_asked archive.names) root out reports) OnlyReads old mid) (IsToldOfRoot archive.known (names_asked archive.names) root out reports old new) visits entries
+          (λ visit part said. root_there old said.from said.to new said.before (reads_then said.to mid new said.after two.does) archive.known (names_asked archive.names) root out reports visit part said.says) one.says;
       records = records;
       are_records = folders_same out old mid (reads_same out old mid one.does) archive.below.items records two.are;
       told_records = for_each_as (IsSaidBetween (IsToldOfOut archive.known root out) OnlyReads mid new) (IsToldOfOut archive.known root out old new) records orphans
@@ -156,7 +187,7 @@ both_told archive visits records entries orphans old mid new one two =
     }
 
 pub archive_told : (archive : Verifying) (before mid after : List Step → Type 0) (out0 out1 out : Device) (tally0 tally1 tally : VerifyTally)
-    → TellsWalk (TellsEntries archive) (IsToldOfRoot archive.known archive.folders.root.now archive.folders.out.now archive.folders.reports.now) OnlyReads (Unit {0}) archive.folders.root.now
+    → TellsWalk (TellsEntries archive) (IsToldOfRoot archive.known (names_asked archive.names) archive.folders.root.now archive.folders.out.now archive.folders.reports.now) OnlyReads (Unit {0}) archive.folders.root.now
     (λ past new. AreEntriesOf past archive.folders.root.now archive.below.items) before mid out0 out1 tally0 tally1
     → TellsWalk (TellsEntries archive) (IsToldOfOut archive.known archive.folders.root.now archive.folders.out.now) OnlyReads (Unit {0}) archive.folders.out.now
     (λ past new. AreEntriesOf past archive.folders.out.now archive.below.items) mid after out1 out tally1 tally

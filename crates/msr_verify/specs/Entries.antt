@@ -3,12 +3,16 @@ use Rattle.std.specs.Prelude.{◌≡◌, ℕ, ⊤, Bool, true, false, List, Resu
 use Rattle.std.specs.List.{count_by}
 use Rattle.msr_folders.specs.Totals.{saturated}
 use Rattle.msr_folders.specs.Days.{IsDay, IsNoDay}
+use Rattle.msr_belonging.specs.Belonging.{AreMisplaced, told_segments}
+use Rattle.msr_options.specs.declared.names.DayName.{DayName}
+use Rattle.msr_report.specs.declared.report.Report.{Report}
+use Rattle.msr_report_reader.specs.Reading.{IsReadFrom}
 use Rattle.msr_verify.specs.Day.{DayAnswers, IsShownLeast}
 use Rattle.msr_verify.specs.declared.judging.Finding.{Finding}
 use Rattle.msr_verify.specs.declared.judging.Finding.TheVariants as finding
 use Rattle.msr_verify.specs.declared.judging.VerifyFault.{VerifyFault}
 use Rattle.msr_verify.specs.declared.judgement.Judgement.{Judgement}
-use Rattle.msr_verify.specs.declared.judgement.Judgement.TheVariants.{Verified, InPlace, Missing, NotShown, Differs, Refused, Skipped, Orphan, Known, KnownMissing}
+use Rattle.msr_verify.specs.declared.judgement.Judgement.TheVariants.{Verified, InPlace, Missing, NotShown, Differs, Misplaced, Refused, Skipped, Orphan, Known, KnownMissing}
 use Rattle.msr_verify.specs.declared.judgement.Refusal.TheVariants.{FileUnopened, Listing, RecordsListing, Day}
 use Rattle.msr_verify.specs.declared.tally.VerifyTally.{VerifyTally}
 
@@ -44,12 +48,21 @@ pub record HasDayAnswer (answer : Result Finding VerifyFault) : Type 0 where
   pub text : List ℕ
   pub answers : DayAnswers file records text answer
 
+-- Some report tells segments that do not belong to some day, by the one of this name.
+pub record HasAstray (found : DayName) : Type 0 where
+  pub name : DayName
+  pub text : List ℕ
+  pub report : Report
+  pub read : IsReadFrom report text
+  pub astray : AreMisplaced name (told_segments report.segments.items) found
+
 -- what a judgement says of a day
 abbrev pub IsJudgementOfDay : Judgement → Type 0
 IsJudgementOfDay Verified = HasDayAnswer (Ok finding.Verified)
 IsJudgementOfDay InPlace = IsShownAlone
 IsJudgementOfDay NotShown = HasDayAnswer (Ok finding.NotShown)
 IsJudgementOfDay Differs = HasDayAnswer (Ok finding.Differs)
+IsJudgementOfDay (Misplaced found) = HasAstray found
 IsJudgementOfDay (Refused (Day fault)) = HasDayAnswer (Err fault)
 IsJudgementOfDay (Refused Listing) = ⊥
 IsJudgementOfDay (Refused RecordsListing) = ⊥
@@ -89,6 +102,7 @@ is_different _ = false
 
 abbrev pub is_judged_refused : Judgement → Bool
 is_judged_refused (Refused refusal) = true
+is_judged_refused (Misplaced found) = true
 is_judged_refused _ = false
 
 abbrev pub is_judged_skipped : Judgement → Bool

@@ -5,6 +5,7 @@ use Rattle.msr_input.specs.declared.fault.ReadFault.TheVariants as stop
 use Rattle.msr_folders.specs.Faults.{fault_json, read_fault_text}
 use Rattle.msr_folders.specs.Members.{IsReasonMember, skip_text}
 use Rattle.msr_folders.specs.Paths.{shown_path, text_json}
+use Rattle.msr_belonging.specs.Names.{found_json, found_words}
 use Rattle.msr_options.specs.Known.{text_known}
 use Rattle.msr_options.specs.declared.known.Known.{Known as Asked}
 use Rattle.msr_options.specs.declared.task.ListForm.{ListForm}
@@ -15,7 +16,7 @@ use Rattle.msr_verify.specs.Entries.{JudgedEntry, is_unverified}
 use Rattle.msr_verify.specs.declared.judging.VerifyFault.{VerifyFault}
 use Rattle.msr_verify.specs.declared.judging.VerifyFault.TheVariants as fault
 use Rattle.msr_verify.specs.declared.judgement.Judgement.{Judgement}
-use Rattle.msr_verify.specs.declared.judgement.Judgement.TheVariants.{Verified, InPlace, Missing, NotShown, Differs, Refused, Skipped, Orphan, Known, KnownMissing}
+use Rattle.msr_verify.specs.declared.judgement.Judgement.TheVariants.{Verified, InPlace, Missing, NotShown, Differs, Misplaced, Refused, Skipped, Orphan, Known, KnownMissing}
 use Rattle.msr_verify.specs.declared.judgement.Refusal.{Refusal}
 use Rattle.msr_verify.specs.declared.judgement.Refusal.TheVariants.{FileUnopened, RecordsUnopened, ReportUnopened, SameFile, Listing, RecordsListing, Day}
 
@@ -43,6 +44,7 @@ what_text InPlace = codes "inplace"
 what_text Missing = codes "missing"
 what_text NotShown = codes "notshown"
 what_text Differs = codes "differs"
+what_text (Misplaced found) = codes "misplaced"
 what_text (Refused refusal) = codes "refused"
 what_text (Skipped why) = codes "skipped"
 what_text Orphan = codes "orphan"
@@ -59,6 +61,7 @@ text_missing asked path = unwrap_or (text_known asked (refused_before path)) []
 
 -- what stands after the path
 abbrev pub why_text : Asked → (path : List ℕ) → Judgement → List ℕ
+why_text asked path (Misplaced found) = found_words found
 why_text asked path (Refused refusal) = codes ": " ++ refusal_text refusal
 why_text asked path (Known refusal) = codes ": " ++ refusal_text refusal
 why_text asked path KnownMissing = codes ": " ++ text_missing asked path
@@ -96,6 +99,7 @@ refusal_json refusal = side_json refusal
     ++ (place_json refusal ++ (codes ",\"text\":\"" ++ (text_json (refusal_text refusal) ++ codes "\"")))
 
 abbrev pub why_json : Asked → (path : List ℕ) → Judgement → List ℕ
+why_json asked path (Misplaced found) = found_json found
 why_json asked path (Refused refusal) = refusal_json refusal
 why_json asked path (Known refusal) = refusal_json refusal
 why_json asked path KnownMissing = codes ",\"text\":\"" ++ (text_json (text_missing asked path) ++ codes "\"")

@@ -17,7 +17,7 @@ use Rattle.msr_verify.specs.Entries.{IsVerifyTally, JudgedEntry, is_known, is_un
 use Rattle.msr_verify.specs.Known.{IsJudgedEntry}
 use Rattle.msr_tree.specs.Calls.{Goes}
 use Rattle.msr_tree.specs.Steps.{Step}
-use Rattle.msr_verify.specs.Files.{IsArchiveVerified}
+use Rattle.msr_verify.specs.Files.{IsArchiveVerified, names_asked}
 use Rattle.msr_verify.specs.Lines.{IsToldLine}
 use Rattle.msr_verify.specs.declared.tally.VerifyTally.{VerifyTally}
 
@@ -82,7 +82,7 @@ pub record TellsArchive (archive : Verifying) (before after : List Step → Type
   pub entries : List JudgedEntry
   pub orphans : List JudgedEntry
   pub these : TellsEntries archive (entries ++ orphans) out0 out tally0 tally
-  pub goes : Goes before after (IsArchiveVerified archive.known archive.folders.root.now archive.folders.out.now archive.folders.reports.now archive.below.items entries orphans)
+  pub goes : Goes before after (IsArchiveVerified archive.known (names_asked archive.names) archive.folders.root.now archive.folders.out.now archive.folders.reports.now archive.below.items entries orphans)
 
 -- that was printed when the walk stopped
 abbrev pub StopsTellingJudged : Verifying → Device → Device → DeviceFault → Type 0
@@ -118,4 +118,4 @@ pub record VerifiesTree (archive : Verifying) (before after : List Step → Type
   pub prints : Takes out0 out printed
   pub text : IsWalk (IsJudgedEntry archive) (IsToldLine archive) (judged_summary archive) printed (entries ++ orphans)
   pub tells : TellsVerified (entries ++ orphans) found
-  pub goes : Goes before after (IsArchiveVerified archive.known archive.folders.root.now archive.folders.out.now archive.folders.reports.now archive.below.items entries orphans)
+  pub goes : Goes before after (IsArchiveVerified archive.known (names_asked archive.names) archive.folders.root.now archive.folders.out.now archive.folders.reports.now archive.below.items entries orphans)

@@ -1,18 +1,20 @@
 //! The three files of a day: which they are, and what they show.
-ghost use Rattle.std.specs.Prelude.{◌≡◌, IfErr, IfOk};
+ghost use Rattle.std.specs.Prelude.{◌≡◌, IfErr, IfOk, true};
 ghost use Rattle.msr_devices.specs.Device.{CanCountCall};
 ghost use Rattle.msr_devices.specs.declared.fault.DeviceFault.TheVariants.{Memory};
 ghost use Rattle.msr_tree.specs.Calls.{Goes};
 ghost use Rattle.msr_verify.specs.Entries.{IsJudgementOfDay};
-ghost use Rattle.msr_verify.specs.Files.{JudgesDay, day_places};
-ghost use Rattle.msr_verify.specs.Opening.{AreTwoFiles, JudgesAlone, MayHave, OpensAlone, OpensDay, OpensFile, RefusesAs, RefusesDay, places_at};
+ghost use Rattle.msr_verify.specs.Files.{JudgesDay, JudgesNamed, asks_again, day_places};
+ghost use Rattle.msr_verify.specs.Opening.{AreTwoFiles, JudgesAlone, JudgesSegments, MayHave, OpensAlone, OpensDay, OpensFile, RefusesAs, RefusesDay, places_at};
 ghost use Rattle.msr_verify.specs.declared.judgement.Refusal.TheVariants.{SameFile};
 
 use crate::judgement::{Judgement, Refusal, judgement_alone, judgement_of};
-use crate::judging::{verify_alone, verify_day};
+use crate::judging::{report_fault, verify_alone, verify_day};
+use msr_belonging::misplaced;
 use msr_devices::{DeviceFault, Source};
 use msr_folders::{ended, join};
-use msr_options::Folders;
+use msr_options::{Folders, Names};
+use msr_report_reader::read_report;
 use msr_tree::{Tree, TreeFault};
 use std::alloc::Global;
 
@@ -46,17 +48,18 @@ pub(crate) struct OpenDay<R: Source> {
     report: R,
 }
 
-/// What the files of the day with this path show.
+/// What the files of the day with this path show. If it is asked for, its segments have to belong to it.
 pub(crate) fn judge_day<T: Tree>(
     tree: &mut T,
     alloc: Global,
     folders: Folders<'_>,
     path: &str,
+    names: Names,
 ) -> Result<Judgement, DeviceFault>
     ensures told { IfOk result IsJudgementOfDay }
     ensures err { IfErr result (λ fault. fault ≡ Memory) }
     ensures goes { Goes (T.went tree.old) (T.went tree.new)
-        (JudgesDay (day_places folders.entry.root.now folders.entry.out.now folders.entry.reports.now path.now) result) }
+        (JudgesNamed names (day_places folders.entry.root.now folders.entry.out.now folders.entry.reports.now path.now) result) }
 {
     let file = join(alloc, folders.root, path)?;
     let records = join(alloc, folders.out, path)?;
@@ -67,7 +70,62 @@ pub(crate) fn judge_day<T: Tree>(
         records: records.as_str(),
         report: report.as_str(),
     };
-    judge_at(tree, alloc, places)
+    judge_named(tree, alloc, places, names)
+}
+
+/// The same of the files in these places.
+fn judge_named<T: Tree>(
+    tree: &mut T,
+    alloc: Global,
+    places: Places<'_>,
+    names: Names,
+) -> Result<Judgement, DeviceFault>
+    ensures told { IfOk result IsJudgementOfDay }
+    ensures err { IfErr result (λ fault. fault ≡ Memory) }
+    ensures goes { Goes (T.went tree.old) (T.went tree.new) (JudgesNamed names (places_at places.entry) result) }
+{
+    let judgement = judge_at(tree, alloc, places)?;
+    if !asks_again(names, judgement) {
+        return Ok(judgement);
+    }
+    judge_segments(tree, alloc, places.report, names, judgement)
+}
+
+/// Whether it is asked of a day with this judgement whether its segments belong to it.
+fn asks_again(names: Names, judgement: Judgement) -> bool
+    ensures { result ≡ asks_again names judgement }
+{
+    match names {
+        Names::Of(_) => matches!(judgement, Judgement::Verified | Judgement::InPlace),
+        Names::Any | Names::Own => false,
+    }
+}
+
+/// The same judgement of such a day, unless the segments that its report tells do not belong to it.
+fn judge_segments<T: Tree>(
+    tree: &mut T,
+    alloc: Global,
+    report: &str,
+    names: Names,
+    judgement: Judgement,
+) -> Result<Judgement, DeviceFault>
+    ensures told { IsJudgementOfDay judgement → IfOk result IsJudgementOfDay }
+    ensures err { IfErr result (λ fault. fault ≡ Memory) }
+    ensures goes { asks_again names judgement ≡ true →
+        Goes (T.went tree.old) (T.went tree.new) (JudgesSegments names report.now judgement result) }
+{
+    let mut source = match open(tree, report, Refusal::ReportUnopened) {
+        Ok(source) => source,
+        Err(Unjudged::Refused(refusal)) => return Ok(Judgement::Refused(refusal)),
+        Err(Unjudged::Memory) => return Err(DeviceFault::Memory),
+    };
+    match read_report(alloc, &mut source) {
+        Ok(report) => match misplaced(&report, names) {
+            Some(found) => Ok(Judgement::Misplaced(found)),
+            None => Ok(judgement),
+        },
+        Err(fault) => Ok(Judgement::Refused(Refusal::Day(report_fault(fault)))),
+    }
 }
 
 /// What the files in these places show.

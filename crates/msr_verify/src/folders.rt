@@ -5,7 +5,7 @@ ghost use Rattle.msr_folders.specs.Entries.{AreEntriesOf};
 ghost use Rattle.msr_folders.specs.Walks.{TellsWalk};
 ghost use Rattle.msr_tree.specs.Calls.{Goes};
 ghost use Rattle.msr_tree.specs.Reads.{OnlyReads};
-ghost use Rattle.msr_verify.specs.Files.{IsToldOfOut, IsToldOfRoot};
+ghost use Rattle.msr_verify.specs.Files.{IsToldOfOut, IsToldOfRoot, names_asked};
 ghost use Rattle.msr_verify.specs.Walk.{StopsTellingJudged, TellsArchive, TellsEntries, Verifies, VerifiesTree};
 
 use crate::tally::VerifyTally;
@@ -27,7 +27,7 @@ fn walk_archive<'a, T: Tree, O: Sink>(
 ) -> Result<(), DeviceFault>
     requires { CanCountCall (O.device out.old) }
     ensures told { OnOk result (TellsWalk (TellsEntries archive.now)
-        (IsToldOfRoot archive.now.known archive.now.folders.root.now archive.now.folders.out.now archive.now.folders.reports.now) OnlyReads (Unit {0})
+        (IsToldOfRoot archive.now.known (names_asked archive.now.names) archive.now.folders.root.now archive.now.folders.out.now archive.now.folders.reports.now) OnlyReads (Unit {0})
         archive.now.folders.root.now (λ past new. AreEntriesOf past archive.now.folders.root.now archive.now.below.items)
         (T.went tree.old) (T.went tree.new) (O.device out.old) (O.device out.new) tally.old tally.new) }
     ensures stops { IfErr result (StopsTellingJudged archive.now (O.device out.old) (O.device out.new)) }

@@ -6,9 +6,10 @@ ghost use Rattle.msr_verify.specs.Known.{known_as, refusal_line};
 ghost use Rattle.msr_verify.specs.Lines.{IsJudgementJson, IsJudgementLine, IsOfSystem, IsReasonJson, IsRefusalOfSystem, IsToldLine, place_json, refusal_json, refused_before, side_json, text_missing, what_text, why_json, why_text, words_line};
 
 use crate::judging::{Finding, VerifyFault};
+use msr_belonging::{found_json, found_words};
 use msr_folders::{JsonText, Shown, fault_json, reason_json, skip_text};
 use msr_input::ReadFault;
-use msr_options::{Known, ListForm, Verifying};
+use msr_options::{DayName, Known, ListForm, Verifying};
 use msr_sds::SdsFault;
 use std::alloc::{AllocError, Global};
 use std::{fmt, io};
@@ -124,6 +125,8 @@ pub(crate) enum Judgement {
     NotShown,
     /// The records have other data than the day's own file.
     Differs,
+    /// Its segments do not belong to it, by the one of this name. Else it would be verified, or in place.
+    Misplaced(DayName),
     Refused(Refusal),
     Skipped(SdsFault),
     /// Records of a day that the archive does not have.
@@ -192,6 +195,7 @@ impl Judgement {
             Judgement::Missing => "missing",
             Judgement::NotShown => "notshown",
             Judgement::Differs => "differs",
+            Judgement::Misplaced(_) => "misplaced",
             Judgement::Refused(_) => "refused",
             Judgement::Skipped(_) => "skipped",
             Judgement::Orphan => "orphan",
@@ -204,6 +208,7 @@ impl Judgement {
         ensures { IfOk result (λ text. string_bytes text ≡ why_text known.entry path.now self) }
     {
         match self {
+            Judgement::Misplaced(found) => found_words(alloc, &found),
             Judgement::Refused(refusal) | Judgement::Known(refusal) => {
                 format!(in alloc; ": {refusal}")
             }
@@ -231,6 +236,7 @@ impl Judgement {
         ensures { IfOk result (λ text. string_bytes text ≡ why_json known.entry path.now self) }
     {
         match self {
+            Judgement::Misplaced(found) => found_json(alloc, &found),
             Judgement::Refused(refusal) | Judgement::Known(refusal) => refusal.json(alloc),
             Judgement::KnownMissing => {
                 let text = text_missing(alloc, known, path)?;

@@ -64,7 +64,7 @@ impl fmt::Display for VerifyFault {
 
 impl Error for VerifyFault {}
 
-fn report_fault(fault: ReportFault) -> VerifyFault
+pub(crate) fn report_fault(fault: ReportFault) -> VerifyFault
     ensures { result ≡ verify_fault_of_report fault }
 {
     match fault {

@@ -28,8 +28,8 @@ pub fn same_inputs_have_one_output()
     one_output();
 }
 
-/// A day whose files show what they have to is told as verified, and as nothing else, unless a call failed, or a file could
-/// not be read to its end.
+/// A day whose files show what they have to is told as verified, and as nothing else, unless it is misplaced, a call failed,
+/// or a file could not be read to its end.
 pub fn verified_is_exact()
     ensures { VerifiedIsExact }
 {}

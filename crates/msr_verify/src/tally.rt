@@ -55,7 +55,9 @@ impl VerifyTally {
             Judgement::Missing => self.missing = self.missing.saturating_add(1),
             Judgement::NotShown => self.not_shown = self.not_shown.saturating_add(1),
             Judgement::Differs => self.differ = self.differ.saturating_add(1),
-            Judgement::Refused(_) => self.refused = self.refused.saturating_add(1),
+            Judgement::Misplaced(_) | Judgement::Refused(_) => {
+                self.refused = self.refused.saturating_add(1);
+            }
             Judgement::Orphan => self.orphans = self.orphans.saturating_add(1),
         }
         self.unverified = self.unverified.saturating_add(1);

@@ -2,10 +2,13 @@
 ghost use Rattle.std.specs.Prelude.{◌≡◌, ◌∷◌, [], IfErr, OnOk};
 ghost use Rattle.msr_devices.specs.Device.{CanCountCall};
 ghost use Rattle.msr_folders.proofs.ReadingLemmas.{none_holds, reading_laws};
+ghost use Rattle.msr_belonging.specs.Names.{day_name};
+ghost use Rattle.msr_options.specs.Days.{names_for};
+ghost use Rattle.msr_sds.specs.SdsPath.{HasForm};
 ghost use Rattle.msr_sds.specs.declared.SdsFault.{SdsFault};
 ghost use Rattle.msr_tree.specs.Reads.{OnlyReads};
 ghost use Rattle.msr_verify.specs.Entries.{IsJudgementOf, IsVerifyTally, JudgedEntry};
-ghost use Rattle.msr_verify.specs.Files.{IsToldOfOut, IsToldOfRoot, other_judgement};
+ghost use Rattle.msr_verify.specs.Files.{IsToldOfOut, IsToldOfRoot, names_asked, other_judgement};
 ghost use Rattle.msr_verify.specs.Known.{IsJudgedEntry, known_as};
 ghost use Rattle.msr_verify.specs.Lines.{IsToldLine};
 ghost use Rattle.msr_verify.specs.Walk.{StopsTellingJudged, TellsEntries};
@@ -13,9 +16,10 @@ ghost use Rattle.msr_verify.specs.Walk.{StopsTellingJudged, TellsEntries};
 use crate::day::{judge_day, may_have};
 use crate::judgement::{Judgement, Refusal};
 use crate::tally::VerifyTally;
+use msr_belonging::day_name;
 use msr_devices::{DeviceFault, Sink, write_all};
 use msr_folders::{EntryVisitor, join, told_folder};
-use msr_options::Verifying;
+use msr_options::{Names, Verifying};
 use msr_sds::{SdsFault, SdsName};
 use msr_tree::{FileKind, Tree};
 use std::alloc::Global;
@@ -55,6 +59,14 @@ fn other_judgement(kind: FileKind, fault: SdsFault) -> Judgement
     }
 }
 
+/// The names that the segments of the day with this path have to have.
+fn names_of(archive: &Verifying<'_>, name: &SdsName<'_>) -> Names
+    requires { HasForm name.now }
+    ensures { result ≡ names_for (day_name name.now) (names_asked archive.now.names) }
+{
+    Names::asked(archive.names).for_day(day_name(name))
+}
+
 /// Judges each day of the archive.
 #[derive(Clone, Copy)]
 pub(crate) struct Judging<'a> {
@@ -73,7 +85,7 @@ impl EntryVisitor for Judging<'_> {
 
     ghost stops = { λ judging. StopsTellingJudged judging.archive.now };
 
-    ghost says = { λ judging. IsToldOfRoot judging.archive.now.known judging.archive.now.folders.root.now judging.archive.now.folders.out.now judging.archive.now.folders.reports.now };
+    ghost says = { λ judging. IsToldOfRoot judging.archive.now.known (names_asked judging.archive.now.names) judging.archive.now.folders.root.now judging.archive.now.folders.out.now judging.archive.now.folders.reports.now };
 
     ghost does = { λ _. OnlyReads };
 
@@ -108,9 +120,10 @@ impl EntryVisitor for Judging<'_> {
         tally: &mut VerifyTally,
     ) -> Result<(), DeviceFault> {
         match SdsName::parse(path) {
-            Ok(_) => {
+            Ok(name) => {
                 let archive = self.archive;
-                let judgement = judge_day(tree, self.alloc, archive.folders, path)?;
+                let names = names_of(archive, &name);
+                let judgement = judge_day(tree, self.alloc, archive.folders, path, names)?;
                 let reason = tree.reason();
                 tell(
                     self.alloc,

@@ -11,14 +11,15 @@ use Rattle.msr_making.specs.Clearing.{beside_paths}
 use Rattle.msr_making.specs.Told.{AreUntouched, IsLeftFor, IsOutcomeThere, UnlessMade}
 use Rattle.msr_making.specs.declared.answer.DayEnd.{DayEnd}
 use Rattle.msr_making.specs.declared.answer.DayFault.{DayFault}
-use Rattle.msr_making.specs.declared.answer.DayFault.TheVariants.{CannotOpen, Changed, ClaimedByAnother, Differs, Gone, Larger, Listing, NotShown, Shrunk, Tool}
+use Rattle.msr_making.specs.declared.answer.DayFault.TheVariants.{CannotOpen, Changed, ClaimedByAnother, Differs, Gone, Larger, Listing, Misplaced, NotShown, Shrunk, Tool}
 use Rattle.msr_making.specs.declared.answer.DayOutcome.{DayOutcome}
 use Rattle.msr_making.specs.declared.answer.DayOutcome.TheVariants as outcomes
 use Rattle.msr_making.specs.Places.{DayPaths}
 use Rattle.msr_making.specs.declared.answer.Repacked.{Repacked}
 use Rattle.msr_naming.specs.Naming.{day_paths}
 use Rattle.msr_naming.specs.declared.files.DayFiles.{DayFiles}
-use Rattle.msr_options.specs.Days.{in_length}
+use Rattle.msr_belonging.specs.Names.{day_name}
+use Rattle.msr_options.specs.Days.{in_length, with_name}
 use Rattle.std.specs.declared.alloc.AllocError.{AllocError}
 use Rattle.msr_options.specs.declared.days.DayOptions.{DayOptions}
 use Rattle.msr_options.specs.declared.hint.Side.{Side}
@@ -67,6 +68,7 @@ there_again asked paths (outcomes.Refused Differs) told old new same is = subst 
 there_again asked paths (outcomes.Refused Changed) told old new same is = subst (λ o. IsToldThere asked paths o old new) (sym same) is
 there_again asked paths (outcomes.Refused (Larger repacked)) told old new same is = subst (λ o. IsToldThere asked paths o old new) (sym same) is
 there_again asked paths (outcomes.Refused (Shrunk shrinkage)) told old new same is = subst (λ o. IsToldThere asked paths o old new) (sym same) is
+there_again asked paths (outcomes.Refused (Misplaced found)) told old new same is = subst (λ o. IsToldThere asked paths o old new) (sym same) is
 there_again asked paths (outcomes.Refused ClaimedByAnother) told old new same is = subst (λ o. IsToldThere asked paths o old new) (sym same) is
 there_again asked paths (outcomes.Refused (Tool fault)) told old new same is = subst (λ o. IsToldThere asked paths o old new) (sym same) is
 there_again asked paths (outcomes.Refused Gone) told old new same is = absurd is.0
@@ -80,6 +82,7 @@ unclaimed_told asked paths Differs old new is = absurd is
 unclaimed_told asked paths Changed old new is = absurd is
 unclaimed_told asked paths (Larger repacked) old new is = absurd is
 unclaimed_told asked paths (Shrunk shrinkage) old new is = absurd is
+unclaimed_told asked paths (Misplaced found) old new is = absurd is
 unclaimed_told asked paths (Tool fault) old new is = absurd is
 unclaimed_told asked paths Gone old new is = absurd is
 unclaimed_told asked paths Listing old new is = absurd is
@@ -201,22 +204,23 @@ young_there days names out reports old new asks leaves = record {
 }
 
 -- what becomes of a day, told of an entry with its path
-pub outcome_of : (asked : DayOptions) (path channel : List ℕ) (outcome : Outcome) → IsDayOf path channel
-    → IsOutcomeOfDay asked outcome → IsOutcomeOf asked path channel outcome
+pub outcome_of : (asked : DayOptions) (path channel : List ℕ) (outcome : Outcome) (day : IsDayOf path channel)
+    → IsOutcomeOfDay (with_name (day_name day.name) asked) outcome → IsOutcomeOf asked path channel outcome
 outcome_of asked path channel outcome day is = subst (λ o. IsOutcomeOf asked path channel o) (sym is.same) (by is.of is.same is.is)
   where
     by : (of : DayOutcome) → outcome ≡ of_day of → IsDayOutcome is.asked of → IsOutcomeOf asked path channel (of_day of)
-    by (outcomes.Done repacked) same so = record { day = day; outcome_is = subst (λ o. IsOutcomeOfDay asked o) same is }
-    by (outcomes.Same repacked) same so = record { day = day; outcome_is = subst (λ o. IsOutcomeOfDay asked o) same is }
-    by outcomes.Young same so = record { day = day; outcome_is = subst (λ o. IsOutcomeOfDay asked o) same is }
-    by (outcomes.Refused (CannotOpen unopened)) same so = record { day = day; outcome_is = subst (λ o. IsOutcomeOfDay asked o) same is }
-    by (outcomes.Refused NotShown) same so = record { day = day; outcome_is = subst (λ o. IsOutcomeOfDay asked o) same is }
-    by (outcomes.Refused Changed) same so = record { day = day; outcome_is = subst (λ o. IsOutcomeOfDay asked o) same is }
-    by (outcomes.Refused Differs) same so = record { day = day; outcome_is = subst (λ o. IsOutcomeOfDay asked o) same is }
-    by (outcomes.Refused (Shrunk shrinkage)) same so = record { day = day; outcome_is = subst (λ o. IsOutcomeOfDay asked o) same is }
-    by (outcomes.Refused (Larger repacked)) same so = record { day = day; outcome_is = subst (λ o. IsOutcomeOfDay asked o) same is }
-    by (outcomes.Refused ClaimedByAnother) same so = record { day = day; outcome_is = subst (λ o. IsOutcomeOfDay asked o) same is }
-    by (outcomes.Refused (Tool fault)) same so = record { day = day; outcome_is = subst (λ o. IsOutcomeOfDay asked o) same is }
+    by (outcomes.Done repacked) same so = record { day = day; outcome_is = subst (λ o. IsOutcomeOfDay (with_name (day_name day.name) asked) o) same is }
+    by (outcomes.Same repacked) same so = record { day = day; outcome_is = subst (λ o. IsOutcomeOfDay (with_name (day_name day.name) asked) o) same is }
+    by outcomes.Young same so = record { day = day; outcome_is = subst (λ o. IsOutcomeOfDay (with_name (day_name day.name) asked) o) same is }
+    by (outcomes.Refused (CannotOpen unopened)) same so = record { day = day; outcome_is = subst (λ o. IsOutcomeOfDay (with_name (day_name day.name) asked) o) same is }
+    by (outcomes.Refused NotShown) same so = record { day = day; outcome_is = subst (λ o. IsOutcomeOfDay (with_name (day_name day.name) asked) o) same is }
+    by (outcomes.Refused Changed) same so = record { day = day; outcome_is = subst (λ o. IsOutcomeOfDay (with_name (day_name day.name) asked) o) same is }
+    by (outcomes.Refused Differs) same so = record { day = day; outcome_is = subst (λ o. IsOutcomeOfDay (with_name (day_name day.name) asked) o) same is }
+    by (outcomes.Refused (Shrunk shrinkage)) same so = record { day = day; outcome_is = subst (λ o. IsOutcomeOfDay (with_name (day_name day.name) asked) o) same is }
+    by (outcomes.Refused (Larger repacked)) same so = record { day = day; outcome_is = subst (λ o. IsOutcomeOfDay (with_name (day_name day.name) asked) o) same is }
+    by (outcomes.Refused (Misplaced found)) same so = record { day = day; outcome_is = subst (λ o. IsOutcomeOfDay (with_name (day_name day.name) asked) o) same is }
+    by (outcomes.Refused ClaimedByAnother) same so = record { day = day; outcome_is = subst (λ o. IsOutcomeOfDay (with_name (day_name day.name) asked) o) same is }
+    by (outcomes.Refused (Tool fault)) same so = record { day = day; outcome_is = subst (λ o. IsOutcomeOfDay (with_name (day_name day.name) asked) o) same is }
     by (outcomes.Refused Gone) same so = absurd so
     by (outcomes.Refused Listing) same so = absurd so
 

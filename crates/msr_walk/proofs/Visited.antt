@@ -16,6 +16,8 @@ use Rattle.msr_tree.specs.Calls.{Goes}
 use Rattle.msr_tree.specs.Steps.{Path, Step}
 use Rattle.msr_tree.specs.declared.kind.FileKind.{FileKind}
 use Rattle.msr_tree.specs.declared.kind.FileKind.TheVariants.{Gone}
+use Rattle.msr_belonging.specs.Names.{day_name}
+use Rattle.msr_options.specs.Days.{with_name}
 use Rattle.msr_walk.proofs.Days.{told_until}
 use Rattle.msr_walk.proofs.Working.{works_none, works_then}
 use Rattle.msr_outcomes.specs.Entries.{Entry}
@@ -36,8 +38,8 @@ module _ {P : Type 0} (tally : P → Tally) (asked : Archiving) (root outf repor
 
   -- a day
   pub visited_day : {H E : Type 0} (outcome : H → Outcome) (handled : H) (path channel : Path) (kind : FileKind) (before mid after : List Step → Type 0) (out0 out : Device) (of0 of : P)
-      → kind ≢ Gone → IsDay path
-      → Goes before mid (TellsDay {E = E} outcome asked.days (day_names root outf reports path) outf reports (Ok handled))
+      → kind ≢ Gone → (day : IsDay path)
+      → Goes before mid (TellsDay {E = E} outcome (with_name (day_name day.0) asked.days) (day_names root outf reports path) outf reports (Ok handled))
       → Goes mid after (WorksWithin outf reports)
       → TellsOutcomesOf tally asked (record { path = path; channel = channel; outcome = known_as asked.known path (outcome handled) } ∷ []) out0 out of0 of
       → TellsOf (Found path kind) before after out0 out of0 of
@@ -52,13 +54,17 @@ module _ {P : Type 0} (tally : P → Tally) (asked : Archiving) (root outf repor
         refl,
         record {
           gone = λ is. absurd (there is);
-          day = λ some one_day. record {
-            asked = first.says.asked;
-            for_day = first.says.for_day;
-            of = first.says.of;
-            same = first.says.same;
-            there = λ are. told_until first.says.asked (day_names root outf reports path) outf reports first.says.of old middle new (first.says.there are) second.does;
-          };
+          day = λ some one_day. (
+            day.0,
+            day.1,
+            record {
+              asked = first.says.asked;
+              for_day = first.says.for_day;
+              of = first.says.of;
+              same = first.says.same;
+              there = λ are. told_until first.says.asked (day_names root outf reports path) outf reports first.says.of old middle new (first.says.there are) second.does;
+            },
+          );
           other = λ some none. absurd (none day);
         },
       );

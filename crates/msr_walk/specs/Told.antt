@@ -14,9 +14,12 @@ use Rattle.msr_making.specs.Told.{AreUntouched, IsLeftFor, IsOutcomeThere, stays
 use Rattle.msr_making.specs.declared.answer.DayFault.TheVariants.{CannotOpen, Gone as WasGone, Listing}
 use Rattle.msr_making.specs.declared.answer.DayOutcome.{DayOutcome}
 use Rattle.msr_making.specs.declared.answer.DayOutcome.TheVariants as outcomes
+use Rattle.msr_belonging.specs.Names.{day_name}
+use Rattle.msr_options.specs.Days.{with_name}
 use Rattle.msr_options.specs.declared.days.DayOptions.{DayOptions}
 use Rattle.msr_options.specs.declared.task.Archiving.{Archiving}
 use Rattle.msr_options.specs.declared.task.Folders.{Folders}
+use Rattle.msr_sds.specs.SdsPath.{ReadsAsDay, SdsPath}
 use Rattle.msr_sds.specs.declared.SdsFault.{SdsFault}
 use Rattle.msr_tree.specs.Calls.{Goes}
 use Rattle.msr_tree.specs.Steps.{AtEachMoment, Path, Step, now}
@@ -91,10 +94,11 @@ pub record TellsDay {H E : Type 0} (outcome : H → Outcome) (days : DayOptions)
   pub works : WorksWithin out reports old new
   pub says : IfOk result (λ told. IsDayTold days names out reports (outcome told) old new)
 
--- What is told of an entry: that it is gone, what became of it if it is a day, and else why it is none.
+-- What is told of an entry: that it is gone, what became of it if it is a day, and else why it is none. What is asked of a day
+-- may be that its segments are those of its path.
 pub record IsToldOfPath (days : DayOptions) (names : DayNames) (out reports path : Path) (kind : FileKind) (outcome : Outcome) (old new : List Step) : Type 0 where
   pub gone : kind ≡ Gone → outcome ≡ Refused WasGone
-  pub day : kind ≢ Gone → IsDay path → IsDayTold days names out reports outcome old new
+  pub day : kind ≢ Gone → IsDay path → (name : SdsPath) × ReadsAsDay path name × IsDayTold (with_name (day_name name) days) names out reports outcome old new
   pub other : kind ≢ Gone → ¬ (IsDay path) → (fault : SdsFault) × IsNoDay path fault × (outcome ≡ Skipped fault)
 
 -- the one entry that is told of a visit, as known if it is

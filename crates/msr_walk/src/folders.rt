@@ -19,7 +19,8 @@ ghost use Rattle.msr_walk.specs.Files.{day_names};
 ghost use Rattle.msr_walk.specs.Handling.{AllWaitWithin, AreWaitingAt, WaitsWithin};
 ghost use Rattle.msr_outcomes.specs.Lines.{IsEntryLine};
 ghost use Rattle.msr_outcomes.specs.Outcomes.{IsOutcomeOfDay};
-ghost use Rattle.msr_folders.specs.Days.{IsDay};
+ghost use Rattle.msr_belonging.specs.Names.{day_name};
+ghost use Rattle.msr_options.specs.Days.{with_name};
 ghost use Rattle.msr_walk.specs.Told.{IsToldOfVisit, StaysWithin, TellsDay, TellsOutcomesOf, WalksTree, WorksFor};
 ghost use Rattle.msr_walk.specs.Walk.{StopsTellingOutcomes, Walks};
 
@@ -27,6 +28,7 @@ use crate::batch::Batch;
 use crate::claims::Claims;
 use crate::day::{Day, Work};
 use crate::walker::Walker;
+use msr_belonging::day_name;
 use msr_devices::{DeviceFault, Sink, write_all};
 use msr_folders::{EntryVisitor, EntryWalk, WalkFound, join, told_folder, visit_entries};
 use msr_making::{DayFault, DayOutcome, day_length, is_young};
@@ -142,13 +144,14 @@ impl<'a, C: Claims> Walker<'a, C> {
         &self,
         tree: &mut T,
         path: &str,
+        name: &SdsName<'_>,
         apart: bool,
         made: &mut String,
     ) -> Result<Told<C::Claim>, AllocError>
-        requires { IsDay path.now }
-        ensures told { IfOk result (λ told. IsOutcomeOfDay self.now.archive.now.days told.outcome) }
+        requires { ReadsAsDay path.now name.now }
+        ensures told { IfOk result (λ told. IsOutcomeOfDay (with_name (day_name name.now) self.now.archive.now.days) told.outcome) }
         ensures waits { IfOk result (λ told. WaitsWithin self.now.archive.now.folders.reports.now told.waiting) }
-        ensures goes { Goes (T.went tree.old) (T.went tree.new) (TellsDay (λ told. told.outcome) self.now.archive.now.days
+        ensures goes { Goes (T.went tree.old) (T.went tree.new) (TellsDay (λ told. told.outcome) (with_name (day_name name.now) self.now.archive.now.days)
             (day_names self.now.archive.now.folders.root.now self.now.archive.now.folders.out.now self.now.archive.now.folders.reports.now path.now) self.now.archive.now.folders.out.now self.now.archive.now.folders.reports.now result) }
     {
         if self.is_young(tree, path)? {
@@ -164,9 +167,9 @@ impl<'a, C: Claims> Walker<'a, C> {
                 waiting: None,
             });
         }
-        let days = &self.archive.days;
+        let days = self.archive.days.with_name(day_name(name));
         let day = Day::new(self.alloc, self.archive.folders, path)?;
-        let length = day_length(tree, self.alloc, day.input(), days)?;
+        let length = day_length(tree, self.alloc, day.input(), &days)?;
         let work = Work {
             claims: self.claims,
             alloc: self.alloc,
@@ -200,7 +203,7 @@ impl<'a, C: Claims> Walker<'a, C> {
         ensures days { AreWaitingAt (T.went tree.new) self.now.archive.now.folders.reports.now progress.new.batch.days.items }
     {
         let channel = channel_text(self.alloc, name)?;
-        let handled = self.handle(tree, path, apart, &mut progress.made)?;
+        let handled = self.handle(tree, path, name, apart, &mut progress.made)?;
         let told = tell(
             self,
             path,

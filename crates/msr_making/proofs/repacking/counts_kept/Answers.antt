@@ -1,4 +1,7 @@
-use Rattle.std.proofs.Common.{◌∙◌, ap, refl, rules, sym}
+use Rattle.std.proofs.Common.{◌∙◌, ap, refl, rules, sym, subst, Option}
+use Rattle.msr_options.specs.declared.names.DayName.{DayName}
+use Rattle.msr_belonging.specs.Belonging.{IsFoundAsAsked, told_segments}
+use Rattle.msr_making.proofs.Fewer.{none_of}
 use Rattle.msr_kinds.specs.Lengths.{bytes_of}
 use Rattle.msr_making.proofs.repacking.counts_kept.Goals.{else-is_strict-via-then-is_strict+else-report-ne0, else-is_strict-via-else-is_strict}
 use Rattle.msr_making.proofs.repacking.counts_kept.Goals as goal
@@ -20,10 +23,11 @@ returns-clause-left g c =
           | else-is_strict-via-else-is_strict w ↦ (let lenient = sym c.is_strict.ensures ∙ w.if-is_strict.false in
               absurd cc)
         ];
-        read = refl;
-        written = c.records_written-written.ensures;
+        belong = subst (λ (found : Option DayName). IsFoundAsAsked c.args.asked.now.names (told_segments c.in-Ok.report.segments.items) found) (none_of c.misplaced.result (sym c.is_some.ensures ∙ c.if-is_some.false)) c.misplaced.ensures;
+        read = c.counted.ensures.read;
+        written = c.counted.ensures.written;
         bytes = search rules;
-        samples = c.samples_reported.ensures;
+        samples = c.counted.ensures.samples;
       };
       left = read.1;
     }

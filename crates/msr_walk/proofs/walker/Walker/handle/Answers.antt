@@ -1,5 +1,8 @@
-use Rattle.std.proofs.Common.{Ok, refl, subst, sym}
+use Rattle.std.proofs.Common.{◌≡◌, ◌∙◌, ap, false, Ok, refl, subst, sym}
 use Rattle.std.proofs.lemmas.Result.{err_from_is_err_and}
+use Rattle.msr_belonging.specs.Names.{day_name}
+use Rattle.msr_options.specs.Days.{in_length, with_name}
+use Rattle.msr_options.specs.declared.days.DayOptions.{DayOptions}
 use Rattle.msr_walk.proofs.DayApart.{day_apart}
 use Rattle.msr_walk.proofs.DayPaths.{day_within}
 use Rattle.msr_walk.proofs.Days.{day_told, handles_named, handles_work, length_goes, tells_after, tells_nothing, tells_untouched, tells_young, untouched, young_outcome}
@@ -12,40 +15,40 @@ pub returns-in_err-is_young-clause-goes : goal.returns-in_err-is_young-clause-go
 returns-in_err-is_young-clause-goes g c =
     let p = err_from_is_err_and c.from_residual.result c.from_residual.ensures.1 in
     let folders = c.args.self.now.archive.now.folders in
-    rw p.1 (tells_nothing (λ told. told.outcome) c.args.self.now.archive.now.days (day_names folders.root.now folders.out.now folders.reports.now c.args.path.now) folders.out.now folders.reports.now _ _ _
+    rw p.1 (tells_nothing (λ told. told.outcome) (with_name (day_name c.args.name.now) c.args.self.now.archive.now.days) (day_names folders.root.now folders.out.now folders.reports.now c.args.path.now) folders.out.now folders.reports.now _ _ _
     (length_goes folders.out.now folders.reports.now _ _ c.is_young.ensures.goes))
 
 pub returns-then-branch-clause-told : goal.returns-then-branch-clause-told
-returns-then-branch-clause-told g c = rw c.of_day.ensures (young_outcome c.args.self.now.archive.now.days (c.in_ok-is_young.ensures.asked c.if-branch.true))
+returns-then-branch-clause-told g c = rw c.of_day.ensures (young_outcome (with_name (day_name c.args.name.now) c.args.self.now.archive.now.days) (c.in_ok-is_young.ensures.asked c.if-branch.true))
 
 pub returns-then-branch-clause-goes : goal.returns-then-branch-clause-goes
 returns-then-branch-clause-goes g c =
     let folders = c.args.self.now.archive.now.folders in
-    tells_young (λ told. told.outcome) _ c.args.self.now.archive.now.days (day_names folders.root.now folders.out.now folders.reports.now c.args.path.now) folders.out.now folders.reports.now _ _
+    tells_young (λ told. told.outcome) _ (with_name (day_name c.args.name.now) c.args.self.now.archive.now.days) (day_names folders.root.now folders.out.now folders.reports.now c.args.path.now) folders.out.now folders.reports.now _ _
     (c.in_ok-is_young.ensures.asked c.if-branch.true) c.of_day.ensures c.in_ok-is_young.ensures.goes
 
 pub returns-then-not-apart-clause-told : goal.returns-then-not-apart-clause-told
-returns-then-not-apart-clause-told g c = untouched c.args.self.now.archive.now.days _
+returns-then-not-apart-clause-told g c = untouched (with_name (day_name c.args.name.now) c.args.self.now.archive.now.days) _
 
 pub returns-then-not-apart-clause-goes : goal.returns-then-not-apart-clause-goes
 returns-then-not-apart-clause-goes g c =
     let folders = c.args.self.now.archive.now.folders in
     let names = day_names folders.root.now folders.out.now folders.reports.now c.args.path.now in
-    tells_after (λ told. told.outcome) c.args.self.now.archive.now.days names folders.out.now folders.reports.now _ _ _ _ c.in_ok-is_young.ensures.goes
-    (tells_untouched (λ told. told.outcome) _ c.args.self.now.archive.now.days names folders.out.now folders.reports.now _ _ refl)
+    tells_after (λ told. told.outcome) (with_name (day_name c.args.name.now) c.args.self.now.archive.now.days) names folders.out.now folders.reports.now _ _ _ _ c.in_ok-is_young.ensures.goes
+    (tells_untouched (λ told. told.outcome) _ (with_name (day_name c.args.name.now) c.args.self.now.archive.now.days) names folders.out.now folders.reports.now _ _ refl)
 
 pub returns-in_err-day-clause-goes : goal.returns-in_err-day-clause-goes
 returns-in_err-day-clause-goes g c =
     let p = err_from_is_err_and c.from_residual-in_err-day.result c.from_residual-in_err-day.ensures.1 in
     let folders = c.args.self.now.archive.now.folders in
-    rw p.1 (tells_nothing (λ told. told.outcome) c.args.self.now.archive.now.days (day_names folders.root.now folders.out.now folders.reports.now c.args.path.now) folders.out.now folders.reports.now _ _ _
+    rw p.1 (tells_nothing (λ told. told.outcome) (with_name (day_name c.args.name.now) c.args.self.now.archive.now.days) (day_names folders.root.now folders.out.now folders.reports.now c.args.path.now) folders.out.now folders.reports.now _ _ _
     (length_goes folders.out.now folders.reports.now _ _ c.in_ok-is_young.ensures.goes))
 
 pub returns-in_err-length-clause-goes : goal.returns-in_err-length-clause-goes
 returns-in_err-length-clause-goes g c =
     let p = err_from_is_err_and c.from_residual-in_err-length.result c.from_residual-in_err-length.ensures.1 in
     let folders = c.args.self.now.archive.now.folders in
-    rw p.1 (tells_nothing (λ told. told.outcome) c.args.self.now.archive.now.days (day_names folders.root.now folders.out.now folders.reports.now c.args.path.now) folders.out.now folders.reports.now _ _ _
+    rw p.1 (tells_nothing (λ told. told.outcome) (with_name (day_name c.args.name.now) c.args.self.now.archive.now.days) (day_names folders.root.now folders.out.now folders.reports.now c.args.path.now) folders.out.now folders.reports.now _ _ _
     (goes_works_then folders.out.now folders.reports.now _ _ _ (length_goes folders.out.now folders.reports.now _ _ c.in_ok-is_young.ensures.goes)
     (length_goes folders.out.now folders.reports.now _ _ c.day_length.ensures.goes)))
 
@@ -53,26 +56,44 @@ pub returns-in_err-handled-clause-goes : goal.returns-in_err-handled-clause-goes
 returns-in_err-handled-clause-goes g c =
     let p = err_from_is_err_and c.from_residual-in_err-handled.result c.from_residual-in_err-handled.ensures.1 in
     let folders = c.args.self.now.archive.now.folders in
-    let within = day_within folders.root.now folders.out.now folders.reports.now c.args.path.now c.requires in
-    rw p.1 (tells_nothing (λ told. told.outcome) c.args.self.now.archive.now.days (day_names folders.root.now folders.out.now folders.reports.now c.args.path.now) folders.out.now folders.reports.now _ _ _
+    let within = day_within folders.root.now folders.out.now folders.reports.now c.args.path.now (c.args.name.now, c.requires) in
+    rw p.1 (tells_nothing (λ told. told.outcome) (with_name (day_name c.args.name.now) c.args.self.now.archive.now.days) (day_names folders.root.now folders.out.now folders.reports.now c.args.path.now) folders.out.now folders.reports.now _ _ _
     (goes_works_then folders.out.now folders.reports.now _ _ _ (length_goes folders.out.now folders.reports.now _ _ c.in_ok-is_young.ensures.goes)
     (goes_works_then folders.out.now folders.reports.now _ _ _ (length_goes folders.out.now folders.reports.now _ _ c.day_length.ensures.goes)
     (handles_work _ _ folders.out.now folders.reports.now _ _ _ _
     (c.handle.ensures.goes folders.out.now folders.reports.now (subst (λ n. AreNamesWithin folders.out.now folders.reports.now n) (sym c.in_ok-day.ensures) within))))))
 
+pub returns-clause-told : goal.returns-clause-told
+returns-clause-told g c =
+    let asked = c.with_name.ensures ∙ ap (λ n. with_name n c.args.self.now.archive.now.days) c.day_name.ensures in
+    record {
+      asked = c.in_length.result;
+      for_day = record {
+        record_length = c.in_ok-length.length;
+        is = c.in_length.ensures ∙ ap (λ (d : DayOptions). in_length c.in_ok-length.length d) asked;
+        own = subst (λ (d : DayOptions). d.same_length ≡ false → c.in_ok-length.length ≡ d.options.record_length) asked c.in_ok-length.ensures.own;
+      };
+      of = c.in_ok-handled.handled.outcome;
+      same = c.of_day-2.ensures;
+      is = c.in_ok-handled.ensures.told;
+    }
+
 pub returns-clause-waits : goal.returns-clause-waits
 returns-clause-waits g c =
     let folders = c.args.self.now.archive.now.folders in
-    let within = day_within folders.root.now folders.out.now folders.reports.now c.args.path.now c.requires in
+    let within = day_within folders.root.now folders.out.now folders.reports.now c.args.path.now (c.args.name.now, c.requires) in
     c.in_ok-handled.ensures.waits folders.out.now folders.reports.now (subst (λ n. AreNamesWithin folders.out.now folders.reports.now n) (sym c.in_ok-day.ensures) within)
 
 pub returns-clause-goes : goal.returns-clause-goes
 returns-clause-goes g c =
     let folders = c.args.self.now.archive.now.folders in
     let names = day_names folders.root.now folders.out.now folders.reports.now c.args.path.now in
-    let within = day_within folders.root.now folders.out.now folders.reports.now c.args.path.now c.requires in
-    tells_after (λ told. told.outcome) c.args.self.now.archive.now.days names folders.out.now folders.reports.now _ _ _ _ c.in_ok-is_young.ensures.goes
-    (day_told (λ handled. handled.outcome) (λ told. told.outcome) c.args.self.now.archive.now.days names folders.out.now folders.reports.now c.in_ok-length.length (Ok c.in_ok-handled.handled) _ _ _ _ c.in_ok-length.ensures.own
-    (c.in_ok-handled.handled, refl, c.of_day-2.ensures) (λ names. day_apart folders c.args.path.now c.args.self.now.apart names c.requires) c.day_length.ensures.goes
-    (handles_named (λ handled. handled.outcome) names _ folders.out.now folders.reports.now _ _ (Ok c.in_ok-handled.handled) _ _ c.in_ok-day.ensures c.in_length.ensures
+    let within = day_within folders.root.now folders.out.now folders.reports.now c.args.path.now (c.args.name.now, c.requires) in
+    let asked = c.with_name.ensures ∙ ap (λ n. with_name n c.args.self.now.archive.now.days) c.day_name.ensures in
+    tells_after (λ told. told.outcome) (with_name (day_name c.args.name.now) c.args.self.now.archive.now.days) names folders.out.now folders.reports.now _ _ _ _ c.in_ok-is_young.ensures.goes
+    (day_told (λ handled. handled.outcome) (λ told. told.outcome) (with_name (day_name c.args.name.now) c.args.self.now.archive.now.days) names folders.out.now folders.reports.now c.in_ok-length.length (Ok c.in_ok-handled.handled) _ _ _ _
+    (subst (λ (d : DayOptions). d.same_length ≡ false → c.in_ok-length.length ≡ d.options.record_length) asked c.in_ok-length.ensures.own)
+    (c.in_ok-handled.handled, refl, c.of_day-2.ensures) (λ names. day_apart folders c.args.path.now c.args.self.now.apart names (c.args.name.now, c.requires)) c.day_length.ensures.goes
+    (handles_named (λ handled. handled.outcome) names _ folders.out.now folders.reports.now _ _ (Ok c.in_ok-handled.handled) _ _ c.in_ok-day.ensures
+    (c.in_length.ensures ∙ ap (λ (d : DayOptions). in_length c.in_ok-length.length d) asked)
     (c.in_ok-handled.ensures.goes folders.out.now folders.reports.now (subst (λ n. AreNamesWithin folders.out.now folders.reports.now n) (sym c.in_ok-day.ensures) within))))

@@ -30,7 +30,7 @@ returns-in_err-handled-clause-days g c = wait_after c.args.self.now.archive.now.
 
 pub returns-clause-told : goal.returns-clause-told
 returns-clause-told g c =
-    let day : IsDayOf c.args.path.now c.as_str.result.now = search rules in
+    let day : IsDayOf c.args.path.now c.as_str.result.now = record { name = c.args.name.now; reads = c.requires.day; channel_is = search rules } in
     let entry : Entry = record { path = c.args.path.now; channel = c.as_str.result.now; outcome = known_as c.args.self.now.archive.now.known c.args.path.now c.in_ok-handled.handled.outcome } in
     let told = counted_on (λ of. of.tally) c.args.self.now.archive.now (entry ∷ []) (g.O.Sink.device c.args.out.now) (g.O.Sink.device c.tell-told.new.out) c.args.progress.now c.wait.new.self _ _ c.tell-told.result
     (c.tell-told.ensures.told (outcome_of _ _ _ _ day c.in_ok-handled.ensures.told)) refl c.wait.ensures.tally in
@@ -41,7 +41,7 @@ returns-clause-told g c =
 
 pub returns-clause-stops : goal.returns-clause-stops
 returns-clause-stops g c =
-    let day : IsDayOf c.args.path.now c.as_str.result.now = search rules in
+    let day : IsDayOf c.args.path.now c.as_str.result.now = record { name = c.args.name.now; reads = c.requires.day; channel_is = search rules } in
     c.tell-told.ensures.stops (outcome_of _ _ _ _ day c.in_ok-handled.ensures.told)
 
 pub returns-clause-works : goal.returns-clause-works

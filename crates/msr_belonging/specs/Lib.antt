@@ -1,0 +1,3 @@
+pub mod Belonging
+pub mod Names
+pub mod Times
