@@ -1,5 +1,5 @@
 -- How the words of a line are written: instants and the two lines of a segment.
-use Rattle.std.proofs.Common.{◌≡◌, ℕ, ◌++◌, ◌∷◌, ◌∙◌, [], List, arith, ap, append_assoc, decimal, refl, codes, ℤ, w64, to_z, of_z}
+use Rattle.std.proofs.Common.{◌≡◌, ℕ, ◌++◌, ◌∷◌, ◌∙◌, [], List, arith, ap, append_assoc, decimal, flat_map, refl, codes, take, ℤ, w64, to_z, of_z}
 use Rattle.std.proofs.lemmas.Int.{ints}
 use Rattle.msr_time.specs.Instant.{IsInstant}
 use Rattle.msr_report.specs.Text.{IsTimeText, segment_words, segment_line, separators_line, IsSegmentText}
@@ -28,3 +28,9 @@ two_lines line time start more old between new separators is_time same rest firs
             ∙ ap (λ (s : List ℕ). old ++ (segment_line line time ++ separators_line s)) are,
       ),
     )
+
+-- the numbers of all separators, and the end of their line
+pub separators_end : (old separators numbers new : List ℕ) (i : ℕ) → take i separators ≡ separators
+    → numbers ≡ (old ++ codes "separators") ++ flat_map (λ n. 32 ∷ decimal n) (take i separators)
+    → new ≡ numbers ++ 10 ∷ [] → new ≡ old ++ separators_line separators
+separators_end old separators numbers new i all are end = simp (end, are, all, append_assoc) refl

@@ -1,5 +1,5 @@
 //! The texts of a segment's fields.
-ghost use Rattle.std.specs.Prelude.{◌≡◌, ◌++◌, ◌≤◌, ◌<◌, IfOk, OnOk, codes, decimal, false, string_bytes};
+ghost use Rattle.std.specs.Prelude.{◌≡◌, ◌++◌, ◌∷◌, ◌≤◌, ◌<◌, IfOk, OnOk, codes, decimal, false, string_bytes};
 ghost use Rattle.std.specs.Fmt.{digit_glyph, signed_decimal};
 ghost use Rattle.msr_time.specs.Instant.{IsInstant};
 ghost use Rattle.msr_report.specs.Text.{hex_text, byte_text, field_text, name_text, rate_text, flags_text, padded_decimal, date_text, clock_text, split_text, IsTimeText, settings_text};
@@ -44,7 +44,7 @@ pub(crate) fn push_decimal(text: &mut String, n: u64) -> Result<(), AllocError>
 }
 
 /// Appends a number in decimal, with its sign if it is negative.
-fn push_signed(text: &mut String, n: i32) -> Result<(), AllocError>
+pub(crate) fn push_signed(text: &mut String, n: i32) -> Result<(), AllocError>
     ensures { OnOk result (string_bytes text.new ≡ string_bytes text.old ++ signed_decimal n) }
 {
     let mut digits = Buffer::new();
@@ -177,11 +177,11 @@ fn push_timing(text: &mut String, key: &Key) -> Result<(), AllocError>
     push_decimal(text, key.timing as u64)
 }
 
-/// Appends the words from the rate to the timing quality.
+/// Appends a space, and the words from the rate to the timing quality.
 pub(crate) fn push_settings(text: &mut String, key: &Key) -> Result<(), AllocError>
-    ensures { OnOk result (string_bytes text.new ≡ string_bytes text.old ++ settings_text key.now) }
+    ensures { OnOk result (string_bytes text.new ≡ string_bytes text.old ++ (32 ∷ settings_text key.now)) }
 {
-    text.push_str("rate ")?;
+    text.push_str(" rate ")?;
     push_rate(text, key.rate)?;
     text.push_str(" flags ")?;
     push_flags(text, key)?;

@@ -1,15 +1,18 @@
 //! The lines of a list in JSON.
-ghost use Rattle.std.specs.Prelude.{◌≡◌, ◌++◌, ◌≤◌, ◌↔◌, ◌<ℤ◌, ◌≤ℤ◌, ℕ, List, IfOk, OnOk, OnErr, IsTrue, codes, pos, string_bytes};
+ghost use Rattle.std.specs.Prelude.{◌≡◌, ◌++◌, ◌≤◌, ◌↔◌, ◌<ℤ◌, ◌≤ℤ◌, ℕ, List, OnOk, OnErr, IsTrue, codes, pos, string_bytes};
 ghost use Rattle.msr_time.specs.Instant.{IsInstant};
 ghost use Rattle.msr_rows.specs.Records.{IsInTime};
 ghost use Rattle.msr_report.specs.Json.{byte_json, clock_json, counts_json, field_json, iso_date_text, iso_text, name_json, settings_json, times_json, timing_json, unpadded, HaveSameName, HaveSameSettings, IsBegan, IsIsoText, IsJsonLine, IsOffset};
 
-use crate::fields::{push_clock, push_hex, push_padded};
+use crate::fields::{push_clock, push_decimal, push_hex, push_padded, push_signed};
 use jiff_core::civil::Date;
 use msr_base::Counts;
 use msr_rows::Key;
 use msr_time::{BTime, split};
 use std::alloc::{AllocError, Global};
+
+/// For how many bytes memory is taken at first.
+const JSON_ROOM: usize = 384;
 
 /// A segment as a list tells it: without its samples.
 #[derive(Clone, Copy, Debug)]
@@ -48,30 +51,36 @@ fn unpadded(field: &[u8]) -> &[u8]
     &field[..end]
 }
 
-/// A field of a name without the spaces at its end, as the inner part of a string.
-fn field_string(alloc: Global, field: &[u8]) -> Result<String, AllocError>
-    ensures { IfOk result (λ text. string_bytes text ≡ field_json field.now) }
+/// Appends a field of a name without the spaces at its end, as the inner part of a string.
+fn push_unpadded(text: &mut String, field: &[u8]) -> Result<(), AllocError>
+    ensures { OnOk result (string_bytes text.new ≡ string_bytes text.old ++ field_json field.now) }
 {
-    let mut text = String::new(alloc);
     let bytes = unpadded(field);
     for byte in bytes {
-        push_byte(&mut text, *byte)?;
+        push_byte(text, *byte)?;
     }
-    Ok(text)
+    Ok(())
 }
 
-/// The members of the name and the quality.
-fn name_string(alloc: Global, key: &Key) -> Result<String, AllocError>
-    ensures { IfOk result (λ text. string_bytes text ≡ name_json key.now) }
+/// Appends what opens a member, and the field that is its value.
+fn push_member(text: &mut String, opening: &str, field: &[u8]) -> Result<(), AllocError>
+    ensures { OnOk result (string_bytes text.new ≡ string_bytes text.old ++ (opening.now ++ field_json field.now)) }
 {
-    let network = field_string(alloc, &key.network)?;
-    let station = field_string(alloc, &key.station)?;
-    let location = field_string(alloc, &key.location)?;
-    let channel = field_string(alloc, &key.channel)?;
-    let quality = field_string(alloc, &[key.quality])?;
-    format!(in alloc;
-        "\"network\":\"{network}\",\"station\":\"{station}\",\"location\":\"{location}\",\"channel\":\"{channel}\",\"quality\":\"{quality}\""
-    )
+    text.push_str(opening)?;
+    push_unpadded(text, field)
+}
+
+/// Appends the brace of an object, and the members of the name and the quality.
+fn push_name(text: &mut String, key: &Key) -> Result<(), AllocError>
+    ensures { OnOk result (string_bytes text.new ≡ string_bytes text.old ++ (codes "{" ++ name_json key.now)) }
+{
+    push_member(text, "{\"network\":\"", &key.network)?;
+    push_member(text, "\",\"station\":\"", &key.station)?;
+    push_member(text, "\",\"location\":\"", &key.location)?;
+    push_member(text, "\",\"channel\":\"", &key.channel)?;
+    push_member(text, "\",\"quality\":\"", &[key.quality])?;
+    text.push('"')?;
+    Ok(())
 }
 
 /// Appends the date of a time.
@@ -85,58 +94,83 @@ fn push_iso_date(text: &mut String, time: BTime, date: Date) -> Result<(), Alloc
     push_padded(text, u32::from(date.day), 2)
 }
 
-/// A time of that date, and the microseconds below its fraction.
-fn iso_time_string(alloc: Global, time: BTime, date: Date, micros: u8) -> Result<String, AllocError>
+/// Appends a time of that date, and the microseconds below its fraction.
+fn push_iso_time(
+    text: &mut String,
+    time: BTime,
+    date: Date,
+    micros: u8,
+) -> Result<(), AllocError>
     requires { time.fract ≤ 9999 }
-    ensures { IfOk result (λ text. string_bytes text ≡ iso_text time date micros) }
+    ensures { OnOk result (string_bytes text.new ≡ string_bytes text.old ++ iso_text time date micros) }
 {
-    let mut text = String::new(alloc);
-    push_iso_date(&mut text, time, date)?;
+    push_iso_date(text, time, date)?;
     text.push('T')?;
-    push_clock(&mut text, time)?;
+    push_clock(text, time)?;
     text.push('.')?;
-    push_padded(&mut text, 100 * time.fract as u32 + micros as u32, 6)?;
+    push_padded(text, 100 * time.fract as u32 + micros as u32, 6)?;
     text.push('Z')?;
-    Ok(text)
+    Ok(())
 }
 
-/// The time of an instant, in ISO 8601.
-fn iso_string(alloc: Global, t: i64) -> Result<String, AllocError>
+/// Appends the time of an instant, in ISO 8601.
+fn push_iso(text: &mut String, t: i64) -> Result<(), AllocError>
     requires { IsInstant t }
-    ensures { IfOk result (λ text. IsIsoText t (string_bytes text)) }
+    ensures { OnOk result ((iso : List ℕ)
+        × (IsIsoText t iso × (string_bytes text.new ≡ string_bytes text.old ++ iso))) }
 {
     let Some((time, micros)) = split(t) else {
         unreachable!()
     };
-    iso_time_string(alloc, time, time.date(), micros)
+    push_iso_time(text, time, time.date(), micros)
 }
 
-fn timing_string(alloc: Global, timing: u8) -> Result<String, AllocError>
-    ensures { IfOk result (λ text. string_bytes text ≡ timing_json timing) }
+/// Appends the members of the times of the first and the last sample, and of the number of samples.
+fn push_times(text: &mut String, start: i64, last: i64, samples: u64) -> Result<(), AllocError>
+    requires first { IsInstant start }
+    requires last { IsInstant last }
+    ensures { OnOk result ((start_text : List ℕ) × ((end_text : List ℕ)
+        × (IsIsoText start start_text × (IsIsoText last end_text
+        × (string_bytes text.new ≡ string_bytes text.old ++ (codes "," ++ times_json start_text end_text samples)))))) }
 {
-    if timing == 0 {
-        return String::from_str(alloc, "null");
-    }
-    format!(in alloc; "{timing}")
+    text.push_str(",\"start\":\"")?;
+    push_iso(text, start)?;
+    text.push_str("\",\"end\":\"")?;
+    push_iso(text, last)?;
+    text.push_str("\",\"samples\":")?;
+    push_decimal(text, samples)?;
+    Ok(())
 }
 
-/// The members of the rate and of the flags.
-fn settings_string(alloc: Global, key: &Key) -> Result<String, AllocError>
-    ensures { IfOk result (λ text. string_bytes text ≡ settings_json key.now) }
+/// Appends the members of the rate and of the flags.
+fn push_rate_and_flags(text: &mut String, key: &Key) -> Result<(), AllocError>
+    ensures { OnOk result (string_bytes text.new ≡ string_bytes text.old ++ (codes "," ++ settings_json key.now)) }
 {
     let (factor, multiplier) = (key.rate.factor(), key.rate.multiplier());
     let (activity, clock, data_quality) = (key.activity, key.clock, key.data_quality);
-    format!(in alloc;
-        "\"rate_factor\":{factor},\"rate_multiplier\":{multiplier},\"activity\":{activity},\"clock\":{clock},\"data_quality\":{data_quality}"
+    write!(text,
+        ",\"rate_factor\":{factor},\"rate_multiplier\":{multiplier},\"activity\":{activity},\"clock\":{clock},\"data_quality\":{data_quality}"
     )
 }
 
-/// The members of the time correction and of the timing quality.
-fn clock_string(alloc: Global, correction: i32, timing: u8) -> Result<String, AllocError>
-    ensures { IfOk result (λ text. string_bytes text ≡ clock_json correction timing) }
+fn push_timing_quality(text: &mut String, timing: u8) -> Result<(), AllocError>
+    ensures { OnOk result (string_bytes text.new ≡ string_bytes text.old ++ timing_json timing) }
 {
-    let timing = timing_string(alloc, timing)?;
-    format!(in alloc; "\"correction\":{correction},\"timing\":{timing}")
+    if timing == 0 {
+        return text.push_str("null");
+    }
+    push_decimal(text, timing as u64)
+}
+
+/// Appends the members of the time correction and of the timing quality.
+fn push_correction(text: &mut String, key: &Key) -> Result<(), AllocError>
+    ensures { OnOk result (string_bytes text.new ≡ string_bytes text.old
+        ++ (codes "," ++ clock_json key.now.correction key.now.timing)) }
+{
+    text.push_str(",\"correction\":")?;
+    push_signed(text, key.correction)?;
+    text.push_str(",\"timing\":")?;
+    push_timing_quality(text, key.timing)
 }
 
 fn has_same_name(key: &Key, other: &Key) -> bool
@@ -183,54 +217,48 @@ fn why_apart(before: &Key, key: &Key, micros: i128) -> &'static str
     }
 }
 
-/// The last members: why the segment does not go on the one before it, and how far apart they are, if of one name.
-fn began_string(
-    alloc: Global,
+/// Appends the last members: why the segment does not go on the one before it, and how far apart they are, if of one
+/// name.
+fn push_began(
+    text: &mut String,
     before: Option<ListedSegment>,
     segment: &ListedSegment,
-) -> Result<String, AllocError>
-    ensures { IfOk result (λ text. IsBegan before segment.now (string_bytes text)) }
+) -> Result<(), AllocError>
+    ensures { OnOk result ((began : List ℕ) × (IsBegan before segment.now began
+        × (string_bytes text.new ≡ string_bytes text.old ++ (codes "," ++ began)))) }
 {
     let Some(before) = before else {
-        return String::from_str(alloc, "\"began\":\"first\"");
+        return text.push_str(",\"began\":\"first\"");
     };
     if !has_same_name(&before.key, &segment.key) {
-        return String::from_str(alloc, "\"began\":\"channel\"");
+        return text.push_str(",\"began\":\"channel\"");
     }
     let micros = micros_after(&before, segment);
     let why = why_apart(&before.key, &segment.key, micros);
-    let text = format!(in alloc; "\"began\":\"{why}\",\"gap_us\":{micros}")?;
-    Ok(text)
+    write!(text, ",\"began\":\"{why}\",\"gap_us\":{micros}")
 }
 
-/// The members of the times of the first and the last sample, which have these texts, and of the number of samples.
-fn times_string(alloc: Global, start: &str, end: &str, samples: u64) -> Result<String, AllocError>
-    ensures { IfOk result (λ text. string_bytes text ≡ times_json start.now end.now samples) }
-{
-    format!(in alloc; "\"start\":\"{start}\",\"end\":\"{end}\",\"samples\":{samples}")
-}
-
-/// The line of a segment, which comes after `before` in its file.
-fn json_line(
-    alloc: Global,
+/// Appends the line of a segment, which comes after `before` in its file.
+fn push_object(
+    text: &mut String,
     before: Option<ListedSegment>,
     segment: &ListedSegment,
-) -> Result<String, AllocError>
+) -> Result<(), AllocError>
     requires in_time { IsInTime segment.now.key.rate segment.now.start segment.now.count }
     requires some { 1 ≤ segment.now.count }
-    ensures { IfOk result (λ text. IsJsonLine before segment.now (string_bytes text)) }
+    ensures { OnOk result ((line : List ℕ)
+        × (IsJsonLine before segment.now line × (string_bytes text.new ≡ string_bytes text.old ++ line))) }
 {
     let Some(last) = segment.key.rate.nominal(segment.start, segment.count - 1) else {
         unreachable!()
     };
-    let start = iso_string(alloc, segment.start)?;
-    let end = iso_string(alloc, last)?;
-    let name = name_string(alloc, &segment.key)?;
-    let times = times_string(alloc, start.as_str(), end.as_str(), segment.count)?;
-    let settings = settings_string(alloc, &segment.key)?;
-    let clock = clock_string(alloc, segment.key.correction, segment.key.timing)?;
-    let began = began_string(alloc, before, segment)?;
-    format!(in alloc; "{{{name},{times},{settings},{clock},{began}}}\n")
+    push_name(text, &segment.key)?;
+    push_times(text, segment.start, last, segment.count)?;
+    push_rate_and_flags(text, &segment.key)?;
+    push_correction(text, &segment.key)?;
+    push_began(text, before, segment)?;
+    text.push_str("}\n")?;
+    Ok(())
 }
 
 /// Appends the line of a segment in JSON, which comes after `before` in its file, or nothing if memory is refused.
@@ -246,8 +274,9 @@ pub fn push_json_line(
         × (IsJsonLine before segment.now line × (out.new.items ≡ out.old.items ++ line))) }
     ensures refused { OnErr result (out.new.items ≡ out.old.items) }
 {
-    let line = json_line(alloc, before, segment)?;
-    out.extend_from_slice(line.as_bytes())
+    let mut text = String::with_capacity(alloc, JSON_ROOM)?;
+    push_object(&mut text, before, segment)?;
+    out.extend_from_slice(text.as_bytes())
 }
 
 /// Appends the line of the counts in JSON. If memory is refused, nothing is appended.

@@ -27,7 +27,6 @@ fn words_string(
     ensures { IfOk result (λ text. string_bytes text ≡ words_after_quality key.now start.now samples more.now) }
 {
     let mut text = String::with_capacity(alloc, WORDS_ROOM)?;
-    text.push(' ')?;
     push_settings(&mut text, key)?;
     text.push_str(" start ")?;
     text.push_str(start)?;

@@ -254,10 +254,10 @@ impl MemoryTree {
         ensures err { IfErr result (λ fault. fault ≡ Memory) }
     {
         let made = Deed::Made(self.own(name)?, Vec::from_slice(self.alloc, bytes)?);
-        let file = Deed::FileStored(self.own(name)?);
-        let folder = Deed::FolderStored(self.own(folder_above(name))?);
         self.note(made)?;
+        let file = Deed::FileStored(self.own(name)?);
         self.note(file)?;
+        let folder = Deed::FolderStored(self.own(folder_above(name))?);
         self.note(folder)?;
         Ok(())
     }
@@ -445,11 +445,11 @@ impl Tree for MemoryTree {
     }
 
     fn list(&mut self, folder: &str) -> Result<Vec<String>, TreeFault> {
-        let unlisted = Deed::Unlisted(self.own(folder)?);
-        if !has_folder(self.deeds.as_slice(), folder) || self.next_ending().is_some() {
-            return Err(self.refuse_after(unlisted));
+        if has_folder(self.deeds.as_slice(), folder) && self.next_ending().is_none() {
+            return Ok(names_in(self.alloc, self.deeds.as_slice(), folder)?);
         }
-        Ok(names_in(self.alloc, self.deeds.as_slice(), folder)?)
+        let unlisted = Deed::Unlisted(self.own(folder)?);
+        Err(self.refuse_after(unlisted))
     }
 
     fn kind(&self, path: &str) -> FileKind {
