@@ -1,14 +1,10 @@
 //! The names of days and of segments, and their texts.
 ghost use Rattle.std.specs.Prelude.{◌≡◌, ◌++◌, ◌≤◌, ◌<◌, ◌↔◌, IfOk, IsTrue, OnOk, false, length, string_bytes};
-ghost use Rattle.std.specs.Fmt.{digit_glyph};
 ghost use Rattle.msr_belonging.specs.Names.{IsOfChannel, code_text, day_name, day_text, found_json, found_words, id_text, padded};
-ghost use Rattle.msr_report.specs.Json.{unpadded};
-ghost use Rattle.msr_report.specs.Text.{byte_text, hex_text, padded_decimal};
 ghost use Rattle.msr_sds.specs.SdsPath.{HasForm};
 
-use itoa::Buffer;
 use msr_options::DayName;
-use msr_report::ListedSegment;
+use msr_report::{ListedSegment, push_field, push_padded, unpadded};
 use msr_sds::SdsName;
 use std::alloc::{AllocError, Global};
 
@@ -48,61 +44,12 @@ pub(crate) fn is_of_channel(name: &DayName, segment: &ListedSegment) -> bool
         && padded(&key.channel) == name.channel
 }
 
-/// The lower-case hexadecimal digit of a number.
-fn hex_digit(n: u8) -> char
-    requires { n < 16 }
-    ensures glyph { result ≡ digit_glyph false n }
-    ensures ascii { result < 128 }
-{
-    if n < 10 {
-        (b'0' + n) as char
-    } else {
-        (b'a' + (n - 10)) as char
-    }
-}
-
-/// Appends two lower-case hexadecimal digits.
-fn push_hex(text: &mut String, n: u8) -> Result<(), AllocError>
-    ensures { OnOk result (string_bytes text.new ≡ string_bytes text.old ++ hex_text n) }
-{
-    text.push(hex_digit(n / 16))?;
-    text.push(hex_digit(n % 16))
-}
-
-/// Appends a byte of a code.
-fn push_byte(text: &mut String, byte: u8) -> Result<(), AllocError>
-    ensures { OnOk result (string_bytes text.new ≡ string_bytes text.old ++ byte_text byte) }
-{
-    if byte.is_ascii_alphanumeric() {
-        text.push(byte as char)
-    } else if byte == b' ' {
-        text.push('_')
-    } else {
-        text.push('%')?;
-        push_hex(text, byte)
-    }
-}
-
-/// A code without the spaces after it.
-fn unpadded(field: &[u8]) -> &[u8]
-    ensures { result.now ≡ unpadded field.now }
-{
-    let mut end = field.len();
-    while end > 0 && field[end - 1] == b' ' {
-        end -= 1;
-    }
-    &field[..end]
-}
-
 /// The text of a code.
 fn code_text(alloc: Global, code: &[u8]) -> Result<String, AllocError>
     ensures { IfOk result (λ text. string_bytes text ≡ code_text code.now) }
 {
     let mut text = String::new(alloc);
-    let bytes = unpadded(code);
-    for byte in bytes {
-        push_byte(&mut text, *byte)?;
-    }
+    push_field(&mut text, unpadded(code))?;
     Ok(text)
 }
 
@@ -117,27 +64,14 @@ fn id_text(alloc: Global, name: &DayName) -> Result<String, AllocError>
     format!(in alloc; "{network}.{station}.{location}.{channel}")
 }
 
-/// Appends a number in so many digits, or more if it needs them.
-fn push_padded(text: &mut String, n: u16, width: usize) -> Result<(), AllocError>
-    ensures { OnOk result (string_bytes text.new ≡ string_bytes text.old ++ padded_decimal width n) }
-{
-    let mut buffer = Buffer::new();
-    let digits = buffer.format(n);
-    for place in digits.len()..width {
-        text.push('0')?;
-    }
-    text.push_str(digits)?;
-    Ok(())
-}
-
 /// YEAR,DAY
 fn day_text(alloc: Global, name: &DayName) -> Result<String, AllocError>
     ensures { IfOk result (λ text. string_bytes text ≡ day_text name.now) }
 {
     let mut text = String::new(alloc);
-    push_padded(&mut text, name.year, 4)?;
+    push_padded(&mut text, u32::from(name.year), 4)?;
     text.push(',')?;
-    push_padded(&mut text, name.day, 3)?;
+    push_padded(&mut text, u32::from(name.day), 3)?;
     Ok(text)
 }
 

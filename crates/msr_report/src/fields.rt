@@ -52,7 +52,7 @@ pub(crate) fn push_signed(text: &mut String, n: i32) -> Result<(), AllocError>
 }
 
 /// Appends a number in so many digits, or more if it needs them.
-pub(crate) fn push_padded(text: &mut String, n: u32, width: usize) -> Result<(), AllocError>
+pub fn push_padded(text: &mut String, n: u32, width: usize) -> Result<(), AllocError>
     ensures { OnOk result (string_bytes text.new ≡ string_bytes text.old ++ padded_decimal width n) }
 {
     let mut buffer = Buffer::new();
@@ -78,8 +78,8 @@ fn push_byte(text: &mut String, byte: u8) -> Result<(), AllocError>
     }
 }
 
-/// Appends a field of a name in its full width.
-fn push_field(text: &mut String, field: &[u8]) -> Result<(), AllocError>
+/// Appends bytes of a name: letters and digits as they are, a space as `_`, any other as `%` and two hexadecimal digits.
+pub fn push_field(text: &mut String, field: &[u8]) -> Result<(), AllocError>
     ensures { OnOk result (string_bytes text.new ≡ string_bytes text.old ++ field_text field.now) }
 {
     for byte in field {
