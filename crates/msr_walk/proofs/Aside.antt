@@ -1,5 +1,5 @@
 -- Folders that stand apart, and the names within them.
-use Rattle.std.proofs.Common.{◌≡◌, ◌⊎◌, inl, inr, ⊎_elim, ℕ, [], ◌∷◌, ◌++◌, refl, sym, ◌∙◌, ap, subst, append_assoc}
+use Rattle.std.proofs.Common.{◌≡◌, inl, inr, ⊎_elim, ℕ, [], ◌∷◌, ◌++◌, refl, sym, ◌∙◌, ap, subst, append_assoc}
 use Rattle.msr_options.specs.Tasks.{Overlap}
 use Rattle.msr_tree.specs.Steps.{Path}
 use Rattle.msr_folders.specs.Entries.{StandsWithin}

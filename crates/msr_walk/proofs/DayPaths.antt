@@ -1,5 +1,5 @@
 -- The names of a day are within the folders of records and reports.
-use Rattle.std.proofs.Common.{◌≡◌, ◌+◌, ◌≤◌, ℕ, [], ◌∷◌, ◌++◌, refl, ap, arith, length, length-append, codes}
+use Rattle.std.proofs.Common.{◌≡◌, ◌≤◌, ℕ, [], ◌∷◌, ◌++◌, refl, ap, arith, length, length-append, codes}
 use Rattle.std.specs.Fmt.{decimal}
 use Rattle.msr_sds.specs.SdsPath.{SdsPath, ReadsAsDay, path_of}
 use Rattle.msr_tree.specs.Steps.{Path}

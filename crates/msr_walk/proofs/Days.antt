@@ -36,7 +36,7 @@ use Rattle.msr_walk.specs.Handling.{AreNamesWithin, AreWithin, IsSameBut, IsUncl
 use Rattle.msr_outcomes.specs.Outcomes.{IsOutcomeOfDay, of_day}
 use Rattle.msr_walk.specs.Told.{ClaimsWithin, HandlesDay, HaveNames, IsDayTold, IsToldThere, SweepsWithin, TellsDay, ToldBetween, WorksWithin}
 use Rattle.msr_outcomes.specs.declared.outcome.Outcome.{Outcome}
-use Rattle.msr_outcomes.specs.declared.outcome.Outcome.TheVariants.{Done, Refused, Same, Young}
+use Rattle.msr_outcomes.specs.declared.outcome.Outcome.TheVariants.{Refused, Young}
 
 -- who looks changes nothing
 pub looks_work : (out reports : Path) (names : DayNames) (asked : DayOptions) (result : Result (Option Repacked) AllocError) (old new : List Step)

@@ -1,5 +1,5 @@
 -- What is done within two folders.
-use Rattle.std.proofs.Common.{ℕ, zero, suc, ◌<◌, arith, length, get_or, ◌≡◌, ◌⊎◌, inl, inr, ⊎_elim, false, List, [], ◌∷◌, ◌++◌, refl, sym, ◌∙◌, ap, subst, map, Result, Ok, Err}
+use Rattle.std.proofs.Common.{ℕ, zero, suc, ◌<◌, arith, length, get_or, ◌≡◌, inl, inr, ⊎_elim, false, List, [], ◌∷◌, ◌++◌, refl, sym, ◌∙◌, ap, subst, map, Result, Ok, Err}
 use Rattle.std.proofs.lemmas.Bool.{cases_Bool}
 use Rattle.std.proofs.lemmas.Slice.Eq.{bytes_eq-Decides}
 use Rattle.std.specs.List.{AllByRecursion}

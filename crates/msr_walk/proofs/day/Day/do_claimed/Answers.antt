@@ -1,4 +1,4 @@
-use Rattle.std.proofs.Common.{◌≡◌, rules, Ok, Err}
+use Rattle.std.proofs.Common.{◌≡◌, rules, Err}
 use Rattle.std.proofs.lemmas.Result.{err_from_is_err_and}
 use Rattle.msr_walk.proofs.Days.{does_named, does_work, handles_done, handles_works}
 use Rattle.msr_walk.proofs.Working.{goes_works_none}
