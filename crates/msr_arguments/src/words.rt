@@ -14,8 +14,7 @@ use clap::error::ErrorKind;
 use msr_kinds::{Kinds, Length};
 use msr_options::{
     Archiving, Checking, Comparing, DayOptions, Ending, Feeding, Folders, Known, ListForm, Listing,
-    Names,
-    NoTask, Options, Repacking, Replacing, Task, Telling, Verb, Verifying, overlap,
+    Names, NoTask, Options, Repacking, Replacing, Task, Telling, Verb, Verifying, overlap,
 };
 use msr_sds::levels_below;
 use std::alloc::{AllocError, Global};

@@ -45,28 +45,8 @@ pub astray_told : (names : Names) (report : Report) (text : List ℕ) (found : D
 astray_told (Of name) report text found reads is = record { name = name; text = text; report = report; read = reads; astray = is }
 astray_told names report text found reads is = absurd cc
 
--- what is told of a day whose report is at fault says that some files have it
-pub cut_told : (text : List ℕ) (why : ReportFault) → ReadsReport text (Err why) → HasDayAnswer (Err (verify_fault_of_report why))
-cut_told text (report_stop.Line line) reads = record { file = []; records = []; text = text; answers = reads }
-cut_told text report_stop.Read reads = record { file = []; records = []; text = text; answers = tt }
-cut_told text report_stop.Memory reads = record { file = []; records = []; text = text; answers = tt }
-
 -- A report is read again.
 module _ (names : Names) (report : Path) (judgement : Judgement) where
-  pub segments_unopened : {R : Type 0} (device : R → Device) (why : Refusal) (before after : List Step → Type 0)
-      → Goes before after (OpensFile report ReportUnopened device (Err (unjudged.Refused why))) → Goes before after (JudgesSegments names report judgement (Ok (Refused why)))
-  segments_unopened device why before after goes = goes_so _ _ before after (λ old new went is. record {
-    looks = is.0;
-    says = subst (λ (r : Refusal). IsToldAgain names report judgement (Refused r) old new) (sym is.1) is.2;
-  }) goes
-
-  pub segments_stopped : {R : Type 0} (device : R → Device) (fault : DeviceFault) (before after : List Step → Type 0)
-      → Goes before after (OpensFile report ReportUnopened device (Err unjudged.Memory)) → Goes before after (JudgesSegments names report judgement (Err fault))
-  segments_stopped device fault before after goes = goes_so _ _ before after (λ old new went same. record {
-    looks = subst (λ l. OnlyLooks old l) (sym same) (looks_none old);
-    says = tt;
-  }) goes
-
   -- what a source has that was opened says what is told
   segments_by : {R : Type 0} (device : R → Device) (reader : R) (text : List ℕ) (told : Judgement) (before after : List Step → Type 0) → HasLeft (device reader) text
       → ((old new : List Step) → seen old report ≡ Some text → IsToldAgain names report judgement told old new)
