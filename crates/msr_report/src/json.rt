@@ -95,12 +95,7 @@ fn push_iso_date(text: &mut String, time: BTime, date: Date) -> Result<(), Alloc
 }
 
 /// Appends a time of that date, and the microseconds below its fraction.
-fn push_iso_time(
-    text: &mut String,
-    time: BTime,
-    date: Date,
-    micros: u8,
-) -> Result<(), AllocError>
+fn push_iso_time(text: &mut String, time: BTime, date: Date, micros: u8) -> Result<(), AllocError>
     requires { time.fract ≤ 9999 }
     ensures { OnOk result (string_bytes text.new ≡ string_bytes text.old ++ iso_text time date micros) }
 {
@@ -148,7 +143,8 @@ fn push_rate_and_flags(text: &mut String, key: &Key) -> Result<(), AllocError>
 {
     let (factor, multiplier) = (key.rate.factor(), key.rate.multiplier());
     let (activity, clock, data_quality) = (key.activity, key.clock, key.data_quality);
-    write!(text,
+    write!(
+        text,
         ",\"rate_factor\":{factor},\"rate_multiplier\":{multiplier},\"activity\":{activity},\"clock\":{clock},\"data_quality\":{data_quality}"
     )
 }
