@@ -445,11 +445,11 @@ impl Tree for MemoryTree {
     }
 
     fn list(&mut self, folder: &str) -> Result<Vec<String>, TreeFault> {
-        if has_folder(self.deeds.as_slice(), folder) && self.next_ending().is_none() {
-            return Ok(names_in(self.alloc, self.deeds.as_slice(), folder)?);
-        }
         let unlisted = Deed::Unlisted(self.own(folder)?);
-        Err(self.refuse_after(unlisted))
+        if !has_folder(self.deeds.as_slice(), folder) || self.next_ending().is_some() {
+            return Err(self.refuse_after(unlisted));
+        }
+        Ok(names_in(self.alloc, self.deeds.as_slice(), folder)?)
     }
 
     fn kind(&self, path: &str) -> FileKind {
@@ -504,11 +504,12 @@ impl Tree for MemoryTree {
         if writer.path.as_str() != path {
             return Err(self.refuse());
         }
-        let own = self.own(path)?;
-        let stored = Deed::FileStored(self.own(path)?);
-        let made = Deed::Made(own, writer.into_bytes());
+        let made = Deed::Made(self.own(path)?, writer.into_bytes());
         match self.next_ending() {
-            None => self.note_both(made, stored),
+            None => {
+                let stored = Deed::FileStored(self.own(path)?);
+                self.note_both(made, stored)
+            }
             Some(Ending::Nothing) => Err(self.refuse()),
             Some(Ending::Part | Ending::All) => Err(self.refuse_after(made)),
         }
