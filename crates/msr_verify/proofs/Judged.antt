@@ -1,5 +1,5 @@
 -- What the three files of a day show, put together from what was read of each.
-use Rattle.std.proofs.Common.{◌↔◌, ℕ, Bool, false, List, Option, None, Some, Result, Ok, Err, IsErrOf, ap, refl}
+use Rattle.std.proofs.Common.{◌↔◌, ℕ, false, List, Option, None, Some, Result, Ok, Err, IsErrOf, ap, refl}
 use Rattle.msr_devices.specs.Device.{Device, HasLeft}
 use Rattle.msr_devices.proofs.Chaining.{left_of}
 use Rattle.msr_compare.specs.declared.comparison.Comparison.{Comparison}

@@ -1,5 +1,5 @@
 -- Of a day of which it may be asked that its segments belong to it.
-use Rattle.std.proofs.Common.{◌≡◌, ◌<◌, ◌⊎◌, inl, inr, ℕ, true, false, List, [], Option, None, Some, refl, sym, ◌∙◌, ap, subst, Result, Ok, Err, IfOk}
+use Rattle.std.proofs.Common.{◌≡◌, ◌⊎◌, inl, inr, ℕ, true, false, List, None, Some, refl, sym, subst, Result, Ok, Err, IfOk}
 use Rattle.msr_belonging.specs.Belonging.{IsFoundAsAsked, told_segments}
 use Rattle.msr_devices.specs.Device.{Device, HasLeft}
 use Rattle.msr_devices.specs.declared.fault.DeviceFault.{DeviceFault}
@@ -15,19 +15,17 @@ use Rattle.msr_report_reader.specs.declared.fault.ReportFault.TheVariants as rep
 use Rattle.msr_tree.proofs.Reading.{look_reads, looks_none, looks_then, reads_none}
 use Rattle.msr_tree.specs.Calls.{Goes}
 use Rattle.msr_tree.specs.Reads.{OnlyLooks}
-use Rattle.msr_tree.specs.Steps.{Path, Step, failures, seen}
+use Rattle.msr_tree.specs.Steps.{Path, Step, seen}
 use Rattle.msr_verify.proofs.OpeningLemmas.{left_is}
 use Rattle.msr_verify.proofs.TellingThere.{again_there}
 use Rattle.msr_verify.specs.Day.{verify_fault_of_report}
-use Rattle.msr_verify.specs.Entries.{HasAstray, HasDayAnswer}
+use Rattle.msr_verify.specs.Entries.{HasAstray}
 use Rattle.msr_verify.specs.Files.{DayPlaces, IsJudgementThere, IsNamedThere, JudgesDay, JudgesNamed, TellsSegments, asks_again}
 use Rattle.msr_verify.specs.Opening.{IsReportCut, IsToldAgain, JudgesSegments, OpensFile}
-use Rattle.msr_verify.specs.declared.day.Unjudged.TheVariants as unjudged
 use Rattle.msr_verify.specs.declared.judging.VerifyFault.{VerifyFault}
 use Rattle.msr_verify.specs.declared.judging.VerifyFault.TheVariants.{File, Records, ReportLine, ReportMemory, ReportRead}
 use Rattle.msr_verify.specs.declared.judgement.Judgement.{Judgement}
 use Rattle.msr_verify.specs.declared.judgement.Judgement.TheVariants.{Differs, InPlace, Known, KnownMissing, Misplaced, Missing, NotShown, Orphan, Refused, Skipped, Verified}
-use Rattle.msr_verify.specs.declared.judgement.Refusal.{Refusal}
 use Rattle.msr_verify.specs.declared.judgement.Refusal.TheVariants.{Day, ReportUnopened}
 
 -- verified, or in place

@@ -1,6 +1,6 @@
 use Rattle.std.proofs.Common.{Bool, true, false, [], Result, Ok, Err}
 use Rattle.msr_input.specs.declared.fault.ReadFault.TheVariants as stop
-use Rattle.msr_verify.specs.Day.{AloneAnswers, IsCut, VerifiesAlone}
+use Rattle.msr_verify.specs.Day.{IsCut, VerifiesAlone}
 use Rattle.msr_verify.specs.Entries.{HasDayAnswer, IsJudgementOfDay, judgement_alone}
 use Rattle.msr_verify.specs.Opening.{places_at}
 use Rattle.msr_verify.specs.declared.judging.VerifyFault.{VerifyFault}
