@@ -15,7 +15,7 @@ use Rattle.msr_tree.specs.declared.tree.TreeFault.{TreeFault}
 use Rattle.msr_tree.specs.declared.tree.TreeFault.TheVariants as call
 use Rattle.msr_making.specs.Day.{CountAnswers, HasAnswer, IsDayOutcome, IsDone, IsReadOrMemory, IsRepackedDay, PlacedAnswers, RepacksDay, RepacksPlaced, VerifiedAnswers}
 use Rattle.msr_making.specs.Ending.{IsRepackedAs, NamedAs, WasHeld}
-use Rattle.msr_making.specs.Shrinking.{IsStopOfReading, counts_of}
+use Rattle.msr_making.specs.Shrinking.{IsStopOfReading, counts_repacked}
 use Rattle.msr_making.specs.Verifying.{WasVerifiedAs}
 use Rattle.msr_making.specs.Writing.{IsFit, RepackedOf, WasRepacked}
 use Rattle.msr_making.specs.declared.answer.DayFault.{DayFault}
@@ -145,13 +145,13 @@ untold_as asked repacked (Refused (Tool why)) does is =
 untold_as asked repacked (Refused other) does is = absurd is
 untold_as asked repacked Memory does is = tt
 
-pub has_answer : (asked : DayOptions) (repacked : Repacked) (written : Result Repacked Stop) → counts_of written ≡ Some repacked → WasRepacked asked written → HasAnswer asked.options (Ok repacked)
+pub has_answer : (asked : DayOptions) (repacked : Repacked) (written : Result Repacked Stop) → counts_repacked written ≡ Some repacked → WasRepacked asked written → HasAnswer asked.options (Ok repacked)
 has_answer asked repacked (Ok given) of was = let same : given ≡ repacked = cc in subst (λ (r : Repacked). HasAnswer asked.options (Ok r)) same was.answer
 has_answer asked repacked (Err (Refused (Larger given))) of was = let same : given ≡ repacked = cc in subst (λ (r : Repacked). HasAnswer asked.options (Ok r)) same was.answer
 has_answer asked repacked (Err (Refused why)) of was = absurd cc
 has_answer asked repacked (Err Memory) of was = absurd cc
 
-pub unread_as : (asked : DayOptions) (repacked : Repacked) (written : Result Repacked Stop) (stop : Stop) → counts_of written ≡ Some repacked → IsStopOfReading stop → WasRepacked asked written → IsRepackedAs asked (Err stop)
+pub unread_as : (asked : DayOptions) (repacked : Repacked) (written : Result Repacked Stop) (stop : Stop) → counts_repacked written ≡ Some repacked → IsStopOfReading stop → WasRepacked asked written → IsRepackedAs asked (Err stop)
 unread_as asked repacked written stop of is was = untold_as asked repacked stop (has_answer asked repacked written of was) is
 
 -- what was not verified

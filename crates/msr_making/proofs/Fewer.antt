@@ -19,11 +19,11 @@ use Rattle.msr_tree.specs.Steps.{File, Path, Step, now, seen}
 use Rattle.msr_tree.specs.declared.facts.Facts.{Facts}
 use Rattle.msr_tree.proofs.Acting.{giving, goes_as}
 use Rattle.msr_tree.proofs.Filing.{changes_none}
-use Rattle.msr_making.specs.Day.{samples_in}
+use Rattle.msr_making.specs.Day.{samples_of_lines}
 use Rattle.msr_making.specs.Looking.{IsDayLook, IsIrregular, IsRegular, IsSightAt}
 use Rattle.msr_making.specs.Parts.{IsUnopened, called_told}
 use Rattle.msr_making.specs.Places.{DayPaths, paths_of}
-use Rattle.msr_making.specs.Shrinking.{AsksForLeft, HeldAgainst, HeldFor, HoldsAgainst, IsNoFewer, IsStopOfReading, IsToldLeft, IsUntold, ReadsSamples, TellsSamples, counts_of}
+use Rattle.msr_making.specs.Shrinking.{AsksForLeft, HeldAgainst, HeldFor, HoldsAgainst, IsNoFewer, IsStopOfReading, IsToldLeft, IsSamplesUntold, ReadsSamples, TellsSamples, counts_repacked}
 use Rattle.msr_making.specs.Told.{LeavesSamples}
 use Rattle.msr_making.specs.Verifying.{OpensAt}
 use Rattle.msr_making.specs.declared.answer.DayFault.TheVariants.{CannotOpen, Shrunk, Tool}
@@ -40,9 +40,9 @@ samples_of line = line.samples
 
 -- the samples of the first lines and of the next
 pub samples_next : (lines : List SegmentLine) (i : ℕ) (line : SegmentLine) → i < length lines
-    → line ≡ get_or lines i line → samples_in (take (i + 1) lines) ≡ samples_in (take i lines) + line.samples
+    → line ≡ get_or lines i line → samples_of_lines (take (i + 1) lines) ≡ samples_of_lines (take i lines) + line.samples
 samples_next lines i line within item =
-    ap samples_in (take_more lines i line within ∙ ap (λ (x : SegmentLine). take i lines ++ x ∷ []) (sym item))
+    ap samples_of_lines (take_more lines i line within ∙ ap (λ (x : SegmentLine). take i lines ++ x ∷ []) (sym item))
     ∙ sum_by_push samples_of (take i lines) line
 
 -- a sum that stops at a bound can stop on its way
@@ -50,7 +50,7 @@ pub saturated_more : (n more : ℕ) → saturated (saturated n + more) ≡ satur
 saturated_more n more = omega arith
 
 -- a report's lines and its content have the same samples
-sum_content : (lines : List SegmentLine) → sum_by (λ (line : ContentLine). line.samples) (map content_line lines) ≡ samples_in lines
+sum_content : (lines : List SegmentLine) → sum_by (λ (line : ContentLine). line.samples) (map content_line lines) ≡ samples_of_lines lines
 sum_content [] = refl
 sum_content (line ∷ lines) =
     sum_by-cons (λ (c : ContentLine). c.samples) (content_line line) (map content_line lines)
@@ -58,7 +58,7 @@ sum_content (line ∷ lines) =
 
 -- a text tells one number of samples
 one_number : (text : List ℕ) (report other : Report) → IsReadFrom report text → IsReadFrom other text
-    → samples_in other.segments.items ≡ samples_in report.segments.items
+    → samples_of_lines other.segments.items ≡ samples_of_lines report.segments.items
 one_number text report other reads read =
     sym (sum_content other.segments.items)
     ∙ ap (λ (c : Content). sum_by (λ (line : ContentLine). line.samples) c.segments) (one_report other report text read.is_content reads.is_content read.is_text reads.is_text)
@@ -177,7 +177,7 @@ module _ (files : DayFiles) (look : DayLook) (asked : DayOptions) where
 -- what is held against that
 module _ (files : DayFiles) (look : DayLook) (asked : DayOptions) where
   -- of what was not written nothing is asked
-  pub held_unwritten : (written : Result Repacked Stop) (one : List Step → Type 0) → counts_of written ≡ None → Goes one one (HoldsAgainst files look asked written written)
+  pub held_unwritten : (written : Result Repacked Stop) (one : List Step → Type 0) → counts_repacked written ≡ None → Goes one one (HoldsAgainst files look asked written written)
   held_unwritten written one none = record {
     from = λ new went. (
       new,
@@ -189,24 +189,24 @@ module _ (files : DayFiles) (look : DayLook) (asked : DayOptions) where
     );
   }
 
-  held_as : (repacked : Repacked) (written result : Result Repacked Stop) (paths : DayPaths) (old new : List Step) → counts_of written ≡ Some repacked
-      → HeldFor paths look asked repacked written result old new → HeldAgainst paths look asked (counts_of written) written result old new
+  held_as : (repacked : Repacked) (written result : Result Repacked Stop) (paths : DayPaths) (old new : List Step) → counts_repacked written ≡ Some repacked
+      → HeldFor paths look asked repacked written result old new → HeldAgainst paths look asked (counts_repacked written) written result old new
   held_as repacked written result paths old new case held = subst (λ (c : Option Repacked). HeldAgainst paths look asked c written result old new) (sym case) held
 
   -- it could not be told what is left
-  pub held_untold : (repacked : Repacked) (written : Result Repacked Stop) (stop : Stop) (one two : List Step → Type 0) → counts_of written ≡ Some repacked → IsStopOfReading stop
+  pub held_untold : (repacked : Repacked) (written : Result Repacked Stop) (stop : Stop) (one two : List Step → Type 0) → counts_repacked written ≡ Some repacked → IsStopOfReading stop
       → Goes one two (AsksForLeft files look asked (Err stop)) → Goes one two (HoldsAgainst files look asked written (Err stop))
   held_untold repacked written stop one two case is goes = goes_as _ _ one two
       (λ p q asks. record { changes = asks.changes; said = λ input looked. held_as repacked written (Err stop) (paths_of input files) p q case (inr (inr (why stop is (paths_of input files) p q (asks.said input looked)))) }) goes
     where
-      why : (s : Stop) → IsStopOfReading s → (paths : DayPaths) (p q : List Step) → IsToldLeft paths look asked (Err s) p q → IsUntold (Err s) p q
+      why : (s : Stop) → IsStopOfReading s → (paths : DayPaths) (p q : List Step) → IsToldLeft paths look asked (Err s) p q → IsSamplesUntold (Err s) p q
       why (Refused (CannotOpen u)) ok paths p q failed = record { stop = Refused (CannotOpen u); told = refl; why = inr (inr (u, refl, failed)) }
       why (Refused (Tool fault)) ok paths p q failed = record { stop = Refused (Tool fault); told = refl; why = inr (inl (fault, refl, ok)) }
       why (Refused other) ok paths p q failed = absurd ok
       why Memory ok paths p q failed = record { stop = Memory; told = refl; why = inl refl }
 
   -- it has fewer samples
-  pub held_fewer : (repacked : Repacked) (written : Result Repacked Stop) (left : Option ℕ) (was : ℕ) (one two : List Step → Type 0) → counts_of written ≡ Some repacked → IsTrue asked.keep_old → left ≡ Some was → repacked.samples < was
+  pub held_fewer : (repacked : Repacked) (written : Result Repacked Stop) (left : Option ℕ) (was : ℕ) (one two : List Step → Type 0) → counts_repacked written ≡ Some repacked → IsTrue asked.keep_old → left ≡ Some was → repacked.samples < was
       → Goes one two (AsksForLeft files look asked (Ok left)) → Goes one two (HoldsAgainst files look asked written (Err (Refused (Shrunk (record { was = was; is = repacked.samples })))))
   held_fewer repacked written left was one two case keep is fewer goes = goes_as _ _ one two
       (λ p q asks. record {
@@ -226,7 +226,7 @@ module _ (files : DayFiles) (look : DayLook) (asked : DayOptions) where
   no_fewer_by repacked paths None p q least told = λ keep known_records known_report was left. absurd (told keep known_records known_report was left)
 
   -- it has not
-  pub held_well : (repacked : Repacked) (written : Result Repacked Stop) (left : Option ℕ) (one two : List Step → Type 0) → counts_of written ≡ Some repacked → ((was : ℕ) → left ≡ Some was → was ≤ repacked.samples)
+  pub held_well : (repacked : Repacked) (written : Result Repacked Stop) (left : Option ℕ) (one two : List Step → Type 0) → counts_repacked written ≡ Some repacked → ((was : ℕ) → left ≡ Some was → was ≤ repacked.samples)
       → Goes one two (AsksForLeft files look asked (Ok left)) → Goes one two (HoldsAgainst files look asked written written)
   held_well repacked written left one two case least goes = goes_as _ _ one two
       (λ p q asks. record {

@@ -14,7 +14,7 @@ use Rattle.msr_making.specs.Ending.{HeldAs, PreparedAs, WritesHeld}
 use Rattle.msr_making.specs.Looking.{IsDayLook, IsLookedAt, IsSightAt}
 use Rattle.msr_making.specs.Parts.{part_paths}
 use Rattle.msr_making.specs.Places.{AreFileNames, DayPaths, paths_of}
-use Rattle.msr_making.specs.Shrinking.{HeldAgainst, HeldFor, HoldsAgainst, IsFewer, IsNoFewer, IsUntold, counts_of}
+use Rattle.msr_making.specs.Shrinking.{HeldAgainst, HeldFor, HoldsAgainst, IsFewer, IsNoFewer, IsSamplesUntold, counts_repacked}
 use Rattle.msr_making.specs.Told.{IsRepackOf, IsUnshrunk, LeavesSamples}
 use Rattle.msr_making.specs.Writing.{IfSeen, IsWrittenTo, WritesDay, WrittenAs}
 use Rattle.msr_making.specs.declared.answer.DayFault.TheVariants.{CannotOpen, Larger, Misplaced, Tool}
@@ -101,7 +101,7 @@ module _ (input : Path) (look : DayLook) (files : DayFiles) (asked : DayOptions)
       })
 
       -- or that could not be told
-      untold_there : (repacked : Repacked) (records text : List ℕ) (result : Result Repacked Stop) → IsRepackOf asked paths repacked records text old → IsUntold result mid new → HeldAs input files asked result old new
+      untold_there : (repacked : Repacked) (records text : List ℕ) (result : Result Repacked Stop) → IsRepackOf asked paths repacked records text old → IsSamplesUntold result mid new → HeldAs input files asked result old new
       untold_there repacked records text result repack untold = subst (λ (r : Result Repacked Stop). HeldAs input files asked r old new) (sym untold.told)
           (⊎_elim
           (λ e. subst (λ (s : Stop). PreparedAs input files asked (Err s) old new) (sym e) tt)
@@ -125,7 +125,7 @@ module _ (input : Path) (look : DayLook) (files : DayFiles) (asked : DayOptions)
           held
 
       held_said : (written result : Result Repacked Stop) → ChangesFiles [] mid new → WrittenAs (IfSeen input old) ((look.input ≡ Unknown) ⊎ (failures old < failures mid)) files asked (λ bytes. length bytes) written mid
-          → HeldAgainst paths look asked (counts_of written) written result mid new → HeldAs input files asked result old new
+          → HeldAgainst paths look asked (counts_repacked written) written result mid new → HeldAs input files asked result old new
       held_said (Ok repacked) result still wrote held = held_of repacked wrote.2.records wrote.2.text (Ok repacked) result
           (record { input = wrote.0; has_input = wrote.1; answers = wrote.2.fit.counted; belong = wrote.2.fit.belong; bytes_read = wrote.2.fit.read })
           (λ same unshrunk. subst (λ (r : Result Repacked Stop). HeldAs input files asked r old new) (sym same) (record { wrote = (wrote.0, wrote.1, later); unshrunk = unshrunk }))

@@ -9,7 +9,7 @@ use Rattle.msr_tree.specs.Steps.{Path, Step}
 use Rattle.msr_making.specs.Day.{IsKept}
 use Rattle.msr_making.specs.Ending.{SaysFound, SeeksDay}
 use Rattle.msr_making.specs.Keeping.{AsksForKept}
-use Rattle.msr_making.specs.Looking.{Asks, AsksForShared, FindsBeside, FindsDay, HasUnknown, IsDayLook, IsKnown, SaysDay, SeesAt}
+use Rattle.msr_making.specs.Looking.{Asks, AsksForShared, FindsBeside, FindsDay, HasUnknown, IsDayLook, IsSightKnown, SaysDay, SeesAt}
 use Rattle.msr_making.specs.Making.{LooksForSame}
 use Rattle.msr_making.specs.Places.{DayPaths}
 use Rattle.msr_making.specs.Told.{IsLeftFor, IsLeftThere, IsSameThere}
@@ -55,7 +55,7 @@ module _ (paths : DayPaths) (asked : DayOptions) (look : DayLook) where
       one_before p q x path is = (is.0, sym (now_kept [] paths.input p q tt x) ∙ is.1, sym (now_kept [] path p q tt x) ∙ is.2)
 
   -- it is to be made
-  pub found_open : {A : Type 0} (Second : (old new : List Step) → A → Type 0) (second : Result A AllocError) (one mid two : List Step → Type 0) → IsKnown look → Goes one mid (FindsDay paths (Ok look)) → Goes mid two (Asks Second second)
+  pub found_open : {A : Type 0} (Second : (old new : List Step) → A → Type 0) (second : Result A AllocError) (one mid two : List Step → Type 0) → IsSightKnown look → Goes one mid (FindsDay paths (Ok look)) → Goes mid two (Asks Second second)
       → Goes one two (SeeksDay paths asked (Ok (Open look)))
   found_open Second second one mid two known first last = asks_then _ Second (SaysFound paths asked) (given look) second (given (Open look)) one mid two
       (λ p q r x y said other. (said_then paths look p q r y said, known)) first last

@@ -37,8 +37,8 @@ abbrev pub HasBytesWritten : Choice → Repacked → Type 0
 HasBytesWritten choice repacked = repacked.bytes_written ≡ saturated (repacked.written * record_size choice)
 
 -- how many samples the segments of these lines have
-abbrev pub samples_in : List SegmentLine → ℕ
-samples_in lines = sum_by (λ line. line.samples) lines
+abbrev pub samples_of_lines : List SegmentLine → ℕ
+samples_of_lines lines = sum_by (λ line. line.samples) lines
 
 -- The input was repacked, what was told is the text of its report, and the counts are those of this report: the
 -- records that were read, and those that were written, and their bytes, and the samples. How many bytes were read is what
@@ -49,7 +49,7 @@ pub record IsCounted (choice : Choice) (input records told : List ℕ) (repacked
   pub read : repacked.read ≡ report.counts.read
   pub written : repacked.written ≡ records_in report.segments.items
   pub bytes : HasBytesWritten choice repacked
-  pub samples : repacked.samples ≡ saturated (samples_in report.segments.items)
+  pub samples : repacked.samples ≡ saturated (samples_of_lines report.segments.items)
 
 -- what an answer says of the input, of the records that were written, and of the text of the report
 abbrev pub CountAnswers : Choice → (input written told : List ℕ) → Result Repacked ToolFault → Type 0
@@ -267,7 +267,7 @@ pub record IsReportKept (asked : DayOptions) (repacked : Repacked) : Type 0 wher
   pub read : repacked.read ≡ report.counts.read
   pub written : repacked.written ≡ records_in report.segments.items
   pub bytes : HasBytesWritten asked.options repacked
-  pub samples : repacked.samples ≡ saturated (samples_in report.segments.items)
+  pub samples : repacked.samples ≡ saturated (samples_of_lines report.segments.items)
 
 -- the same of the text that a source has
 pub record IsReportLeft (asked : DayOptions) (source : Device) (repacked : Repacked) : Type 0 where

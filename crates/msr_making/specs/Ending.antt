@@ -14,7 +14,7 @@ use Rattle.msr_naming.specs.Promise.{AreNamed, AreReady, HasOwn, HasReport, IsFr
 use Rattle.msr_naming.specs.declared.fallback.Naming.{Naming}
 use Rattle.msr_naming.specs.declared.files.DayFiles.{DayFiles}
 use Rattle.msr_making.specs.Day.{IsDayOutcome, IsDone, IsRepackedDay, IsVerifiedBy}
-use Rattle.msr_making.specs.Looking.{Asks, IsKnown, IsLookedAt, SaysDay}
+use Rattle.msr_making.specs.Looking.{Asks, IsSightKnown, IsLookedAt, SaysDay}
 use Rattle.msr_making.specs.Making.{AwaitsStamp, IsOwnOfFile}
 use Rattle.msr_making.specs.Parts.{part_paths}
 use Rattle.msr_making.specs.Places.{AreFileNames, DayPaths, ShowsAllLeft, paths_of}
@@ -44,7 +44,7 @@ IsRepackedAs asked (Err Memory) = ⊤
 -- what was found of a day: what becomes of it, or what a look told
 abbrev pub SaysFound : DayPaths → DayOptions → (old new : List Step) → Found → Type 0
 SaysFound paths asked old new (Ended outcome) = IsOutcomeThere asked paths outcome old new
-SaysFound paths asked old new (Open look) = SaysDay paths old new look × IsKnown look
+SaysFound paths asked old new (Open look) = SaysDay paths old new look × IsSightKnown look
 
 abbrev pub SeeksDay : DayPaths → DayOptions → Result Found AllocError → (old new : List Step) → Type 0
 SeeksDay paths asked result old new = Asks (SaysFound paths asked) result old new

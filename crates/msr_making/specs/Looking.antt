@@ -48,14 +48,14 @@ abbrev pub HasUnknown : DayLook → Type 0
 HasUnknown look = (look.input ≡ Unknown) ⊎ ((look.records ≡ Unknown) ⊎ ((look.report ≡ Unknown) ⊎ (look.stamp ≡ Unknown)))
 
 -- What was told of the day's own file, and if that was found, of the records and the report.
-pub record IsKnown (look : DayLook) : Type 0 where
+pub record IsSightKnown (look : DayLook) : Type 0 where
   pub input : look.input ≡ Unknown → ⊥
   pub left : (facts : Facts) → look.input ≡ Found facts → (look.records ≡ Unknown → ⊥) × (look.report ≡ Unknown → ⊥)
 
 -- what is told of each name of a day that is to be made
 pub record IsLookedAt (paths : DayPaths) (look : DayLook) (past : List Step) : Type 0 where
   pub are : IsDayLook paths look past
-  pub known : IsKnown look
+  pub known : IsSightKnown look
 
 -- Something is asked, and no name is changed.
 pub record Asks {A : Type 0} (Said : (old new : List Step) → A → Type 0) (result : Result A AllocError) (old new : List Step) : Type 0 where

@@ -10,7 +10,7 @@ use Rattle.msr_report_reader.specs.Reading.{IsReadFrom}
 use Rattle.msr_tool.specs.declared.fault.ToolFault.{ToolFault}
 use Rattle.msr_tree.specs.Folders.{ChangesFiles}
 use Rattle.msr_tree.specs.Steps.{Path, Step, failures}
-use Rattle.msr_making.specs.Day.{IsReadOrMemory, samples_in}
+use Rattle.msr_making.specs.Day.{IsReadOrMemory, samples_of_lines}
 use Rattle.msr_making.specs.Looking.{IsDayLook}
 use Rattle.msr_making.specs.Places.{DayPaths, paths_of}
 use Rattle.msr_making.specs.Told.{LeavesSamples}
@@ -23,15 +23,15 @@ use Rattle.msr_making.specs.declared.looks.DayLook.{DayLook}
 use Rattle.msr_making.specs.declared.looks.Sight.TheVariants.{Unknown}
 
 -- reading the report failed, or memory was refused for it
-abbrev pub IsUnread : DayFault → Type 0
-IsUnread (Tool fault) = IsReadOrMemory fault
-IsUnread why = ⊥
+abbrev pub IsReportUnread : DayFault → Type 0
+IsReportUnread (Tool fault) = IsReadOrMemory fault
+IsReportUnread why = ⊥
 
 -- what is told of the report whose text this is, if it is that of one
 abbrev pub TellsSamples : List ℕ → Result (Option ℕ) Stop → Type 0
-TellsSamples text (Ok (Some samples)) = (report : Report) × IsReadFrom report text × (samples ≡ saturated (samples_in report.segments.items))
+TellsSamples text (Ok (Some samples)) = (report : Report) × IsReadFrom report text × (samples ≡ saturated (samples_of_lines report.segments.items))
 TellsSamples text (Ok None) = (report : Report) → ¬ (IsReadFrom report text)
-TellsSamples text (Err (Refused why)) = IsUnread why
+TellsSamples text (Err (Refused why)) = IsReportUnread why
 TellsSamples text (Err Memory) = ⊥
 
 -- the same of the text that a source has
@@ -43,7 +43,7 @@ pub record ReadsSamples (source : Device) (result : Result (Option ℕ) Stop) : 
 -- a call failed, or memory was refused
 abbrev pub IsStopOfReading : Stop → Type 0
 IsStopOfReading (Refused (CannotOpen unopened)) = ⊤
-IsStopOfReading (Refused why) = IsUnread why
+IsStopOfReading (Refused why) = IsReportUnread why
 IsStopOfReading Memory = ⊤
 
 -- what is told of the samples that an earlier walk left, if they are asked for
@@ -74,7 +74,7 @@ pub record IsFewer (paths : DayPaths) (asked : DayOptions) (repacked : Repacked)
   pub told : result ≡ Err (Refused (Shrunk (record { was = was; is = repacked.samples })))
 
 -- Or that could not be told.
-pub record IsUntold (result : Result Repacked Stop) (old new : List Step) : Type 0 where
+pub record IsSamplesUntold (result : Result Repacked Stop) (old new : List Step) : Type 0 where
   pub stop : Stop
   pub told : result ≡ Err stop
   pub why : (stop ≡ Memory) ⊎ (((fault : ToolFault) × (stop ≡ Refused (Tool fault)) × IsReadOrMemory fault) ⊎ ((unopened : Unopened) × (stop ≡ Refused (CannotOpen unopened)) × (failures old < failures new)))
@@ -82,13 +82,13 @@ pub record IsUntold (result : Result Repacked Stop) (old new : List Step) : Type
 -- what a day with these counts is held against
 abbrev pub HeldFor : DayPaths → DayLook → DayOptions → Repacked → (written result : Result Repacked Stop) → (old new : List Step) → Type 0
 HeldFor paths look asked repacked written result old new =
-    ((result ≡ written) × IsNoFewer paths look asked repacked old) ⊎ (IsFewer paths asked repacked result old ⊎ IsUntold result old new)
+    ((result ≡ written) × IsNoFewer paths look asked repacked old) ⊎ (IsFewer paths asked repacked result old ⊎ IsSamplesUntold result old new)
 
 -- the counts of a day that was repacked
-abbrev pub counts_of : Result Repacked Stop → Option Repacked
-counts_of (Ok repacked) = Some repacked
-counts_of (Err (Refused (Larger repacked))) = Some repacked
-counts_of (Err stop) = None
+abbrev pub counts_repacked : Result Repacked Stop → Option Repacked
+counts_repacked (Ok repacked) = Some repacked
+counts_repacked (Err (Refused (Larger repacked))) = Some repacked
+counts_repacked (Err stop) = None
 
 -- what was written of a day is told again, unless it has fewer samples
 abbrev pub HeldAgainst : DayPaths → DayLook → DayOptions → (counts : Option Repacked) → (written result : Result Repacked Stop) → (old new : List Step) → Type 0
@@ -97,4 +97,4 @@ HeldAgainst paths look asked None written result old new = result ≡ written
 
 pub record HoldsAgainst (files : DayFiles) (look : DayLook) (asked : DayOptions) (written result : Result Repacked Stop) (old new : List Step) : Type 0 where
   pub changes : ChangesFiles [] old new
-  pub said : (input : Path) → IsDayLook (paths_of input files) look old → HeldAgainst (paths_of input files) look asked (counts_of written) written result old new
+  pub said : (input : Path) → IsDayLook (paths_of input files) look old → HeldAgainst (paths_of input files) look asked (counts_repacked written) written result old new

@@ -10,7 +10,7 @@ use Rattle.msr_options.specs.declared.hint.Side.TheVariants.{Records, Report as 
 use Rattle.msr_report.specs.declared.report.Report.{Report}
 use Rattle.msr_report_reader.specs.Reading.{IsReadFrom}
 use Rattle.msr_tool.specs.declared.fault.ToolFault.{ToolFault}
-use Rattle.msr_making.specs.Day.{AsksForAge, CountAnswers, GotSmaller, IsKept, IsMisplaced, IsOtherData, IsVerifiedBy, ShowsWritten, samples_in}
+use Rattle.msr_making.specs.Day.{AsksForAge, CountAnswers, GotSmaller, IsKept, IsMisplaced, IsOtherData, IsVerifiedBy, ShowsWritten, samples_of_lines}
 use Rattle.msr_making.specs.Places.{DayPaths, IsOneOfMade, IsUnseen}
 use Rattle.msr_making.specs.Stamp.{stamp_text}
 use Rattle.msr_making.specs.declared.answer.DayFault.{DayFault}
@@ -37,7 +37,7 @@ pub record LeavesSamples (paths : DayPaths) (samples : ℕ) (past : List Step) :
   pub reads : IsReadFrom report text
   pub has_report : seen past paths.report ≡ Some text
   pub has_records : IsSome (seen past paths.records)
-  pub are : samples ≡ saturated (samples_in report.segments.items)
+  pub are : samples ≡ saturated (samples_of_lines report.segments.items)
 
 -- if what an earlier walk left is to stay, a day has no fewer samples than that
 abbrev pub IsUnshrunk : DayOptions → DayPaths → Repacked → List Step → Type 0

@@ -1,7 +1,7 @@
 //! What stands under the names of a day.
 ghost use Rattle.std.specs.Prelude.{◌≡◌, IfSome, None, false, true};
 ghost use Rattle.msr_tree.specs.Calls.{Goes};
-ghost use Rattle.msr_making.specs.Looking.{AreRegular, AsksForOne, AsksForShared, FindsBeside, FindsDay, HasUnknown, IsIrregular, IsKnown, IsRegular, IsUnfound, SeesAt};
+ghost use Rattle.msr_making.specs.Looking.{AreRegular, AsksForOne, AsksForShared, FindsBeside, FindsDay, HasUnknown, IsIrregular, IsSightKnown, IsRegular, IsUnfound, SeesAt};
 ghost use Rattle.msr_making.specs.Places.{paths_at};
 
 use crate::places::Places;
@@ -102,7 +102,7 @@ impl DayLook {
     /// Whether the tree did not tell what may be the day's own file, or what may be made of it.
     pub(crate) fn is_uncertain(&self) -> bool
         ensures unknown { result ≡ true → HasUnknown self.now }
-        ensures known { result ≡ false → IsKnown self.now }
+        ensures known { result ≡ false → IsSightKnown self.now }
     {
         match self.input {
             Sight::Unknown => true,

@@ -7,7 +7,7 @@ ghost use Rattle.msr_tree.specs.Reads.{OnlyLooks};
 ghost use Rattle.msr_options.specs.Choice.{record_size};
 ghost use Rattle.msr_report.specs.Proper.{IsProper, records_in};
 ghost use Rattle.msr_folders.specs.Totals.{saturated};
-ghost use Rattle.msr_making.specs.Day.{HasBytesWritten, IsReportLeft, RepacksDay, RepacksPlaced, samples_in, VerifiesRepack, told_of_report, told_of};
+ghost use Rattle.msr_making.specs.Day.{HasBytesWritten, IsReportLeft, RepacksDay, RepacksPlaced, samples_of_lines, VerifiesRepack, told_of_report, told_of};
 
 use crate::answer::{DayFault, Repacked};
 use msr_belonging::misplaced;
@@ -40,7 +40,7 @@ fn records_written(report: &Report) -> u64
 
 /// How many samples the segments of a report have, or the greatest number of 64 bits if they are more.
 pub(crate) fn samples_reported(report: &Report) -> u64
-    ensures { result ≡ saturated (samples_in report.now.segments.items) }
+    ensures { result ≡ saturated (samples_of_lines report.now.segments.items) }
 {
     let mut samples: u64 = 0;
     for line in &report.segments {
@@ -84,7 +84,7 @@ fn counted(report: &Report, bytes_read: u64, options: Options) -> Repacked
     ensures written { result.written ≡ records_in report.now.segments.items }
     ensures input { result.bytes_read ≡ bytes_read }
     ensures bytes { HasBytesWritten options result }
-    ensures samples { result.samples ≡ saturated (samples_in report.now.segments.items) }
+    ensures samples { result.samples ≡ saturated (samples_of_lines report.now.segments.items) }
 {
     let written = records_written(report);
     Repacked {

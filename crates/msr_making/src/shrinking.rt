@@ -3,7 +3,7 @@ ghost use Rattle.std.specs.Prelude.{◌≡◌, IfErr, IfOk, IfSome, IsTrue, Some
 ghost use Rattle.msr_devices.specs.Device.{CanCountCall};
 ghost use Rattle.msr_tree.specs.Calls.{Goes};
 ghost use Rattle.msr_making.specs.Ending.{WasHeld, WritesHeld};
-ghost use Rattle.msr_making.specs.Shrinking.{AsksForLeft, HoldsAgainst, IsStopOfReading, ReadsSamples, counts_of};
+ghost use Rattle.msr_making.specs.Shrinking.{AsksForLeft, HoldsAgainst, IsStopOfReading, ReadsSamples, counts_repacked};
 ghost use Rattle.msr_making.specs.Writing.{WasRepacked};
 
 use crate::answer::{DayFault, Repacked, Shrinkage, Stop};
@@ -71,7 +71,7 @@ fn held_for<T: Tree>(
     repacked: Repacked,
     written: Result<Repacked, Stop>,
 ) -> Result<Repacked, Stop>
-    requires { counts_of written ≡ Some repacked }
+    requires { counts_repacked written ≡ Some repacked }
     ensures told { WasRepacked asked.now written → WasHeld asked.now result }
     ensures goes { Goes (T.went tree.old) (T.went tree.new) (HoldsAgainst files.now look.now asked.now written result) }
 {
@@ -83,8 +83,8 @@ fn held_for<T: Tree>(
 }
 
 /// The counts of a day that was repacked.
-fn counts_of(written: Result<Repacked, Stop>) -> Option<Repacked>
-    ensures { result ≡ counts_of written }
+fn counts_repacked(written: Result<Repacked, Stop>) -> Option<Repacked>
+    ensures { result ≡ counts_repacked written }
 {
     match written {
         Ok(repacked) => Some(repacked),
@@ -105,7 +105,7 @@ fn held_against<T: Tree>(
     ensures told { WasRepacked asked.now written → WasHeld asked.now result }
     ensures goes { Goes (T.went tree.old) (T.went tree.new) (HoldsAgainst files.now look.now asked.now written result) }
 {
-    match counts_of(written) {
+    match counts_repacked(written) {
         Some(repacked) => held_for(tree, alloc, files, look, asked, repacked, written),
         None => written,
     }

@@ -20,7 +20,7 @@ use Rattle.msr_verdict.proofs.StoppedReading.{shown_readable}
 use Rattle.msr_input.proofs.OneReading.{readable_has_no_fault}
 use Rattle.msr_report_reader.proofs.OneContent.{no_fault, one_report}
 use Rattle.msr_tool.proofs.RepackedLeast.{shows_same}
-use Rattle.msr_verify.specs.Day.{AloneAnswers, DayAnswers, IsCut, IsShownLeast, VerifiesAlone, VerifiesDay, alone_of, finding_of, verify_fault_of_report}
+use Rattle.msr_verify.specs.Day.{AloneAnswers, DayAnswers, IsUnfinished, IsShownLeast, VerifiesAlone, VerifiesDay, alone_of, finding_of, verify_fault_of_report}
 use Rattle.msr_verify.specs.declared.judging.VerifyFault.{VerifyFault}
 use Rattle.msr_verify.specs.declared.judging.VerifyFault.TheVariants.{File, Records, ReportRead}
 
@@ -150,7 +150,7 @@ alone_unread file_at report_at text line left reads =
     let f = left_of file_at in
     record { own = f.0; text = text; left_file = f.1; left_report = left; answers = λ shown. no_fault shown.report text line shown.read reads }
 
-pub alone_cut : (file_at report_at : Device) (fault : VerifyFault) (text : List ℕ) → IsCut fault → HasLeft report_at text → VerifiesAlone file_at report_at (Err fault)
+pub alone_cut : (file_at report_at : Device) (fault : VerifyFault) (text : List ℕ) → IsUnfinished fault → HasLeft report_at text → VerifiesAlone file_at report_at (Err fault)
 alone_cut file_at report_at fault text cut left =
     let f = left_of file_at in
     record { own = f.0; text = text; left_file = f.1; left_report = left; answers = cut }

@@ -23,7 +23,7 @@ use Rattle.msr_tree.specs.Reads.{OnlyReads}
 use Rattle.msr_tree.specs.Steps.{Path, Step, failures, seen}
 use Rattle.msr_verify.specs.Entries.{IsVerifyTally, JudgedEntry}
 use Rattle.msr_verify.specs.Known.{IsJudgedEntry}
-use Rattle.msr_verify.specs.Files.{AnswerThere, DayPlaces, IsArchiveVerified, IsInPlace, IsJudgementThere, IsNamedThere, IsToldOfOut, IsToldOfRoot, TellsSegments, day_places, names_asked}
+use Rattle.msr_verify.specs.Files.{AnswerThere, DayPlaces, IsArchiveVerified, IsShownInPlace, IsJudgementThere, IsNamedThere, IsToldOfOut, IsToldOfRoot, TellsSegments, day_places, names_asked}
 use Rattle.msr_verify.specs.Lines.{IsToldLine}
 use Rattle.msr_verify.specs.Opening.{IsToldAgain}
 use Rattle.msr_verify.specs.Walk.{TellsArchive, TellsEntries, TellsVerified, VerifiesTree, judged_summary}
@@ -55,7 +55,7 @@ module _ (old from to new : List Step) (before : OnlyReads old from) (after : On
   no_longer : (path : Path) → is_there from path ≡ false → is_there old path ≡ false
   no_longer path none = sym (there_read old from before path) ∙ none
 
-  in_place_there : (places : DayPlaces) → IsInPlace places from → IsInPlace places old
+  in_place_there : (places : DayPlaces) → IsShownInPlace places from → IsShownInPlace places old
   in_place_there places is = record {
     file = is.file;
     text = is.text;
@@ -64,7 +64,7 @@ module _ (old from to new : List Step) (before : OnlyReads old from) (after : On
     shown = is.shown;
   }
 
-  in_place_later : (places : DayPlaces) → IsInPlace places old → IsInPlace places from
+  in_place_later : (places : DayPlaces) → IsShownInPlace places old → IsShownInPlace places from
   in_place_later places is = record {
     file = is.file;
     text = is.text;

@@ -18,7 +18,7 @@ use Rattle.msr_tree.specs.declared.kind.FileKind.TheVariants.{Folder, Gone, Othe
 use Rattle.msr_belonging.specs.Names.{day_name}
 use Rattle.msr_options.specs.Days.{names_for}
 use Rattle.msr_verify.specs.Entries.{IsJudgementOf, IsVerifyTally, JudgedEntry}
-use Rattle.msr_verify.specs.Known.{IsJudgedEntry, known_as}
+use Rattle.msr_verify.specs.Known.{IsJudgedEntry, judged_known_as}
 use Rattle.msr_verify.specs.Files.{IsToldOfOut, IsToldOfRoot, JudgesNamed, day_places, names_asked, other_judgement}
 use Rattle.msr_verify.specs.Opening.{MayHave}
 use Rattle.msr_options.specs.declared.task.Verifying.{Verifying}
@@ -55,20 +55,20 @@ other_is path Other fault none = none
 -- a day of the archive
 pub visited_day : (asked : Verifying) (root out_root reports path : Path) (kind : FileKind) (judgement : Judgement) (before after : List Step → Type 0) (out0 out : Device) (tally0 tally : VerifyTally)
     → (day : IsDay path) → Goes before after (JudgesNamed (names_for (day_name day.0) (names_asked asked.names)) (day_places root out_root reports path) (Ok judgement))
-    → TellsEntries asked (record { path = path; judgement = known_as asked.known path judgement } ∷ []) out0 out tally0 tally
+    → TellsEntries asked (record { path = path; judgement = judged_known_as asked.known path judgement } ∷ []) out0 out tally0 tally
     → TellsVisit (TellsEntries asked) (IsToldOfRoot asked.known (names_asked asked.names) root out_root reports) OnlyReads (Unit {0}) (Entry path kind) before after out0 out tally0 tally
 visited_day asked root out_root reports path kind judgement before after out0 out tally0 tally day goes told =
-    visited_by (TellsEntries asked) (IsToldOfRoot asked.known (names_asked asked.names) root out_root reports) (Entry path kind) (record { path = path; judgement = known_as asked.known path judgement } ∷ [])
+    visited_by (TellsEntries asked) (IsToldOfRoot asked.known (names_asked asked.names) root out_root reports) (Entry path kind) (record { path = path; judgement = judged_known_as asked.known path judgement } ∷ [])
     (JudgesNamed (names_for (day_name day.0) (names_asked asked.names)) (day_places root out_root reports path) (Ok judgement)) before after out0 out tally0 tally
     (λ old new is. (is.looks, (judgement, refl, record { day = λ one. (day.0, day.1, is.says); other = λ none. absurd (none day) }))) goes told
 
 -- what is no day
 pub visited_other : (asked : Verifying) (root out_root reports path : Path) (kind : FileKind) (fault : SdsFault) (before : List Step → Type 0) (out0 out : Device) (tally0 tally : VerifyTally)
     → ¬ (IsDay path) → IsNoDay path fault
-    → TellsEntries asked (record { path = path; judgement = known_as asked.known path (other_judgement kind fault) } ∷ []) out0 out tally0 tally
+    → TellsEntries asked (record { path = path; judgement = judged_known_as asked.known path (other_judgement kind fault) } ∷ []) out0 out tally0 tally
     → TellsVisit (TellsEntries asked) (IsToldOfRoot asked.known (names_asked asked.names) root out_root reports) OnlyReads (Unit {0}) (Entry path kind) before before out0 out tally0 tally
 visited_other asked root out_root reports path kind fault before out0 out tally0 tally none is told =
-    visited_still (TellsEntries asked) (IsToldOfRoot asked.known (names_asked asked.names) root out_root reports) (Entry path kind) (record { path = path; judgement = known_as asked.known path (other_judgement kind fault) } ∷ [])
+    visited_still (TellsEntries asked) (IsToldOfRoot asked.known (names_asked asked.names) root out_root reports) (Entry path kind) (record { path = path; judgement = judged_known_as asked.known path (other_judgement kind fault) } ∷ [])
     before out0 out tally0 tally
     (λ past. (other_judgement kind fault, refl, record { day = λ day. absurd (none day); other = λ no_day. (fault, is, refl) })) told
 
@@ -108,9 +108,9 @@ passed_folder asked root out_root folder before after out tally goes =
 -- one that may be there
 pub visited_records : (asked : Verifying) (root out_root folder : Path) (before after : List Step → Type 0) (out0 out : Device) (tally0 tally : VerifyTally)
     → Goes before after (MayHave (joined out_root folder) (Ok true))
-    → TellsEntries asked (record { path = told_folder folder; judgement = known_as asked.known (told_folder folder) (Refused RecordsListing) } ∷ []) out0 out tally0 tally
+    → TellsEntries asked (record { path = told_folder folder; judgement = judged_known_as asked.known (told_folder folder) (Refused RecordsListing) } ∷ []) out0 out tally0 tally
     → TellsVisit (TellsEntries asked) (IsToldOfOut asked.known root out_root) OnlyReads (Unit {0}) (WithoutList folder) before after out0 out tally0 tally
 visited_records asked root out_root folder before after out0 out tally0 tally goes told =
-    visited_by (TellsEntries asked) (IsToldOfOut asked.known root out_root) (WithoutList folder) (record { path = told_folder folder; judgement = known_as asked.known (told_folder folder) (Refused RecordsListing) } ∷ [])
+    visited_by (TellsEntries asked) (IsToldOfOut asked.known root out_root) (WithoutList folder) (record { path = told_folder folder; judgement = judged_known_as asked.known (told_folder folder) (Refused RecordsListing) } ∷ [])
     (MayHave (joined out_root folder) (Ok true)) before after out0 out tally0 tally
     (λ old new is. (is.looks, inl refl)) goes told

@@ -97,18 +97,18 @@ alone_of (Err stop.Read) = Err (File stop.Read)
 alone_of (Err stop.Memory) = Err (File stop.Memory)
 
 -- the day's own file, or its report, could not be read to its end, or memory was refused
-abbrev pub IsCut : VerifyFault → Type 0
-IsCut (File stop.Read) = Unit {0}
-IsCut (File stop.Memory) = Unit {0}
-IsCut ReportRead = Unit {0}
-IsCut ReportMemory = Unit {0}
-IsCut fault = ⊥
+abbrev pub IsUnfinished : VerifyFault → Type 0
+IsUnfinished (File stop.Read) = Unit {0}
+IsUnfinished (File stop.Memory) = Unit {0}
+IsUnfinished ReportRead = Unit {0}
+IsUnfinished ReportMemory = Unit {0}
+IsUnfinished fault = ⊥
 
 -- whether the text is that of a report by which the day's own file is records, and the fewest
 abbrev pub AloneAnswers : (file text : List ℕ) → Result Bool VerifyFault → Type 0
 AloneAnswers file text (Ok true) = IsShownLeast file text
 AloneAnswers file text (Ok false) = ¬ (IsShownLeast file text)
-AloneAnswers file text (Err fault) = IsCut fault
+AloneAnswers file text (Err fault) = IsUnfinished fault
 
 -- What that answers, for the bytes of its sources.
 pub record VerifiesAlone (file report : Device) (result : Result Bool VerifyFault) : Type 0 where

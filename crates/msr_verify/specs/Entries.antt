@@ -114,10 +114,10 @@ is_orphan Orphan = true
 is_orphan _ = false
 
 -- refused or missing, and a line that is known tells that
-abbrev pub is_known : Judgement → Bool
-is_known (Known refusal) = true
-is_known KnownMissing = true
-is_known _ = false
+abbrev pub is_judged_known : Judgement → Bool
+is_judged_known (Known refusal) = true
+is_judged_known KnownMissing = true
+is_judged_known _ = false
 
 -- neither that nor verified, in place or skipped
 abbrev pub is_unverified : Judgement → Bool
@@ -138,7 +138,7 @@ verify_tally_of entries = record {
   verified = judged_count is_verified entries;
   skipped = judged_count is_judged_skipped entries;
   refused = judged_count is_judged_refused entries;
-  known = judged_count is_known entries;
+  known = judged_count is_judged_known entries;
   missing = judged_count is_missing entries;
   not_shown = judged_count is_not_shown entries;
   differ = judged_count is_different entries;
@@ -151,7 +151,7 @@ pub record IsVerifyTally (entries : List JudgedEntry) (tally : VerifyTally) : Ty
   pub verified : tally.verified ≡ judged_count is_verified entries
   pub skipped : tally.skipped ≡ judged_count is_judged_skipped entries
   pub refused : tally.refused ≡ judged_count is_judged_refused entries
-  pub known : tally.known ≡ judged_count is_known entries
+  pub known : tally.known ≡ judged_count is_judged_known entries
   pub missing : tally.missing ≡ judged_count is_missing entries
   pub not_shown : tally.not_shown ≡ judged_count is_not_shown entries
   pub differ : tally.differ ≡ judged_count is_different entries

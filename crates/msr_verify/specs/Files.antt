@@ -21,10 +21,10 @@ use Rattle.msr_sds.specs.declared.SdsFault.{SdsFault}
 use Rattle.msr_folders.specs.Days.{IsDay, IsNoDay}
 use Rattle.msr_folders.specs.Entries.{AreEntriesOf, Entry, ForEach, Left, Passed, Visit, WithoutList, unlisted_in}
 use Rattle.msr_folders.specs.Paths.{ended, joined, told_folder}
-use Rattle.msr_verify.specs.Day.{DayAnswers, IsCut, IsShownLeast}
+use Rattle.msr_verify.specs.Day.{DayAnswers, IsUnfinished, IsShownLeast}
 use Rattle.msr_options.specs.declared.known.Known.{Known as Asked}
 use Rattle.msr_verify.specs.Entries.{JudgedEntry}
-use Rattle.msr_verify.specs.Known.{known_as}
+use Rattle.msr_verify.specs.Known.{judged_known_as}
 use Rattle.msr_verify.specs.declared.judging.Finding.{Finding}
 use Rattle.msr_verify.specs.declared.judging.Finding.TheVariants as finding
 use Rattle.msr_verify.specs.declared.judging.VerifyFault.{VerifyFault}
@@ -57,7 +57,7 @@ pub record AnswerThere (places : DayPlaces) (past : List Step) (answer : Result 
   pub apart : ¬ (AreOneFile places.file places.records past)
 
 -- The report shows that the day's own file is records, and the fewest.
-pub record IsInPlace (places : DayPlaces) (past : List Step) : Type 0 where
+pub record IsShownInPlace (places : DayPlaces) (past : List Step) : Type 0 where
   pub file : List ℕ
   pub text : List ℕ
   pub has_file : seen past places.file ≡ Some file
@@ -67,12 +67,12 @@ pub record IsInPlace (places : DayPlaces) (past : List Step) : Type 0 where
 -- There are no records, and the day's own file or its report was not read to its end.
 pub record IsCutAlone (places : DayPlaces) (fault : VerifyFault) (past : List Step) : Type 0 where
   pub no_records : is_there past places.records ≡ false
-  pub cut : IsCut fault
+  pub cut : IsUnfinished fault
 
 -- There are no records, and what else is there does not show it, unless a call failed.
 pub record IsNotInPlace (places : DayPlaces) (old new : List Step) : Type 0 where
   pub no_records : is_there old places.records ≡ false
-  pub unshown : (¬ (IsInPlace places old)) ⊎ (failures old < failures new)
+  pub unshown : (¬ (IsShownInPlace places old)) ⊎ (failures old < failures new)
 
 -- What a judgement says of the files of a day. A file that is told as not opened could not be opened: a call failed.
 abbrev pub IsJudgementThere : DayPlaces → Judgement → (old new : List Step) → Type 0
@@ -80,7 +80,7 @@ IsJudgementThere places Verified old new = AnswerThere places old (Ok finding.Ve
 IsJudgementThere places NotShown old new = AnswerThere places old (Ok finding.NotShown)
 IsJudgementThere places Differs old new = AnswerThere places old (Ok finding.Differs)
 IsJudgementThere places (Refused (Day fault)) old new = AnswerThere places old (Err fault) ⊎ IsCutAlone places fault old
-IsJudgementThere places InPlace old new = (is_there old places.records ≡ false) × IsInPlace places old
+IsJudgementThere places InPlace old new = (is_there old places.records ≡ false) × IsShownInPlace places old
 IsJudgementThere places Missing old new = (is_there old places.report ≡ false) ⊎ IsNotInPlace places old new
 IsJudgementThere places (Refused SameFile) old new = AreOneFile places.file places.records old ⊎ (failures old < failures new)
 IsJudgementThere places (Refused FileUnopened) old new = failures old < failures new
@@ -146,10 +146,10 @@ pub record IsToldOfEntry (names : Names) (places : DayPlaces) (path : Path) (kin
 -- the one entry that is told of a visit of the archive, as known if it is
 abbrev pub IsToldOfRoot : Asked → Names → (root out reports : Path) → (old new : List Step) → Visit → List JudgedEntry → Type 0
 IsToldOfRoot asked names root out reports old new (Entry path kind) entries = (judgement : Judgement)
-    × (entries ≡ record { path = path; judgement = known_as asked path judgement } ∷ [])
+    × (entries ≡ record { path = path; judgement = judged_known_as asked path judgement } ∷ [])
     × IsToldOfEntry names (day_places root out reports path) path kind judgement old new
 IsToldOfRoot asked names root out reports old new (WithoutList folder) entries =
-    entries ≡ record { path = told_folder folder; judgement = known_as asked (told_folder folder) (Refused Listing) } ∷ []
+    entries ≡ record { path = told_folder folder; judgement = judged_known_as asked (told_folder folder) (Refused Listing) } ∷ []
 IsToldOfRoot asked names root out reports old new (Passed folder) entries = ⊥
 IsToldOfRoot asked names root out reports old new (Left folder) entries = entries ≡ []
 
@@ -162,7 +162,7 @@ pub record IsToldOfRecord (root path : Path) (entries : List JudgedEntry) (old n
 abbrev pub IsToldOfOut : Asked → (root out : Path) → (old new : List Step) → Visit → List JudgedEntry → Type 0
 IsToldOfOut asked root out old new (Entry path kind) entries = IsToldOfRecord root path entries old new
 IsToldOfOut asked root out old new (WithoutList folder) entries =
-    (entries ≡ record { path = told_folder folder; judgement = known_as asked (told_folder folder) (Refused RecordsListing) } ∷ [])
+    (entries ≡ record { path = told_folder folder; judgement = judged_known_as asked (told_folder folder) (Refused RecordsListing) } ∷ [])
     ⊎ ((entries ≡ []) × (is_there old (joined out folder) ≡ false))
 IsToldOfOut asked root out old new (Passed folder) entries = ⊥
 IsToldOfOut asked root out old new (Left folder) entries = entries ≡ []

@@ -11,18 +11,18 @@ use Rattle.msr_verify.specs.declared.judgement.Judgement.TheVariants.{Missing, R
 use Rattle.msr_verify.specs.declared.judgement.Refusal.{Refusal}
 
 -- the line of a refusal in words, without the line feed
-abbrev pub refusal_line : (path : List ℕ) → Refusal → List ℕ
-refusal_line path refusal = codes "refused " ++ (shown_path path ++ (codes ": " ++ refusal_text refusal))
+abbrev pub judged_refusal_line : (path : List ℕ) → Refusal → List ℕ
+judged_refusal_line path refusal = codes "refused " ++ (shown_path path ++ (codes ": " ++ refusal_text refusal))
 
 -- what is told of an entry: that it is known exactly if it would be told as refused by a line that is known, or as missing,
 -- and a line that is known tells that it was refused
-abbrev pub known_as : Asked → (path : List ℕ) → Judgement → Judgement
-known_as asked path (Refused refusal) = if knows asked (refusal_line path refusal) then Known refusal else Refused refusal
-known_as asked path Missing = if is_some (text_known asked (refused_before path)) then KnownMissing else Missing
-known_as asked path judgement = judgement
+abbrev pub judged_known_as : Asked → (path : List ℕ) → Judgement → Judgement
+judged_known_as asked path (Refused refusal) = if knows asked (judged_refusal_line path refusal) then Known refusal else Refused refusal
+judged_known_as asked path Missing = if is_some (text_known asked (refused_before path)) then KnownMissing else Missing
+judged_known_as asked path judgement = judgement
 
 -- An entry is told as what was found of it, or as known.
 pub record IsJudgedEntry (asked : Verifying) (entry : JudgedEntry) : Type 0 where
   pub found : Judgement
   pub of : IsJudgementOf entry.path found
-  pub is : entry.judgement ≡ known_as asked.known entry.path found
+  pub is : entry.judgement ≡ judged_known_as asked.known entry.path found

@@ -13,7 +13,7 @@ use Rattle.msr_options.specs.declared.task.ListForm.TheVariants.{Words, Json}
 use Rattle.msr_options.specs.declared.task.Verifying.{Verifying}
 use Rattle.msr_tool.specs.declared.fault.ToolFault.{ToolFault}
 use Rattle.msr_tool.specs.declared.fault.ToolFault.TheVariants.{Input, Report, Read, Write, Memory}
-use Rattle.msr_verify.specs.Entries.{IsVerifyTally, JudgedEntry, is_known, is_unverified, is_verified, judged_count, verify_tally_of}
+use Rattle.msr_verify.specs.Entries.{IsVerifyTally, JudgedEntry, is_judged_known, is_unverified, is_verified, judged_count, verify_tally_of}
 use Rattle.msr_verify.specs.Known.{IsJudgedEntry}
 use Rattle.msr_tree.specs.Calls.{Goes}
 use Rattle.msr_tree.specs.Steps.{Step}
@@ -91,7 +91,7 @@ StopsTellingJudged asked out0 out fault = StopsTelling (IsJudgedEntry asked) (Is
 -- a walk that came to its end tells whether one of its entries is neither verified, skipped nor known, and if none is, whether
 -- one is verified or known
 abbrev pub TellsVerified : List JudgedEntry → WalkFound → Type 0
-TellsVerified entries found = Finds (judged_count is_unverified entries) (judged_count is_verified entries + judged_count is_known entries) found
+TellsVerified entries found = Finds (judged_count is_unverified entries) (judged_count is_verified entries + judged_count is_judged_known entries) found
 
 -- the whole text was printed, or a prefix of it when the walk stopped, which no input and no source can make it do
 abbrev pub VerifyingEnds : Verifying → (printed : List ℕ) → Result WalkFound ToolFault → Type 0

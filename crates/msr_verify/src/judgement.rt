@@ -2,7 +2,7 @@
 ghost use Rattle.std.specs.Prelude.{◌≡◌, ◌↔◌, IfOk, IsTrue};
 ghost use Rattle.std.specs.String.{string_bytes};
 ghost use Rattle.msr_verify.specs.Entries.{is_unverified, judgement_alone, judgement_of};
-ghost use Rattle.msr_verify.specs.Known.{known_as, refusal_line};
+ghost use Rattle.msr_verify.specs.Known.{judged_known_as, judged_refusal_line};
 ghost use Rattle.msr_verify.specs.Lines.{IsJudgementJson, IsJudgementLine, IsOfSystem, IsReasonJson, IsRefusalOfSystem, IsToldLine, place_json, refusal_json, refused_before, side_json, text_missing, what_text, why_json, why_text, words_line};
 
 use crate::judging::{Finding, VerifyFault};
@@ -147,7 +147,7 @@ fn refused_before(alloc: Global, path: &str) -> Result<String, AllocError>
 
 /// The line in words, without its line feed, of the entry with this path that is refused so.
 fn refusal_line(alloc: Global, path: &str, refusal: Refusal) -> Result<String, AllocError>
-    ensures { IfOk result (λ line. string_bytes line ≡ refusal_line path.now refusal) }
+    ensures { IfOk result (λ line. string_bytes line ≡ judged_refusal_line path.now refusal) }
 {
     let shown = Shown { path };
     format!(in alloc; "refused {shown}: {refusal}")
@@ -329,7 +329,7 @@ impl Judgement {
         known: Known<'_>,
         path: &str,
     ) -> Result<Judgement, AllocError>
-        ensures { IfOk result (λ judgement. judgement ≡ known_as known.entry path.now self) }
+        ensures { IfOk result (λ judgement. judgement ≡ judged_known_as known.entry path.now self) }
     {
         if !known.is_asked() {
             return Ok(self);

@@ -9,7 +9,7 @@ ghost use Rattle.msr_sds.specs.declared.SdsFault.{SdsFault};
 ghost use Rattle.msr_tree.specs.Reads.{OnlyReads};
 ghost use Rattle.msr_verify.specs.Entries.{IsJudgementOf, IsVerifyTally, JudgedEntry};
 ghost use Rattle.msr_verify.specs.Files.{IsToldOfOut, IsToldOfRoot, names_asked, other_judgement};
-ghost use Rattle.msr_verify.specs.Known.{IsJudgedEntry, known_as};
+ghost use Rattle.msr_verify.specs.Known.{IsJudgedEntry, judged_known_as};
 ghost use Rattle.msr_verify.specs.Lines.{IsToldLine};
 ghost use Rattle.msr_verify.specs.Walk.{StopsTellingJudged, TellsEntries};
 
@@ -38,7 +38,7 @@ fn tell<O: Sink>(
 ) -> Result<(), DeviceFault>
     requires { CanCountCall (O.device out.old) }
     ensures told { IsJudgementOf path.now judgement → OnOk result (TellsEntries archive.now
-        (record { path = path.now; judgement = known_as archive.now.known path.now judgement } ∷ []) (O.device out.old) (O.device out.new) tally.old tally.new) }
+        (record { path = path.now; judgement = judged_known_as archive.now.known path.now judgement } ∷ []) (O.device out.old) (O.device out.new) tally.old tally.new) }
     ensures stops { IsJudgementOf path.now judgement →
         IfErr result (StopsTellingJudged archive.now (O.device out.old) (O.device out.new)) }
 {

@@ -7,4 +7,4 @@ pub returns-in-None-clause-told : goal.returns-in-None-clause-told
 returns-in-None-clause-told g c = unfit_held c.args.asked.now c.args.written
 
 pub returns-in-None-clause-goes : goal.returns-in-None-clause-goes
-returns-in-None-clause-goes g c = held_unwritten c.args.files.now c.args.look.now c.args.asked.now c.args.written _ (sym c.counts_of.ensures ∙ c.in-None.is)
+returns-in-None-clause-goes g c = held_unwritten c.args.files.now c.args.look.now c.args.asked.now c.args.written _ (sym c.counts_repacked.ensures ∙ c.in-None.is)

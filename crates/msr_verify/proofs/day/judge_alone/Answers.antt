@@ -1,6 +1,6 @@
 use Rattle.std.proofs.Common.{Bool, true, false, [], Result, Ok, Err}
 use Rattle.msr_input.specs.declared.fault.ReadFault.TheVariants as stop
-use Rattle.msr_verify.specs.Day.{IsCut, VerifiesAlone}
+use Rattle.msr_verify.specs.Day.{IsUnfinished, VerifiesAlone}
 use Rattle.msr_verify.specs.Entries.{HasDayAnswer, IsJudgementOfDay, judgement_alone}
 use Rattle.msr_verify.specs.Opening.{places_at}
 use Rattle.msr_verify.specs.declared.judging.VerifyFault.{VerifyFault}
@@ -10,7 +10,7 @@ use Rattle.msr_verify.proofs.OpeningLemmas.{opened_alone, stopped_alone, unopene
 use Rattle.msr_verify.proofs.day.judge_alone.Goals as goal
 
 -- of a file that was not read to its end nothing is said
-cut_says : (fault : VerifyFault) → IsCut fault → HasDayAnswer (Err fault)
+cut_says : (fault : VerifyFault) → IsUnfinished fault → HasDayAnswer (Err fault)
 cut_says (File stop.Read) cut = record { file = []; records = []; text = []; answers = tt }
 cut_says (File stop.Memory) cut = record { file = []; records = []; text = []; answers = tt }
 cut_says ReportRead cut = record { file = []; records = []; text = []; answers = tt }
