@@ -6,4 +6,4 @@ mod names;
 mod times;
 
 pub use belonging::misplaced;
-pub use names::{day_name, found_json, found_words};
+pub use names::{found_json, found_words, names_for};

@@ -1,9 +1,10 @@
 //! The names of days and of segments, and their texts.
 ghost use Rattle.std.specs.Prelude.{◌≡◌, ◌++◌, ◌≤◌, ◌<◌, ◌↔◌, IfOk, IsTrue, OnOk, false, length, string_bytes};
 ghost use Rattle.msr_belonging.specs.Names.{IsOfChannel, code_text, day_name, day_text, found_json, found_words, id_text, padded};
+ghost use Rattle.msr_options.specs.Days.{names_for};
 ghost use Rattle.msr_sds.specs.SdsPath.{HasForm};
 
-use msr_options::DayName;
+use msr_options::{DayName, Names};
 use msr_report::{ListedSegment, push_field, push_padded, unpadded};
 use msr_sds::SdsName;
 use std::alloc::{AllocError, Global};
@@ -19,7 +20,7 @@ pub(crate) fn padded(code: &[u8]) -> [u8; 8]
 }
 
 /// The name of the day with this path.
-pub fn day_name(path: &SdsName<'_>) -> DayName
+fn day_name(path: &SdsName<'_>) -> DayName
     requires { HasForm path.now }
     ensures { result ≡ day_name path.now }
 {
@@ -30,6 +31,18 @@ pub fn day_name(path: &SdsName<'_>) -> DayName
         channel: padded(path.channel().as_bytes()),
         year: path.year(),
         day: path.day(),
+    }
+}
+
+/// The names that are asked of the day with this path. The path's own is made only if that is asked for.
+pub fn names_for(names: Names, path: &SdsName<'_>) -> Names
+    requires { HasForm path.now }
+    ensures { result ≡ names_for (day_name path.now) names }
+{
+    match names {
+        Names::Any => Names::Any,
+        Names::Own => Names::Of(day_name(path)),
+        Names::Of(other) => Names::Of(other),
     }
 }
 

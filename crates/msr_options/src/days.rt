@@ -31,7 +31,7 @@ pub struct DayOptions {
 }
 
 impl DayOptions {
-    ghost use Rattle.msr_options.specs.Days.{in_length, with_name};
+    ghost use Rattle.msr_options.specs.Days.{in_length};
 
     /// The same for records of another length.
     pub fn in_length(&self, length: Length) -> DayOptions
@@ -42,12 +42,5 @@ impl DayOptions {
             .kinds(self.options.form().kinds)
             .strict(self.options.is_strict());
         DayOptions { options, ..*self }
-    }
-    /// What is asked of the day that has this name.
-    pub fn with_name(&self, name: DayName) -> DayOptions
-        ensures { result ≡ with_name name self.now }
-    {
-        let names = self.names.for_day(name);
-        DayOptions { names, ..*self }
     }
 }

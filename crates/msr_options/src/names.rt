@@ -25,24 +25,11 @@ pub enum Names {
 }
 
 impl Names {
-    ghost use Rattle.msr_options.specs.Days.{names_for};
-
     /// Those of each day's path, if that is asked for.
     pub fn asked(own: bool) -> Names
         ensures own { own ≡ true → result ≡ Names.Own }
         ensures any { own ≡ false → result ≡ Names.Any }
     {
         if own { Names::Own } else { Names::Any }
-    }
-
-    /// What is asked of the day that has this name.
-    pub fn for_day(self, name: DayName) -> Names
-        ensures { result ≡ names_for name self }
-    {
-        match self {
-            Names::Any => Names::Any,
-            Names::Own => Names::Of(name),
-            Names::Of(other) => Names::Of(other),
-        }
     }
 }

@@ -16,7 +16,7 @@ ghost use Rattle.msr_verify.specs.Walk.{StopsTellingJudged, TellsEntries};
 use crate::day::{judge_day, may_have};
 use crate::judgement::{Judgement, Refusal};
 use crate::tally::VerifyTally;
-use msr_belonging::day_name;
+use msr_belonging::names_for;
 use msr_devices::{DeviceFault, Sink, write_all};
 use msr_folders::{EntryVisitor, join, told_folder};
 use msr_options::{Names, Verifying};
@@ -64,7 +64,7 @@ fn names_of(archive: &Verifying<'_>, name: &SdsName<'_>) -> Names
     requires { HasForm name.now }
     ensures { result ≡ names_for (day_name name.now) (names_asked archive.now.names) }
 {
-    Names::asked(archive.names).for_day(day_name(name))
+    names_for(Names::asked(archive.names), name)
 }
 
 /// Judges each day of the archive.

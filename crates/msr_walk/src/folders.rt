@@ -28,12 +28,12 @@ use crate::batch::Batch;
 use crate::claims::Claims;
 use crate::day::{Day, Work};
 use crate::walker::Walker;
-use msr_belonging::day_name;
+use msr_belonging::names_for;
 use msr_devices::{DeviceFault, Sink, write_all};
 use msr_folders::{EntryVisitor, EntryWalk, WalkFound, join, told_folder, visit_entries};
 use msr_making::{DayFault, DayOutcome, day_length, is_young};
 use msr_naming::Waiting;
-use msr_options::{Archiving, Unopened};
+use msr_options::{Archiving, DayOptions, Unopened};
 use msr_outcomes::{Outcome, Tally, channel_text, write_summary};
 use msr_sds::SdsName;
 use msr_tool::ToolFault;
@@ -167,7 +167,10 @@ impl<'a, C: Claims> Walker<'a, C> {
                 waiting: None,
             });
         }
-        let days = self.archive.days.with_name(day_name(name));
+        let days = DayOptions {
+            names: names_for(self.archive.days.names, name),
+            ..self.archive.days
+        };
         let day = Day::new(self.alloc, self.archive.folders, path)?;
         let length = day_length(tree, self.alloc, day.input(), &days)?;
         let work = Work {
