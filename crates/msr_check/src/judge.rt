@@ -1,11 +1,12 @@
 //! Judging the runs of a segment one after another, with few of its samples at hand.
 
-ghost use Rattle.std.specs.Prelude.{◌≡◌, ◌↔◌, ◌-◌, ◌+◌, ◌<◌, ◌≤◌, ◌^◌, ℕ, ℤ, List, [], ◌∷◌, ◌++◌, drop, length, slice_index, IsTrue, MatchOption, OnErr, OnOk};
+ghost use Rattle.std.specs.Prelude.{◌≡◌, ◌↔◌, ◌-◌, ◌+◌, ◌<◌, ◌≤◌, ◌^◌, ℕ, ℤ, List, [], ◌∷◌, ◌++◌, length, slice_index, IsTrue, MatchOption, OnErr, OnOk};
 ghost use Rattle.msr_words.specs.Fit.{Records, records_of};
 ghost use Rattle.msr_words.specs.Packing.{IsLeast};
 ghost use Rattle.msr_words.specs.declared.kinds.Run.{Run as WordRun};
 ghost use Rattle.msr_check.specs.Judged.{AreShown, FollowsLast, IsComplete, IsFollowed, IsSoundLast, Judges, becomes_last, next_run, samples_after, without};
 
+use crate::held::Held;
 use crate::reach::reach_of;
 use crate::{is_run, none_between};
 use msr_kinds::{Form, Kind};
@@ -120,22 +121,12 @@ fn are_as_many(last: Option<LastRun>, held: usize, number: u64) -> bool
     }
 }
 
-/// Removes the first `count` samples.
-fn remove_front(held: &mut Vec<i32>, count: usize)
-    requires { count ≤ length held.old.items }
-    ensures { held.new.items ≡ drop count held.old.items }
-{
-    let left = held.len() - count;
-    held.copy_within(count.., 0);
-    held.truncate(left);
-}
-
 /// Judges the runs of one segment, which come one after another with their samples, beside the segment's separators:
 /// at the end, whether the runs are a packing and the separators show that it is least. It holds the samples of two runs
 /// and two more at most, and none once a run or a separator failed.
 #[derive(Drop)]
 pub struct Judge {
-    held: Vec<i32>,
+    held: Held,
     last: Option<LastRun>,
     count: usize,
     holds: bool,
@@ -146,7 +137,7 @@ impl Model for Judge {
 
     ghost Value = { Judged };
 
-    ghost view = { λ j. record { held = j.held.items; last = j.last; count = j.count; holds = j.holds } };
+    ghost view = { λ j. record { held = j.held; last = j.last; count = j.count; holds = j.holds } };
 }
 
 impl Judge {
@@ -155,7 +146,7 @@ impl Judge {
         ensures { (records : Records) (separators : List ℕ) → Judges records [] [] separators result }
     {
         Judge {
-            held: Vec::new(alloc),
+            held: Held::new(alloc),
             last: None,
             count: 0,
             holds: true,
@@ -213,14 +204,12 @@ impl Judge {
         if !self.holds {
             return Ok(());
         }
-        let end = self.held.len();
-        // Two runs are the most that is held; a vector that doubles would take the room of four.
-        self.held.reserve_exact(samples.len())?;
-        self.held.extend_from_slice(samples)?;
+        let end = self.held.as_slice().len();
+        self.held.extend(samples)?;
         match self.next(end, kind, form, separators) {
             Some(next) => {
                 let forgotten = end.saturating_sub(2);
-                remove_front(&mut self.held, forgotten);
+                self.held.forget(forgotten);
                 self.last = Some(without(next, forgotten));
                 self.count += 1;
             }
@@ -251,7 +240,7 @@ impl Judge {
     {
         self.holds
             && self.count == separators.len()
-            && are_as_many(self.last, self.held.len(), number)
+            && are_as_many(self.last, self.held.as_slice().len(), number)
             && ends_sound(self.held.as_slice(), form, self.last)
     }
 }

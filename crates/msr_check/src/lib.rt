@@ -1,6 +1,7 @@
 //! Whether a packing and its separators show that the packing is least.
 #![tactic(auto)]
 
+mod held;
 mod judge;
 mod reach;
 

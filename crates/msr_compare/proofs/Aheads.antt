@@ -1,6 +1,6 @@
 -- What stands ahead of a side.
-use Rattle.std.proofs.Common.{◌≡◌, ℕ, ◌+◌, ◌≤◌, Bool, false, List, [], ◌∷◌, ◌++◌, length, map, drop, refl, sym, ap, ◌∙◌, drop-drop, ℤ, Some}
-use Rattle.std.proofs.lemmas.List.{drop_all}
+use Rattle.std.proofs.Common.{◌≡◌, ℕ, ◌+◌, min, Bool, false, List, [], ◌∷◌, ◌++◌, length, map, drop, refl, sym, ap, ◌∙◌, drop-drop, ℤ, Some}
+use Rattle.std.proofs.lemmas.List.{drop_min}
 use Rattle.msr_rows.specs.declared.row.Row.{Row}
 use Rattle.msr_compare.specs.Symbols.{Symbol, Opens, Holds, held_in, row_ahead}
 use Rattle.msr_compare.proofs.Symbols.{held_ahead, held_map}
@@ -25,17 +25,10 @@ pub held_row : {ahead : List Symbol} (row : Row) (begins : Bool) (passed : ℕ)
     → row_ahead (Some row) begins passed ≡ ahead → drop passed row.samples ≡ held_in ahead
 held_row row begins passed view = sym (held_ahead row begins passed) ∙ ap held_in view
 
--- more of the row is passed, or all of it
+-- more of the row is passed, as far as it goes
 pub more_passed : {ahead : List Symbol} (row : Row) (begins : Bool) (passed count new : ℕ)
-    → row_ahead (Some row) begins passed ≡ ahead → new ≡ passed + count
+    → row_ahead (Some row) begins passed ≡ ahead → new ≡ min (passed + count) (length row.samples)
     → row_ahead (Some row) false new ≡ map Holds (drop count (held_in ahead))
 more_passed row begins passed count new view e =
-    ap (map Holds) (ap (λ (n : ℕ). drop n row.samples) e ∙ sym (drop-drop count passed row.samples)
-    ∙ ap (drop count) (held_row row begins passed view))
-
-pub whole_passed : {ahead : List Symbol} (row : Row) (begins : Bool) (passed count : ℕ)
-    → row_ahead (Some row) begins passed ≡ ahead → length row.samples ≤ passed + count
-    → [] ≡ map Holds (drop count (held_in ahead))
-whole_passed row begins passed count view all =
-    ap (map Holds) (sym (drop_all (passed + count) row.samples all) ∙ sym (drop-drop count passed row.samples)
-    ∙ ap (drop count) (held_row row begins passed view))
+    ap (map Holds) (ap (λ (n : ℕ). drop n row.samples) e ∙ drop_min (passed + count) row.samples
+    ∙ sym (drop-drop count passed row.samples) ∙ ap (drop count) (held_row row begins passed view))

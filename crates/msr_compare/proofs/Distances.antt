@@ -33,6 +33,12 @@ quotient_up apart den some =
     let b = quotient_bounds (apart + den - 1) den (omega arith) in
     (omega (arith, b), λ e reaches. not_less apart den q e b.0 some reaches (cases_lt e q))
 
+pub none_apart : (apart den : ℕ) → 1 ≤ den → apart ≡ 0
+    → 0 ≡ min ((apart + den - 1) / den) 18_446_744_073_709_551_615
+none_apart apart den some none =
+    let low = (quotient_up apart den some).1 0 (omega (arith, none)) in
+    omega (arith, low)
+
 distance_so : (rate : SampleRate) (t0 : ℤ) (n : ℕ) (t : ℤ) (apart told : ℕ) → 1 ≤ (period_of rate).1
     → apart ≡ unsigned_abs ((t *ℤ pos (period_of rate).1)
     -ℤ ((t0 *ℤ pos (period_of rate).1) +ℤ pos (n * (period_of rate).0)))

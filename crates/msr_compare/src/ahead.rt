@@ -3,7 +3,6 @@ use msr_input::{NextRecord, NextRow, RowReader};
 use msr_rows::{Key, Row};
 use msr_segments::Step;
 use std::marker::Model;
-use std::mem;
 
 /// What comes next.
 #[derive(Clone, Copy)]
@@ -16,13 +15,12 @@ pub(crate) enum Next {
     Nothing,
 }
 
-/// The row at hand, as far as it was not compared. When all of it was, it is spent: its memory can be used again.
+/// The row at hand, as far as it was not compared. When all of it was, its memory can be used again.
 #[derive(Drop)]
 pub(crate) struct Ahead {
     row: Option<Row>,
     begins: bool,
     passed: usize,
-    spent: Option<Row>,
 }
 
 impl Model for Ahead {
@@ -47,7 +45,6 @@ impl Ahead {
             row: None,
             begins: false,
             passed: 0,
-            spent: None,
         }
     }
 
@@ -59,7 +56,6 @@ impl Ahead {
             row: Some(row),
             begins: step == Step::Begins,
             passed: 0,
-            spent: None,
         }
     }
 
@@ -114,21 +110,19 @@ impl Ahead {
         let Some(row) = &self.row else {
             return;
         };
-        let passed = self.passed.saturating_add(count);
-        if passed < row.samples.len() {
-            self.passed = passed;
-            self.begins = false;
-        } else {
-            drop(mem::replace(&mut self.spent, self.row.take()));
-        }
+        self.passed = self.passed.saturating_add(count).min(row.samples.len());
+        self.begins = false;
     }
 
-    /// Gives the row that was compared last back to the reader, whose next row then stands in its memory.
+    /// Gives the row, if all of it was compared, back to the reader, whose next row then stands in its memory.
     pub(crate) fn give_back(&mut self, reader: &mut RowReader)
         ensures ahead { self.new ≡ self.old }
         ensures reading { reader.new ≡ reader.old }
     {
-        if let Some(row) = self.spent.take() {
+        if !self.is_empty() {
+            return;
+        }
+        if let Some(row) = self.row.take() {
             reader.give_back(NextRecord {
                 length: 0,
                 row: Some(NextRow {

@@ -89,6 +89,7 @@ fn meet_beginnings(one: &mut Side, other: &mut Side, keys: (Key, Key), starts: (
 }
 
 /// Compares what is ahead of both sides, as far as it can be, and passes what is the same.
+#[inline(always)]
 pub(crate) fn meet(one: &mut Side, other: &mut Side) -> Met
     ensures { Meets one.old other.old result one.new other.new }
 {

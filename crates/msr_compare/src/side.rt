@@ -48,6 +48,7 @@ impl Side {
     }
 
     /// Takes the row of the record that was read, if it has one.
+    #[inline(always)]
     fn take(&mut self, next: Option<NextRow>)
         ensures { TakesNext next self.old self.new }
     {
@@ -59,6 +60,7 @@ impl Side {
     }
 
     /// Reads on if nothing is ahead, until something is, or the input has ended. Each record is seen.
+    #[inline(always)]
     pub(crate) fn fetch<R: Source, O: Observer>(
         &mut self,
         source: &mut R,
@@ -75,9 +77,30 @@ impl Side {
         ensures steady { OnOk result (IsSteady (R.device source.old) (R.device source.new)) }
         ensures few { CountsFew (R.device source.old) (R.device source.new) }
     {
-        if self.ended {
+        if self.ended || !self.ahead.is_empty() {
             return Ok(());
         }
+        self.read_on(source, observer)
+    }
+
+    /// The same, if the input has not ended.
+    fn read_on<R: Source, O: Observer>(
+        &mut self,
+        source: &mut R,
+        observer: &mut O,
+    ) -> Result<(), ReadFault>
+        requires count { CanCountCall (R.device source.old) }
+        requires going { self.old.ended ≡ false }
+        ensures fetched { (begun : O) (settings : How) (start : Device) (done : List Symbol)
+            → HasTaken (O.has_seen begun observer.old) settings start (R.device source.old) self.old done
+            → MatchResult result
+            (λ _. IsFetched (O.has_seen begun observer.new) settings start (R.device source.new) self.new done)
+            (StopsReading settings start (R.device source.new) []) }
+        ensures weight { OnOk result (weight (R.device source.new) self.new
+            ≤ weight (R.device source.old) self.old) }
+        ensures steady { OnOk result (IsSteady (R.device source.old) (R.device source.new)) }
+        ensures few { CountsFew (R.device source.old) (R.device source.new) }
+    {
         self.ahead.give_back(&mut self.reader);
         'records: while self.ahead.is_empty() {
             let Some(next) = self.reader.next_record(source)? else {

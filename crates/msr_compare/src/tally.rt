@@ -28,6 +28,10 @@ fn distance(rate: Rate, t0: i64, n: u64, t: i64) -> u64
     let gap = (t as i128 - t0 as i128) * denominator as i128;
     let span = n as u128 * numerator as u128;
     let apart = (gap - span as i128).unsigned_abs();
+    // Most records begin at that instant.
+    if apart == 0 {
+        return 0;
+    }
     let micros = (apart + denominator as u128 - 1) / denominator as u128;
     micros.min(u64::MAX as u128) as u64
 }

@@ -4,7 +4,7 @@ use Rattle.msr_input.specs.Records.{left_with}
 use Rattle.msr_input.specs.declared.settings.Settings.{Settings}
 use Rattle.msr_compare.specs.Symbols.{Symbol}
 use Rattle.msr_compare.specs.Sides.{HasTaken, weight}
-use Rattle.msr_compare.proofs.side.Side.fetch.Given as goal
+use Rattle.msr_compare.proofs.side.Side.read_on.Given as goal
 
 abbrev pub invariant-records : goal.invariant-records
 invariant-records g l = record {

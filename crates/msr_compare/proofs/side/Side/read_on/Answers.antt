@@ -4,7 +4,7 @@ use Rattle.msr_devices.proofs.Chaining.{steady_steady}
 use Rattle.msr_compare.specs.Sides.{Standing}
 use Rattle.msr_compare.proofs.Draining.{draining, drains_no_more, no_memory}
 use Rattle.msr_compare.proofs.Taking.{ends_as, taken_end, taken_one, weighs_less}
-use Rattle.msr_compare.proofs.side.Side.fetch.Goals as goal
+use Rattle.msr_compare.proofs.side.Side.read_on.Goals as goal
 
 pub returns-in_err-next-clause-fetched : goal.returns-in_err-next-clause-fetched
 returns-in_err-next-clause-fetched g c =
