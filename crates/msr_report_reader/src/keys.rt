@@ -34,6 +34,14 @@ struct ChannelName {
     channel: [u8; 3],
 }
 
+/// Each field of a name is so many bytes.
+fn name_in_range(name: ChannelName)
+    ensures network { AreBytes 2 name.network }
+    ensures station { AreBytes 5 name.station }
+    ensures location { AreBytes 2 name.location }
+    ensures channel { AreBytes 3 name.channel }
+{}
+
 /// Network, station, location and channel, with dots between them.
 fn channel_name(text: &[u8]) -> Option<(ChannelName, &[u8])>
     ensures found { IfSome result (λ x. text.now ≡ name_then x.0.network x.0.station x.0.location x.0.channel x.1.now) }
@@ -149,6 +157,7 @@ pub(crate) fn channel_key(text: &[u8]) -> Option<(Key, &[u8])>
     let (activity, clock, data_quality, text) = flags(text)?;
     let (correction, text) = signed(text, b" correction ")?;
     let (timing, text) = timing(text)?;
+    name_in_range(name);
     let ChannelName {
         network,
         station,

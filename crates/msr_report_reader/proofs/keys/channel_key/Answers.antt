@@ -100,10 +100,10 @@ returns-clause-is_key c =
     ap (λ (r : SampleRate). r.multiplier) c.in_ok-rate.ensures.1 ∙ to_z-of_z fits_multiplier in
     let fits_correction : FitsSigned w32 c.in_ok-correction.correction = search rules in
     record {
-      network = record { many = search rules; each = λ k. search rules };
-      station = record { many = search rules; each = λ k. search rules };
-      location = record { many = search rules; each = λ k. search rules };
-      channel = record { many = search rules; each = λ k. search rules };
+      network = c.name_in_range.ensures.network;
+      station = c.name_in_range.ensures.station;
+      location = c.name_in_range.ensures.location;
+      channel = c.name_in_range.ensures.channel;
       quality = c.in_ok-name.ensures.quality;
       factor = rw factor fits_factor;
       multiplier = rw multiplier fits_multiplier;

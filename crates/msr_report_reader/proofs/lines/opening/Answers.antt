@@ -43,6 +43,14 @@ returns-clause-only c key start samples records rest is_key fits_samples fits_re
     let third = c.in_ok-samples.ensures.only samples (after_samples records rest) fits_samples refl second.1 in
     c.in_ok-records.ensures.only records rest fits_records third.1
 
+pub returns-clause-is_key : goal.returns-clause-is_key
+returns-clause-is_key c = c.in-Some.ensures.is_key
+
+pub returns-clause-range : goal.returns-clause-range
+returns-clause-range c =
+    let fits : FitsSigned w64 c.in_ok-start.start = omega (arith, signed_arith, c.in_ok-start.ensures.range) in
+    rw (to_z-of_z fits) c.in_ok-start.ensures.range
+
 pub returns-clause-found : goal.returns-clause-found
 returns-clause-found c =
     let word = c.in_ok-start.ensures.found in
