@@ -90,9 +90,15 @@ fn flags(text: &[u8]) -> Option<(u8, u8, u8, &[u8])>
         → text.now ≡ flags_then key.activity key.clock key.data_quality rest
         → IsSomeAnd result (λ x. x.3.now ≡ rest) }
 {
-    let (activity, text) = byte_after(text, b" flags ")?;
-    let (clock, text) = byte_after(text, b" ")?;
-    let (quality, text) = byte_after(text, b" ")?;
+    let Some((activity, text)) = byte_after(text, b" flags ") else {
+        return None;
+    };
+    let Some((clock, text)) = byte_after(text, b" ") else {
+        return None;
+    };
+    let Some((quality, text)) = byte_after(text, b" ") else {
+        return None;
+    };
     Some((activity, clock, quality, text))
 }
 
@@ -151,12 +157,24 @@ pub(crate) fn channel_key(text: &[u8]) -> Option<(Key, &[u8])>
     ensures only { (key : ChannelKey) (rest : List ℕ) → IsReportKey key → EndsNumber rest → text.now ≡ key_then key rest
         → IsSomeAnd result (λ x. x.1.now ≡ rest) }
 {
-    let (name, quality, text) = named(text)?;
-    let (factor, multiplier, text) = rate(text)?;
-    let rate = Rate::new(factor, multiplier)?;
-    let (activity, clock, data_quality, text) = flags(text)?;
-    let (correction, text) = signed(text, b" correction ")?;
-    let (timing, text) = timing(text)?;
+    let Some((name, quality, text)) = named(text) else {
+        return None;
+    };
+    let Some((factor, multiplier, text)) = rate(text) else {
+        return None;
+    };
+    let Some(rate) = Rate::new(factor, multiplier) else {
+        return None;
+    };
+    let Some((activity, clock, data_quality, text)) = flags(text) else {
+        return None;
+    };
+    let Some((correction, text)) = signed(text, b" correction ") else {
+        return None;
+    };
+    let Some((timing, text)) = timing(text) else {
+        return None;
+    };
     name_in_range(name);
     let ChannelName {
         network,

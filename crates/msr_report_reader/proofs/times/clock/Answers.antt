@@ -9,30 +9,30 @@ after_minute second rest = 58 ∷ (padded_decimal 2 second ++ rest)
 abbrev after_hour : ℕ → ℕ → List ℕ → List ℕ
 after_hour minute second rest = 58 ∷ (padded_decimal 2 minute ++ after_minute second rest)
 
-pub returns-in_err-hour-clause-only : goal.returns-in_err-hour-clause-only
-returns-in_err-hour-clause-only c hour minute second rest fits_hour fits_minute fits_second is =
-    absurd (c.in_err-hour.ensures.only hour (after_hour minute second rest) fits_hour is)
+pub returns-in_default-clause-only : goal.returns-in_default-clause-only
+returns-in_default-clause-only c hour minute second rest fits_hour fits_minute fits_second is =
+    absurd (c.in_default.ensures.only hour (after_hour minute second rest) fits_hour is)
 
-pub returns-in_err-minute-clause-only : goal.returns-in_err-minute-clause-only
-returns-in_err-minute-clause-only c hour minute second rest fits_hour fits_minute fits_second is =
-    let first = c.in_ok-hour.ensures.only hour (after_hour minute second rest) fits_hour is in
-    absurd (c.in_err-minute.ensures.only minute (after_minute second rest) fits_minute first.1)
+pub returns-in_default-padded-clause-only : goal.returns-in_default-padded-clause-only
+returns-in_default-padded-clause-only c hour minute second rest fits_hour fits_minute fits_second is =
+    let first = c.in-Some.ensures.only hour (after_hour minute second rest) fits_hour is in
+    absurd (c.in_default-padded.ensures.only minute (after_minute second rest) fits_minute first.1)
 
-pub returns-in_err-second-clause-only : goal.returns-in_err-second-clause-only
-returns-in_err-second-clause-only c hour minute second rest fits_hour fits_minute fits_second is =
-    let first = c.in_ok-hour.ensures.only hour (after_hour minute second rest) fits_hour is in
-    let middle = c.in_ok-minute.ensures.only minute (after_minute second rest) fits_minute first.1 in
-    absurd (c.in_err-second.ensures.only second rest fits_second middle.1)
+pub returns-in_default-padded-2-clause-only : goal.returns-in_default-padded-2-clause-only
+returns-in_default-padded-2-clause-only c hour minute second rest fits_hour fits_minute fits_second is =
+    let first = c.in-Some.ensures.only hour (after_hour minute second rest) fits_hour is in
+    let middle = c.in-Some-padded.ensures.only minute (after_minute second rest) fits_minute first.1 in
+    absurd (c.in_default-padded-2.ensures.only second rest fits_second middle.1)
 
 pub returns-clause-found : goal.returns-clause-found
 returns-clause-found c =
-    c.in_ok-hour.ensures.found ∙ ap (λ (l : List ℕ). padded_decimal 2 c.in_ok-hour.hour ++ l)
-    (c.in_ok-minute.ensures.found ∙ ap (λ (l : List ℕ). 58 ∷ (padded_decimal 2 c.in_ok-minute.minute ++ l))
-    c.in_ok-second.ensures.found)
+    c.in-Some.ensures.found ∙ ap (λ (l : List ℕ). padded_decimal 2 c.in-Some.hour ++ l)
+    (c.in-Some-padded.ensures.found ∙ ap (λ (l : List ℕ). 58 ∷ (padded_decimal 2 c.in-Some-padded.minute ++ l))
+    c.in-Some-padded-2.ensures.found)
 
 pub returns-clause-only : goal.returns-clause-only
 returns-clause-only c hour minute second rest fits_hour fits_minute fits_second is =
-    let first = c.in_ok-hour.ensures.only hour (after_hour minute second rest) fits_hour is in
-    let middle = c.in_ok-minute.ensures.only minute (after_minute second rest) fits_minute first.1 in
-    let last = c.in_ok-second.ensures.only second rest fits_second middle.1 in
+    let first = c.in-Some.ensures.only hour (after_hour minute second rest) fits_hour is in
+    let middle = c.in-Some-padded.ensures.only minute (after_minute second rest) fits_minute first.1 in
+    let last = c.in-Some-padded-2.ensures.only second rest fits_second middle.1 in
     (first.0, middle.0, last.0, last.1)
