@@ -1,7 +1,9 @@
 -- Bytes of a name, one after another.
-use Rattle.std.proofs.Common.{◌≡◌, ◌≢◌, ◌∙◌, ap, arith, ℕ, ◌+◌, ◌<◌, ◌==◌, Bool, true, false, List, [], ◌∷◌, ◌++◌, append_assoc, drop, length, refl, slice_index, sym, take}
-use Rattle.std.specs.Prelude.{cond, slice_set}
+use Rattle.std.proofs.Common.{◌≡◌, ◌≢◌, ◌∙◌, ap, arith, ℕ, ◌+◌, ◌-◌, ◌*◌, ◌/◌, ◌<◌, ◌≤◌, ◌%◌, ◌^◌, ◌==◌, Bool, true, false, List, [], ◌∷◌, ◌++◌, append_assoc, drop, length, refl, slice_index, sym, take}
+use Rattle.std.specs.Prelude.{cond, nat_lt, slice_set}
 use Rattle.std.specs.Char.{is_ascii_alphanumeric}
+use Rattle.std.specs.Fmt.{digit_glyph}
+use Rattle.std.proofs.lemmas.Bool.Decides.{nat_tests}
 use Rattle.std.proofs.lemmas.List.{drop_all, drop_more, length-set, take_all, take_more, take_more_set}
 use Rattle.msr_report.specs.Text.{byte_text, field_text, hex_text}
 use Rattle.msr_report_reader.specs.Fields.{AreBytes}
@@ -87,3 +89,57 @@ escaped b false true tail more plain is_space is = absurd (omega (arith, (same_c
 escaped b false false tail more plain is_space is =
     let other : b ≢ 32 = λ e. let wrong : true ≡ false = rw e at is_space in cc wrong in
     ((same_cons 37 37 tail (hex_text b ++ more) is).1, (plain, other))
+
+-- a hexadecimal digit, as its byte less that of `0`, or of `a`, tells it
+glyph_low : (n : ℕ) → n < 10 → digit_glyph false n ≡ 48 + n
+glyph_low n small = grind (arith, nat_tests)
+
+glyph_high : (n : ℕ) → 10 ≤ n → digit_glyph false n ≡ 87 + n
+glyph_high n large = grind (arith, nat_tests)
+
+pub same_glyph : (m n : ℕ) → m < 16 → n < 16 → digit_glyph false m ≡ digit_glyph false n → m ≡ n
+same_glyph m n small_m small_n is = grind (arith, nat_tests)
+
+pub record IsHexDigit (byte digit : ℕ) : Type 0 where
+  pub small : digit < 16
+  pub is : byte ≡ digit_glyph false digit
+
+pub decimal_hex : (byte digit : ℕ) → byte < 256 → digit ≡ (byte + (2 ^ 8 - 48)) % 2 ^ 8 → digit < 10
+    → IsHexDigit byte digit
+decimal_hex byte digit fits is small =
+    let same : byte ≡ 48 + digit = omega arith in
+    record { small = omega arith; is = same ∙ sym (glyph_low digit small) }
+
+pub letter_hex : (byte letter : ℕ) → byte < 256 → letter ≡ (byte + (2 ^ 8 - 97)) % 2 ^ 8 → letter < 6
+    → IsHexDigit byte (letter + 10)
+letter_hex byte letter fits is small =
+    let same : byte ≡ 87 + (letter + 10) = omega arith in
+    record { small = omega arith; is = same ∙ sym (glyph_high (letter + 10) (omega arith)) }
+
+pub one_hex : (byte digit n : ℕ) → IsHexDigit byte digit → n < 16 → byte ≡ digit_glyph false n → digit ≡ n
+one_hex byte digit n is small same = same_glyph digit n is.small small (sym is.is ∙ same)
+
+no_hex_by : (low : Bool) (byte digit letter n : ℕ) → nat_lt n 10 ≡ low → byte < 256
+    → digit ≡ (byte + (2 ^ 8 - 48)) % 2 ^ 8 → 10 ≤ digit → letter ≡ (byte + (2 ^ 8 - 97)) % 2 ^ 8 → 6 ≤ letter
+    → n < 16 → byte ≡ digit_glyph false n → ⊥
+no_hex_by true byte digit letter n test fits is_digit no_digit is_letter no_letter small is =
+    let low : n < 10 = grind (arith, nat_tests) in omega (arith, glyph_low n low)
+no_hex_by false byte digit letter n test fits is_digit no_digit is_letter no_letter small is =
+    let high : 10 ≤ n = grind (arith, nat_tests) in omega (arith, glyph_high n high)
+
+pub no_hex : (byte digit letter n : ℕ) → byte < 256 → digit ≡ (byte + (2 ^ 8 - 48)) % 2 ^ 8 → 10 ≤ digit
+    → letter ≡ (byte + (2 ^ 8 - 97)) % 2 ^ 8 → 6 ≤ letter → n < 16 → byte ≡ digit_glyph false n → ⊥
+no_hex byte digit letter n = no_hex_by (nat_lt n 10) byte digit letter n refl
+
+-- two hexadecimal digits
+pub hex_two : (text tail rest : List ℕ) (a b high low : ℕ) → text ≡ a ∷ tail → tail ≡ b ∷ rest → high < 16
+    → a ≡ digit_glyph false high → low < 16 → b ≡ digit_glyph false low → text ≡ hex_text (high * 16 + low) ++ rest
+hex_two text tail rest a b high low is_text is_tail small_high is_high small_low is_low =
+    let first : (high * 16 + low) / 16 ≡ high = omega arith in
+    let second : (high * 16 + low) % 16 ≡ low = omega arith in
+    rw (is_text, is_tail, is_high, is_low, first, second) refl
+
+pub hex_front : (text tail rest : List ℕ) (a n : ℕ) → text ≡ a ∷ tail → text ≡ hex_text n ++ rest
+    → (a ≡ digit_glyph false (n / 16)) × (tail ≡ digit_glyph false (n % 16) ∷ rest)
+hex_front text tail rest a n is_text is =
+    same_cons a (digit_glyph false (n / 16)) tail (digit_glyph false (n % 16) ∷ rest) (sym is_text ∙ is)

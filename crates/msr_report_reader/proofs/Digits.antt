@@ -1,5 +1,5 @@
 -- Decimal numbers in a text, and what stands after a word.
-use Rattle.std.proofs.Common.{◌≡◌, ◌≢◌, ◌∙◌, ap, sym, refl, rules, arith, ℕ, ◌&&◌, ◌==◌, ◌<◌, suc, ℤ, pos, negsuc, ◌^◌, Bool, true, false, List, [], ◌∷◌, ◌++◌, length, take, drop, decimal, Option, Some, None, MatchOption, IfSome, IsSomeAnd, Bor}
+use Rattle.std.proofs.Common.{◌≡◌, ◌≢◌, ◌∙◌, ap, sym, refl, rules, arith, ℕ, ◌+◌, ◌&&◌, ◌==◌, ◌<◌, ◌≤◌, suc, ℤ, pos, negsuc, ◌^◌, Bool, true, false, List, [], ◌∷◌, ◌++◌, length, take, drop, get_or, decimal, Option, Some, None, MatchOption, IfSome, IsSomeAnd, Bor}
 use Rattle.std.specs.Char.{is_ascii_digit}
 use Rattle.std.specs.List.{prefix_len}
 use Rattle.std.specs.Str.{all_ascii_digits}
@@ -10,7 +10,8 @@ use Rattle.std.specs.Fmt.{signed_decimal}
 use Rattle.std.specs.Int.RustNames.{FitsSigned}
 use Rattle.std.specs.Int.{w32}
 use lib.Signed.{mag}
-use Rattle.std.proofs.lemmas.List.{append_cancel_left}
+use Rattle.std.proofs.lemmas.List.{append_cancel_left, drop_more}
+use Rattle.std.proofs.lemmas.List.Sums.{prefix_len-drop_all, prefix_len-drop_no}
 use Rattle.std.proofs.Math.Seq.{take-append_seam, drop-append_seam}
 use Rattle.msr_report_reader.specs.Fields.{EndsNumber, signed_len, with_digits}
 
@@ -36,6 +37,38 @@ pub both_true : (a b : Bool) → (a && b) ≡ true → (a ≡ true) × (b ≡ tr
 both_true true b h = (refl, h)
 both_true false b h = absurd (cc)
 
+-- the first `count` bytes are digits
+pub record CountsOn (count : ℕ) (text : List ℕ) : Type 0 where
+  pub within : count ≤ length text
+  pub sum : count + prefix_len is_ascii_digit (drop count text) ≡ prefix_len is_ascii_digit text
+
+pub counts_none : (text : List ℕ) → CountsOn 0 text
+counts_none text = record { within = omega arith; sum = omega arith }
+
+pub counts_more : (count : ℕ) (text : List ℕ) → CountsOn count text → count < length text
+    → is_ascii_digit (get_or text count 0) ≡ true → CountsOn (count + 1) text
+counts_more count text so_far more digit =
+    let here : prefix_len is_ascii_digit (drop count text) ≡ 1 + prefix_len is_ascii_digit (drop (count + 1) text) =
+    rw (drop_more text count 0 more, digit) refl in
+    record { within = omega arith; sum = omega (arith, here, so_far.sum) }
+
+pub counts_all : (count : ℕ) (text : List ℕ) → CountsOn count text → length text ≤ count
+    → count ≡ prefix_len is_ascii_digit text
+counts_all count text so_far end =
+    omega (arith, so_far.sum, prefix_len-drop_all is_ascii_digit text count end)
+
+pub counts_stop : (count : ℕ) (text : List ℕ) → CountsOn count text → count < length text
+    → is_ascii_digit (get_or text count 0) ≡ false → count ≡ prefix_len is_ascii_digit text
+counts_stop count text so_far more other =
+    omega (arith, so_far.sum, prefix_len-drop_no is_ascii_digit text count 0 more other)
+
+pub record IsDigit (d : ℕ) : Type 0 where
+  pub least : 48 ≤ d
+  pub most : d ≤ 57
+
+pub digit_range : (d : ℕ) → is_ascii_digit d ≡ true → IsDigit d
+digit_range d is = record { least = grind (arith, nat_tests); most = grind (arith, nat_tests) }
+
 pub digits_front : (a rest : List ℕ) → all_ascii_digits a ≡ true → EndsNumber rest
     → prefix_len is_ascii_digit (a ++ rest) ≡ length a
 digits_front [] [] all ends = refl
@@ -52,6 +85,17 @@ parts text a rest front back count is_count is_front is_back is all ends =
     (rw (is_front, is, many) (take-append_seam a rest), rw (is_back, is, many) (drop-append_seam a rest))
 
 -- the same with a `-` before it
+pub signed_minus : (text digits : List ℕ) (first count : ℕ) → text ≡ first ∷ digits → first ≡ 45
+    → count ≡ prefix_len is_ascii_digit digits → 1 + count ≡ signed_len text
+signed_minus text digits first count is minus counted = rw (is, minus, counted) refl
+
+pub signed_other : (text digits : List ℕ) (first count : ℕ) → text ≡ first ∷ digits → first ≢ 45
+    → count ≡ prefix_len is_ascii_digit text → count ≡ signed_len text
+signed_other text digits first count is other counted =
+    let test : (first == 45) ≡ false = grind (arith, nat_tests) in
+    let same : prefix_len is_ascii_digit (first ∷ digits) ≡ signed_len (first ∷ digits) = rw test refl in
+    counted ∙ ap (prefix_len is_ascii_digit) is ∙ same ∙ ap signed_len (sym is)
+
 not_minus : (d : ℕ) → is_ascii_digit d ≡ true → (d == 45) ≡ false
 not_minus d h = grind (arith, nat_tests)
 

@@ -5,7 +5,7 @@ use Rattle.std.specs.Str.{all_ascii_digits}
 use Rattle.std.proofs.lemmas.Str.Parse.{digits_value_short, digit_at}
 use Rattle.std.proofs.lemmas.Fmt.{decimal-digits_value, digits_value-decimal, length-decimal-le}
 use Rattle.std.proofs.lemmas.Bool.Decides.{nat_tests}
-use Rattle.std.proofs.lemmas.List.{length-take-le, take_more, length-replicate}
+use Rattle.std.proofs.lemmas.List.{length-take-le, take_all, take_more, length-replicate}
 use Rattle.std.proofs.Math.Nat.{pow-le-pow_right}
 use Rattle.std.proofs.Math.Seq.{take-append_seam, drop-append_seam}
 use Rattle.msr_report.specs.Text.{padded_decimal}
@@ -39,6 +39,15 @@ reads_more digits i value d so_far more short is digit =
     let few : length (take (i + 1) digits) ≤ 6 = omega (arith, length-take-le (i + 1) digits (omega arith)) in
     let bound = digits_value_short own (take (i + 1) digits) 6 every few in
     record { all = every; is = sum; small = omega arith }
+
+pub reads_none : (digits : List ℕ) → ReadsDigits digits 0 0
+reads_none digits = record { all = refl; is = refl; small = omega arith }
+
+pub reads_all : (digits : List ℕ) (i value : ℕ) → ReadsDigits digits i value → length digits ≤ i
+    → (all_ascii_digits digits ≡ true) × (value ≡ with_digits 0 digits)
+reads_all digits i value so_far end =
+    let whole = take_all i digits end in
+    (ap all_ascii_digits (sym whole) ∙ so_far.all, so_far.is ∙ ap (with_digits 0) whole)
 
 pub all_are_digits : (digits : List ℕ) (i : ℕ) → all_ascii_digits digits ≡ true → i < length digits
     → is_ascii_digit (get_or digits i 0) ≡ true

@@ -14,6 +14,7 @@ use Rattle.msr_report.specs.Text.{hex_text, byte_text, field_text, padded_decima
 use Rattle.msr_report_reader.specs.Fields.{EndsNumber, AreBytes, signed_len, with_digits, clock_then, split_then}
 use Rattle.msr_report_reader.proofs.Digits.{parts, signed_parts, short, decimal_is_digits}
 use Rattle.msr_report_reader.proofs.LineFeeds.{same_cons}
+use Rattle.msr_report_reader.proofs.Bytes.{same_glyph}
 use Rattle.msr_report_reader.proofs.Instants.{split_same}
 use Rattle.msr_report_reader.proofs.Padded.{reads_padded, padded_parts}
 
@@ -36,9 +37,6 @@ same_signed y z xs ys fits_y fits_z ends_xs ends_ys is =
     let first = signed_parts text y xs (take count text) (drop count text) count refl refl refl refl fits_y ends_xs in
     let second = signed_parts text z ys (take count text) (drop count text) count refl refl refl is fits_z ends_ys in
     (signed_decimal_injective y z (short y fits_y) (short z fits_z) (sym first.0 ∙ second.0), sym first.1 ∙ second.1)
-
-same_glyph : (m n : ℕ) → m < 16 → n < 16 → digit_glyph false m ≡ digit_glyph false n → m ≡ n
-same_glyph m n small_m small_n is = grind (arith, nat_tests)
 
 pub same_hex : (m n : ℕ) (xs ys : List ℕ) → m < 256 → n < 256 → hex_text m ++ xs ≡ hex_text n ++ ys
     → (m ≡ n) × (xs ≡ ys)
@@ -126,7 +124,7 @@ record IsSameTime (time other : BTime) (m n : ℕ) (xs ys : List ℕ) : Type 0 w
   micros_are : m ≡ n
   rest_is : xs ≡ ys
 
-same_fields : (a b : BTime) → a.year ≡ b.year → a.day ≡ b.day → a.hour ≡ b.hour → a.minute ≡ b.minute
+pub same_fields : (a b : BTime) → a.year ≡ b.year → a.day ≡ b.day → a.hour ≡ b.hour → a.minute ≡ b.minute
     → a.second ≡ b.second → a.fract ≡ b.fract → a ≡ b
 same_fields a b year day hour minute second fract =
     let same : record {

@@ -1,5 +1,5 @@
 -- What a step of reading does, from what stands at the start of the text.
-use Rattle.std.proofs.Common.{◌≡◌, ◌∙◌, ap, sym, refl, inl, inr, subst, arith, ℕ, ◌-◌, ◌<◌, ◌≤◌, ◌^◌, ◌==◌, ◌||◌, Bool, true, false, List, [], ◌∷◌, ◌++◌, append_assoc, drop, length, length-append, decimal, codes, All, map, Result, Ok, Err}
+use Rattle.std.proofs.Common.{◌≡◌, ◌∙◌, ap, sym, refl, inl, inr, subst, arith, ℕ, ◌-◌, ◌<◌, ◌≤◌, ◌^◌, ◌==◌, ◌||◌, Bool, true, false, List, [], ◌∷◌, ◌++◌, append_assoc, drop, take, take_all, length, length-append, length-drop, decimal, codes, All, map, Result, Ok, Err}
 use Rattle.std.proofs.Math.Seq.{drop-append_seam}
 use Rattle.std.proofs.lemmas.List.{append-nil}
 use Rattle.std.proofs.lemmas.List.Elements.{All-push}
@@ -15,7 +15,7 @@ use Rattle.msr_report_reader.specs.Fault.{IsOneLine, IsFaultLine}
 use Rattle.msr_report_reader.specs.LastLine.{IsLast}
 use Rattle.msr_report_reader.specs.Reading.{IsReadFrom}
 use Rattle.msr_report_reader.specs.TextFault.{IsTextFault}
-use Rattle.msr_report_reader.specs.Draft.{IsEnough, IsLineRefused, IsDraftStep, IsConsumed, HasRead, ReadTo, ReadSegments, ReadOpening, ReadEnd, numbers_then, stop_byte}
+use Rattle.msr_report_reader.specs.Draft.{IsEnough, IsLineRefused, IsDraftStep, IsConsumed, IsCut, HasRead, ReadTo, ReadSegments, ReadOpening, ReadEnd, numbers_then, stop_byte}
 use Rattle.msr_report_reader.specs.declared.fault.ReportFault.{ReportFault}
 use Rattle.msr_report_reader.specs.declared.fault.ReportFault.TheVariants.{Line, Read, Memory}
 use Rattle.msr_report_reader.specs.declared.first.FirstLines.{FirstLines}
@@ -301,6 +301,27 @@ pub left_whole : (draft : Draft) (whole rest : List ℕ) → (left : Left draft 
     → left.read ≡ whole
 left_whole draft whole rest left none =
     sym (left.is ∙ ap (λ (l : List ℕ). left.read ++ l) none ∙ append-nil left.read)
+
+pub taken_within : (old new : Draft) (text : List ℕ) (n : ℕ) → IsConsumed old new text n → n ≤ length text
+taken_within old new text n taken =
+    omega (arith, ap length taken.is, length-append taken.taken taken.rest, taken.count)
+
+pub left_taken : (old new : Draft) (whole text : List ℕ) (n : ℕ) → Left old whole text → IsConsumed old new text n
+    → Left new whole (take (length text - n) (drop n text))
+left_taken old new whole text n left taken =
+    let rest : take (length text - n) (drop n text) ≡ taken.rest =
+    take_all (length text - n) (drop n text) (omega (arith, length-drop n text)) ∙ drop_taken old new text n taken in
+    record {
+      read = left.read ++ taken.taken;
+      follows = taken.follows left.read left.follows;
+      is = left.is ∙ ap (λ (l : List ℕ). left.read ++ l) taken.is ∙ sym (append_assoc left.read taken.taken taken.rest)
+          ∙ ap (λ (l : List ℕ). (left.read ++ taken.taken) ++ l) (sym rest);
+    }
+
+pub left_cut : (old new : Draft) (whole text : List ℕ) (line : ℕ) → Left old whole text → IsCut old new text line
+    → IsFaultLine whole line
+left_cut old new whole text line left cut =
+    subst (λ (t : List ℕ). IsFaultLine t line) (sym left.is) (cut.fault left.read left.follows)
 
 -- a whole report was read
 pub whole_report : (report : Report) (first : FirstLines) (past : List ℕ) → report.length ≡ first.length

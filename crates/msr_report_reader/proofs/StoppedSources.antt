@@ -1,5 +1,5 @@
 -- What was read of a source, and what is answered when it was not read to its end.
-use Rattle.std.proofs.Common.{◌≡◌, ◌∙◌, ◌⊎◌, inl, inr, ap, sym, refl, subst, arith, List, ℕ, ◌<◌, ◌≤◌, ◌+◌, ◌-◌, ◌*◌, ◌^◌, true, false, [], ◌++◌, ◌↔◌, append_assoc, append-nil, drop, length, length-append, length-drop, if◌then◌else◌, Result, Ok, Err, IfOk, IfErr, IsErrOf}
+use Rattle.std.proofs.Common.{◌≡◌, ◌∙◌, ◌⊎◌, inl, inr, ap, sym, refl, subst, arith, List, ℕ, ◌<◌, ◌+◌, ◌-◌, ◌*◌, ◌^◌, true, false, [], ◌++◌, ◌↔◌, append_assoc, append-nil, drop, length, length-drop, if◌then◌else◌, Result, Ok, Err, IfOk, IfErr, IsErrOf}
 use Rattle.msr_devices.specs.Device.{CountsFew, Device, Gives, HasFailed, HasLeft, IsCalm, IsSteady}
 use Rattle.msr_devices.specs.ReadBuffer.{Window, IsFilled, StopsFilling}
 use Rattle.msr_devices.specs.declared.fault.DeviceFault.{DeviceFault}
@@ -15,7 +15,7 @@ use Rattle.msr_report_reader.specs.declared.draft.Progress.TheVariants.{Cut, Who
 use Rattle.msr_report_reader.specs.declared.first.FirstLines.{FirstLines}
 use Rattle.msr_report_reader.specs.declared.fault.ReportFault.{ReportFault}
 use Rattle.msr_report_reader.specs.declared.fault.ReportFault.TheVariants.{Line, Read, Memory}
-use Rattle.msr_report_reader.proofs.Steps.{drop_taken}
+use Rattle.msr_report_reader.proofs.Steps.{drop_taken, taken_within}
 
 pub stopped : (source : Device) (why : DeviceFault)
     → (text : List ℕ) × HasLeft source text × ReadsReport text (Err (report_fault_of_fill why))
@@ -123,10 +123,6 @@ reading_none start draft buffer follows is = record {
 -- which few enough come to be counted.
 abbrev pub left_with : Device → Window → ℕ
 left_with source buffer = if buffer.ended then 0 else 2 * (2 ^ 64 - source.moved) + length buffer.bytes + 1
-
-pub taken_within : (old new : Draft) (text : List ℕ) (n : ℕ) → IsConsumed old new text n → n ≤ length text
-taken_within old new text n taken =
-    omega (arith, ap length taken.is, length-append taken.taken taken.rest, taken.count)
 
 pub taken_less : (now : Device) (old new : Draft) (before after : Window) (n : ℕ) → before.ended ≡ false
     → IsConsumed old new before.bytes n → after.bytes ≡ drop n before.bytes → after.ended ≡ before.ended

@@ -74,11 +74,14 @@ fn stop(text: &[u8]) -> Option<(bool, &[u8])>
     ensures only { (last : Bool) (rest : List ℕ) → text.now ≡ stop_byte last ∷ rest
         → IsSomeAnd result (λ x. (x.0 ≡ last) × (x.1.now ≡ rest)) }
 {
-    match text {
-        [b' ', rest @ ..] => Some((false, rest)),
-        [b'\n', rest @ ..] => Some((true, rest)),
-        _ => None,
+    let (first, rest) = text.split_first()?;
+    if *first == b' ' {
+        return Some((false, rest));
     }
+    if *first == b'\n' {
+        return Some((true, rest));
+    }
+    None
 }
 
 /// The word before the separators.

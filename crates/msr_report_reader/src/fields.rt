@@ -75,11 +75,15 @@ fn hex_digit(byte: u8) -> Option<u8>
     ensures found { IfSome result (λ n. (n < 16) × (byte ≡ digit_glyph false n)) }
     ensures only { (n : ℕ) → n < 16 → byte ≡ digit_glyph false n → IsSomeAnd result (λ x. x ≡ n) }
 {
-    match byte {
-        b'0'..=b'9' => Some(byte - b'0'),
-        b'a'..=b'f' => Some(byte - b'a' + 10),
-        _ => None,
+    let digit = byte.wrapping_sub(b'0');
+    if digit < 10 {
+        return Some(digit);
     }
+    let letter = byte.wrapping_sub(b'a');
+    if letter < 6 {
+        return Some(letter + 10);
+    }
+    None
 }
 
 /// Two lower-case hexadecimal digits.
@@ -88,11 +92,10 @@ pub(crate) fn hex_byte(text: &[u8]) -> Option<(u8, &[u8])>
     ensures only { (n : ℕ) (rest : List ℕ) → n < 256 → text.now ≡ hex_text n ++ rest
         → IsSomeAnd result (λ x. (x.0 ≡ n) × (x.1.now ≡ rest)) }
 {
-    let [high, low, rest @ ..] = text else {
-        return None;
-    };
-    let high = hex_digit(*high)?;
-    let low = hex_digit(*low)?;
+    let (first, text) = text.split_first()?;
+    let (second, rest) = text.split_first()?;
+    let high = hex_digit(*first)?;
+    let low = hex_digit(*second)?;
     Some((high * 16 + low, rest))
 }
 
@@ -157,9 +160,13 @@ fn count_signed(text: &[u8]) -> usize
     ensures within { result ≤ length text.now }
     ensures count { result ≡ signed_len text.now }
 {
-    match text {
-        [b'-', digits @ ..] => 1 + count_digits(digits),
-        _ => count_digits(text),
+    let Some((first, digits)) = text.split_first() else {
+        return 0;
+    };
+    if *first == b'-' {
+        1 + count_digits(digits)
+    } else {
+        count_digits(text)
     }
 }
 

@@ -34,6 +34,14 @@ struct ChannelName {
     channel: [u8; 3],
 }
 
+/// Each field of a name is so many bytes.
+fn name_in_range(name: ChannelName)
+    ensures network { AreBytes 2 name.network }
+    ensures station { AreBytes 5 name.station }
+    ensures location { AreBytes 2 name.location }
+    ensures channel { AreBytes 3 name.channel }
+{}
+
 /// Network, station, location and channel, with dots between them.
 fn channel_name(text: &[u8]) -> Option<(ChannelName, &[u8])>
     ensures found { IfSome result (λ x. text.now ≡ name_then x.0.network x.0.station x.0.location x.0.channel x.1.now) }
@@ -82,9 +90,15 @@ fn flags(text: &[u8]) -> Option<(u8, u8, u8, &[u8])>
         → text.now ≡ flags_then key.activity key.clock key.data_quality rest
         → IsSomeAnd result (λ x. x.3.now ≡ rest) }
 {
-    let (activity, text) = byte_after(text, b" flags ")?;
-    let (clock, text) = byte_after(text, b" ")?;
-    let (quality, text) = byte_after(text, b" ")?;
+    let Some((activity, text)) = byte_after(text, b" flags ") else {
+        return None;
+    };
+    let Some((clock, text)) = byte_after(text, b" ") else {
+        return None;
+    };
+    let Some((quality, text)) = byte_after(text, b" ") else {
+        return None;
+    };
     Some((activity, clock, quality, text))
 }
 
@@ -143,12 +157,25 @@ pub(crate) fn channel_key(text: &[u8]) -> Option<(Key, &[u8])>
     ensures only { (key : ChannelKey) (rest : List ℕ) → IsReportKey key → EndsNumber rest → text.now ≡ key_then key rest
         → IsSomeAnd result (λ x. x.1.now ≡ rest) }
 {
-    let (name, quality, text) = named(text)?;
-    let (factor, multiplier, text) = rate(text)?;
-    let rate = Rate::new(factor, multiplier)?;
-    let (activity, clock, data_quality, text) = flags(text)?;
-    let (correction, text) = signed(text, b" correction ")?;
-    let (timing, text) = timing(text)?;
+    let Some((name, quality, text)) = named(text) else {
+        return None;
+    };
+    let Some((factor, multiplier, text)) = rate(text) else {
+        return None;
+    };
+    let Some(rate) = Rate::new(factor, multiplier) else {
+        return None;
+    };
+    let Some((activity, clock, data_quality, text)) = flags(text) else {
+        return None;
+    };
+    let Some((correction, text)) = signed(text, b" correction ") else {
+        return None;
+    };
+    let Some((timing, text)) = timing(text) else {
+        return None;
+    };
+    name_in_range(name);
     let ChannelName {
         network,
         station,

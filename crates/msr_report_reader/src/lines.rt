@@ -81,9 +81,15 @@ pub(crate) fn counts(text: &[u8]) -> Option<(Counts, &[u8])>
         (codes " empty " ++ (decimal empty ++ (codes " mismatched " ++ (decimal mismatched ++ (10 ∷ rest))))))
         → IsSomeAnd result (λ x. x.1.now ≡ rest) }
 {
-    let (read, text) = counted(text, b"read ")?;
-    let (empty, text) = counted(text, b" empty ")?;
-    let (mismatched, text) = numbered(text, b" mismatched ")?;
+    let Some((read, text)) = counted(text, b"read ") else {
+        return None;
+    };
+    let Some((empty, text)) = counted(text, b" empty ") else {
+        return None;
+    };
+    let Some((mismatched, text)) = numbered(text, b" mismatched ") else {
+        return None;
+    };
     let counts = Counts {
         read,
         empty,
@@ -101,9 +107,15 @@ pub(crate) fn end(text: &[u8]) -> Option<(u64, u64, &[u8])>
         ++ (codes " segments " ++ (decimal records ++ (codes " records" ++ (10 ∷ rest)))))
         → IsSomeAnd result (λ x. (x.0 ≡ segments) × (x.1 ≡ records) × (x.2.now ≡ rest)) }
 {
-    let (segments, text) = counted(text, b"end ")?;
-    let (records, text) = counted(text, b" segments ")?;
-    let text = after(text, b" records\n")?;
+    let Some((segments, text)) = counted(text, b"end ") else {
+        return None;
+    };
+    let Some((records, text)) = counted(text, b" segments ") else {
+        return None;
+    };
+    let Some(text) = after(text, b" records\n") else {
+        return None;
+    };
     Some((segments, records, text))
 }
 
@@ -129,10 +141,18 @@ pub(crate) fn opening(text: &[u8]) -> Option<(FirstLine, &[u8])>
     let Some((key, text)) = channel_key(text) else {
         return None;
     };
-    let text = after(text, b" start ")?;
-    let (start, text) = instant(text)?;
-    let (samples, text) = counted(text, b" samples ")?;
-    let (records, text) = numbered(text, b" records ")?;
+    let Some(text) = after(text, b" start ") else {
+        return None;
+    };
+    let Some((start, text)) = instant(text) else {
+        return None;
+    };
+    let Some((samples, text)) = counted(text, b" samples ") else {
+        return None;
+    };
+    let Some((records, text)) = numbered(text, b" records ") else {
+        return None;
+    };
     let line = FirstLine {
         key,
         start,

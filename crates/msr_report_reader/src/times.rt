@@ -60,9 +60,15 @@ fn clock(text: &[u8]) -> Option<(u8, u8, u8, &[u8])>
         → text.now ≡ clock_then hour minute second rest
         → IsSomeAnd result (λ x. (x.0 ≡ hour) × (x.1 ≡ minute) × (x.2 ≡ second) × (x.3.now ≡ rest)) }
 {
-    let (hour, text) = padded(text, b"", 2)?;
-    let (minute, text) = padded(text, b":", 2)?;
-    let (second, text) = padded(text, b":", 2)?;
+    let Some((hour, text)) = padded(text, b"", 2) else {
+        return None;
+    };
+    let Some((minute, text)) = padded(text, b":", 2) else {
+        return None;
+    };
+    let Some((second, text)) = padded(text, b":", 2) else {
+        return None;
+    };
     Some((hour as u8, minute as u8, second as u8, text))
 }
 
@@ -74,10 +80,18 @@ fn fields(text: &[u8]) -> Option<(BTime, u8, &[u8])>
         → text.now ≡ split_then time micros rest
         → IsSomeAnd result (λ x. (x.0 ≡ time) × (x.1 ≡ micros) × (x.2.now ≡ rest)) }
 {
-    let (year, day, text) = date(text)?;
-    let text = after(text, b",")?;
-    let (hour, minute, second, text) = clock(text)?;
-    let (fraction, text) = padded(text, b".", 6)?;
+    let Some((year, day, text)) = date(text) else {
+        return None;
+    };
+    let Some(text) = after(text, b",") else {
+        return None;
+    };
+    let Some((hour, minute, second, text)) = clock(text) else {
+        return None;
+    };
+    let Some((fraction, text)) = padded(text, b".", 6) else {
+        return None;
+    };
     let time = BTime {
         year,
         day,

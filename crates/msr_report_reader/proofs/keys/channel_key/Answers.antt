@@ -19,96 +19,96 @@ after_rate key rest = flags_then key.activity key.clock key.data_quality (after_
 abbrev after_quality : Key → List ℕ → List ℕ
 after_quality key rest = rate_then key.rate.factor key.rate.multiplier (after_rate key rest)
 
-pub returns-in_err-factor-clause-only : goal.returns-in_err-factor-clause-only
-returns-in_err-factor-clause-only c key rest is_key ends is =
-    let name = c.in_ok-name.ensures.only key (after_quality key rest) is_key is in
-    absurd (c.in_err-factor.ensures.only key (after_rate key rest) is_key refl name)
+pub returns-in_default-rate-clause-only : goal.returns-in_default-rate-clause-only
+returns-in_default-rate-clause-only c key rest is_key ends is =
+    let name = c.in-Some.ensures.only key (after_quality key rest) is_key is in
+    absurd (c.in_default-rate.ensures.only key (after_rate key rest) is_key refl name)
 
-pub returns-in_err-rate-clause-only : goal.returns-in_err-rate-clause-only
-returns-in_err-rate-clause-only c key rest is_key ends is =
-    let name = c.in_ok-name.ensures.only key (after_quality key rest) is_key is in
-    let rate = c.in_ok-factor.ensures.only key (after_rate key rest) is_key refl name in
-    let factor : c.in_ok-factor.factor ≢ pos 0 = λ zero. is_key.some_factor (sym rate.0 ∙ zero) in
-    let multiplier : c.in_ok-factor.multiplier ≢ pos 0 = λ zero. is_key.some_multiplier (sym rate.1 ∙ zero) in
-    let fits_factor : FitsSigned w16 c.in_ok-factor.factor = rw rate.0 is_key.factor in
-    let fits_multiplier : FitsSigned w16 c.in_ok-factor.multiplier = rw rate.1 is_key.multiplier in
-    absurd (c.in_err-rate.ensures (
+pub returns-in_default-new-clause-only : goal.returns-in_default-new-clause-only
+returns-in_default-new-clause-only c key rest is_key ends is =
+    let name = c.in-Some.ensures.only key (after_quality key rest) is_key is in
+    let rate = c.in-Some-rate.ensures.only key (after_rate key rest) is_key refl name in
+    let factor : c.in-Some-rate.factor ≢ pos 0 = λ zero. is_key.some_factor (sym rate.0 ∙ zero) in
+    let multiplier : c.in-Some-rate.multiplier ≢ pos 0 = λ zero. is_key.some_multiplier (sym rate.1 ∙ zero) in
+    let fits_factor : FitsSigned w16 c.in-Some-rate.factor = rw rate.0 is_key.factor in
+    let fits_multiplier : FitsSigned w16 c.in-Some-rate.multiplier = rw rate.1 is_key.multiplier in
+    absurd (c.in_default-new.ensures (
       λ zero. factor (sym (to_z-of_z fits_factor) ∙ zero),
       λ zero. multiplier (sym (to_z-of_z fits_multiplier) ∙ zero),
     ))
 
-pub returns-in_err-activity-clause-only : goal.returns-in_err-activity-clause-only
-returns-in_err-activity-clause-only c key rest is_key ends is =
-    let name = c.in_ok-name.ensures.only key (after_quality key rest) is_key is in
-    let rate = c.in_ok-factor.ensures.only key (after_rate key rest) is_key refl name in
-    absurd (c.in_err-activity.ensures.only key (after_flags key rest) is_key rate.2)
+pub returns-in_default-flags-clause-only : goal.returns-in_default-flags-clause-only
+returns-in_default-flags-clause-only c key rest is_key ends is =
+    let name = c.in-Some.ensures.only key (after_quality key rest) is_key is in
+    let rate = c.in-Some-rate.ensures.only key (after_rate key rest) is_key refl name in
+    absurd (c.in_default-flags.ensures.only key (after_flags key rest) is_key rate.2)
 
-pub returns-in_err-correction-clause-only : goal.returns-in_err-correction-clause-only
-returns-in_err-correction-clause-only c key rest is_key ends is =
-    let name = c.in_ok-name.ensures.only key (after_quality key rest) is_key is in
-    let rate = c.in_ok-factor.ensures.only key (after_rate key rest) is_key refl name in
-    let flags = c.in_ok-activity.ensures.only key (after_flags key rest) is_key rate.2 in
-    absurd (c.in_err-correction.ensures.only key.correction (after_correction key rest) is_key.correction refl flags)
+pub returns-in_default-signed-clause-only : goal.returns-in_default-signed-clause-only
+returns-in_default-signed-clause-only c key rest is_key ends is =
+    let name = c.in-Some.ensures.only key (after_quality key rest) is_key is in
+    let rate = c.in-Some-rate.ensures.only key (after_rate key rest) is_key refl name in
+    let flags = c.in-Some-flags.ensures.only key (after_flags key rest) is_key rate.2 in
+    absurd (c.in_default-signed.ensures.only key.correction (after_correction key rest) is_key.correction refl flags)
 
-pub returns-in_err-timing-clause-only : goal.returns-in_err-timing-clause-only
-returns-in_err-timing-clause-only c key rest is_key ends is =
-    let name = c.in_ok-name.ensures.only key (after_quality key rest) is_key is in
-    let rate = c.in_ok-factor.ensures.only key (after_rate key rest) is_key refl name in
-    let flags = c.in_ok-activity.ensures.only key (after_flags key rest) is_key rate.2 in
-    let correction = c.in_ok-correction.ensures.only key.correction (after_correction key rest) is_key.correction refl flags in
-    absurd (c.in_err-timing.ensures.only key.timing rest is_key.timing ends correction.1)
+pub returns-in_default-timing-clause-only : goal.returns-in_default-timing-clause-only
+returns-in_default-timing-clause-only c key rest is_key ends is =
+    let name = c.in-Some.ensures.only key (after_quality key rest) is_key is in
+    let rate = c.in-Some-rate.ensures.only key (after_rate key rest) is_key refl name in
+    let flags = c.in-Some-flags.ensures.only key (after_flags key rest) is_key rate.2 in
+    let correction = c.in-Some-signed.ensures.only key.correction (after_correction key rest) is_key.correction refl flags in
+    absurd (c.in_default-timing.ensures.only key.timing rest is_key.timing ends correction.1)
 
 pub returns-clause-only : goal.returns-clause-only
 returns-clause-only c key rest is_key ends is =
-    let name = c.in_ok-name.ensures.only key (after_quality key rest) is_key is in
-    let rate = c.in_ok-factor.ensures.only key (after_rate key rest) is_key refl name in
-    let flags = c.in_ok-activity.ensures.only key (after_flags key rest) is_key rate.2 in
-    let correction = c.in_ok-correction.ensures.only key.correction (after_correction key rest) is_key.correction refl flags in
-    let timing = c.in_ok-timing.ensures.only key.timing rest is_key.timing ends correction.1 in
+    let name = c.in-Some.ensures.only key (after_quality key rest) is_key is in
+    let rate = c.in-Some-rate.ensures.only key (after_rate key rest) is_key refl name in
+    let flags = c.in-Some-flags.ensures.only key (after_flags key rest) is_key rate.2 in
+    let correction = c.in-Some-signed.ensures.only key.correction (after_correction key rest) is_key.correction refl flags in
+    let timing = c.in-Some-timing.ensures.only key.timing rest is_key.timing ends correction.1 in
     timing.1
 
 pub returns-clause-found : goal.returns-clause-found
 returns-clause-found c =
-    let behind_correction = c.in_ok-correction.ensures.found
+    let behind_correction = c.in-Some-signed.ensures.found
     ∙ ap (λ (l : List ℕ). codes " correction " ++
-    (signed_decimal c.in_ok-correction.correction ++ l)) c.in_ok-timing.ensures.found in
-    let behind_flags = c.in_ok-activity.ensures.found
-    ∙ ap (flags_then c.in_ok-activity.activity c.in_ok-activity.clock c.in_ok-activity.data_quality)
+    (signed_decimal c.in-Some-signed.correction ++ l)) c.in-Some-timing.ensures.found in
+    let behind_flags = c.in-Some-flags.ensures.found
+    ∙ ap (flags_then c.in-Some-flags.activity c.in-Some-flags.clock c.in-Some-flags.data_quality)
     behind_correction in
-    let behind_rate = c.in_ok-factor.ensures.found
-    ∙ ap (rate_then c.in_ok-factor.factor c.in_ok-factor.multiplier) behind_flags in
-    let behind_name = c.in_ok-name.ensures.found
+    let behind_rate = c.in-Some-rate.ensures.found
+    ∙ ap (rate_then c.in-Some-rate.factor c.in-Some-rate.multiplier) behind_flags in
+    let behind_name = c.in-Some.ensures.found
     ∙ ap (λ (l : List ℕ). codes "segment "
-    ++ name_then c.in_ok-name.name.network c.in_ok-name.name.station c.in_ok-name.name.location
-    c.in_ok-name.name.channel (32 ∷ (c.in_ok-name.quality ∷ l))) behind_rate in
-    let fits_factor : FitsSigned w16 c.in_ok-factor.factor = search rules in
-    let fits_multiplier : FitsSigned w16 c.in_ok-factor.multiplier = search rules in
-    let factor : c.in_ok-rate.rate.factor ≡ c.in_ok-factor.factor =
-    ap (λ (r : SampleRate). r.factor) c.in_ok-rate.ensures.1 ∙ to_z-of_z fits_factor in
-    let multiplier : c.in_ok-rate.rate.multiplier ≡ c.in_ok-factor.multiplier =
-    ap (λ (r : SampleRate). r.multiplier) c.in_ok-rate.ensures.1 ∙ to_z-of_z fits_multiplier in
-    let fits_correction : FitsSigned w32 c.in_ok-correction.correction = search rules in
+    ++ name_then c.in-Some.name.network c.in-Some.name.station c.in-Some.name.location
+    c.in-Some.name.channel (32 ∷ (c.in-Some.quality ∷ l))) behind_rate in
+    let fits_factor : FitsSigned w16 c.in-Some-rate.factor = search rules in
+    let fits_multiplier : FitsSigned w16 c.in-Some-rate.multiplier = search rules in
+    let factor : c.in-Some-new.rate.factor ≡ c.in-Some-rate.factor =
+    ap (λ (r : SampleRate). r.factor) c.in-Some-new.ensures.1 ∙ to_z-of_z fits_factor in
+    let multiplier : c.in-Some-new.rate.multiplier ≡ c.in-Some-rate.multiplier =
+    ap (λ (r : SampleRate). r.multiplier) c.in-Some-new.ensures.1 ∙ to_z-of_z fits_multiplier in
+    let fits_correction : FitsSigned w32 c.in-Some-signed.correction = search rules in
     rw (factor, multiplier, to_z-of_z fits_correction) behind_name
 
 pub returns-clause-is_key : goal.returns-clause-is_key
 returns-clause-is_key c =
-    let fits_factor : FitsSigned w16 c.in_ok-factor.factor = search rules in
-    let fits_multiplier : FitsSigned w16 c.in_ok-factor.multiplier = search rules in
-    let factor : c.in_ok-rate.rate.factor ≡ c.in_ok-factor.factor =
-    ap (λ (r : SampleRate). r.factor) c.in_ok-rate.ensures.1 ∙ to_z-of_z fits_factor in
-    let multiplier : c.in_ok-rate.rate.multiplier ≡ c.in_ok-factor.multiplier =
-    ap (λ (r : SampleRate). r.multiplier) c.in_ok-rate.ensures.1 ∙ to_z-of_z fits_multiplier in
-    let fits_correction : FitsSigned w32 c.in_ok-correction.correction = search rules in
+    let fits_factor : FitsSigned w16 c.in-Some-rate.factor = search rules in
+    let fits_multiplier : FitsSigned w16 c.in-Some-rate.multiplier = search rules in
+    let factor : c.in-Some-new.rate.factor ≡ c.in-Some-rate.factor =
+    ap (λ (r : SampleRate). r.factor) c.in-Some-new.ensures.1 ∙ to_z-of_z fits_factor in
+    let multiplier : c.in-Some-new.rate.multiplier ≡ c.in-Some-rate.multiplier =
+    ap (λ (r : SampleRate). r.multiplier) c.in-Some-new.ensures.1 ∙ to_z-of_z fits_multiplier in
+    let fits_correction : FitsSigned w32 c.in-Some-signed.correction = search rules in
     record {
-      network = record { many = search rules; each = λ k. search rules };
-      station = record { many = search rules; each = λ k. search rules };
-      location = record { many = search rules; each = λ k. search rules };
-      channel = record { many = search rules; each = λ k. search rules };
-      quality = c.in_ok-name.ensures.quality;
+      network = c.name_in_range.ensures.network;
+      station = c.name_in_range.ensures.station;
+      location = c.name_in_range.ensures.location;
+      channel = c.name_in_range.ensures.channel;
+      quality = c.in-Some.ensures.quality;
       factor = rw factor fits_factor;
       multiplier = rw multiplier fits_multiplier;
-      some_factor = λ zero. c.in_ok-rate.ensures.0.0 (to_z-of_z fits_factor ∙ sym factor ∙ zero);
-      some_multiplier = λ zero. c.in_ok-rate.ensures.0.1 (to_z-of_z fits_multiplier ∙ sym multiplier ∙ zero);
+      some_factor = λ zero. c.in-Some-new.ensures.0.0 (to_z-of_z fits_factor ∙ sym factor ∙ zero);
+      some_multiplier = λ zero. c.in-Some-new.ensures.0.1 (to_z-of_z fits_multiplier ∙ sym multiplier ∙ zero);
       activity = search rules;
       clock = search rules;
       data_quality = search rules;

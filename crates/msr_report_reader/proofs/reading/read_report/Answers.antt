@@ -2,7 +2,8 @@ use Rattle.std.proofs.Common.{◌≡◌, ap, rules, true, false}
 use Rattle.std.proofs.lemmas.Result.{err_from_is_err_and}
 use Rattle.msr_devices.specs.ReadBuffer.{Window}
 use Rattle.msr_devices.proofs.Chaining.{steady_can_count, steady_then_few}
-use Rattle.msr_report_reader.proofs.StoppedSources.{finished, finished_tells, judged_tells, reading_fault, reading_filled, reading_none, reading_taken, rests, steady_few, stopped, stopped_tells, taken_less, taken_within}
+use Rattle.msr_report_reader.proofs.StoppedSources.{finished, finished_tells, judged_tells, reading_fault, reading_filled, reading_none, reading_taken, rests, steady_few, stopped, stopped_tells, taken_less}
+use Rattle.msr_report_reader.proofs.Steps.{taken_within}
 use Rattle.msr_report_reader.proofs.reading.read_report.Goals as goal
 
 pub returns-in_err-count-clause-answer : goal.returns-in_err-count-clause-answer
