@@ -170,7 +170,7 @@ impl<'a, R: Files> Tree for SystemTree<'a, R> {
     }
 
     fn finish(&mut self, path: &str, writer: SystemWriter<R::File>) -> Result<(), TreeFault> {
-        let answer = writer.finish_of(path);
+        let answer = writer.require_of(path);
         told(&mut self.reason, answer)
     }
 
