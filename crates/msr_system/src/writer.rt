@@ -1,7 +1,7 @@
 //! Making one of the system's files.
 ghost use Rattle.msr_devices.specs.Device.{CanCountCall};
 
-use crate::system::refusal;
+use crate::opening::refusal;
 use msr_devices::{FromWrite, Sink};
 use std::fs::OpenFile;
 use std::io;
@@ -38,14 +38,20 @@ impl<W: Write> SystemWriter<W> {
 impl<W: Write + OpenFile> SystemWriter<W> {
     /// The same, and its bytes are stored. A file system that cannot wait for that tells nothing.
     pub(crate) fn store_of(&self, path: &str) -> io::Result<()> {
-        self.require_of(path)?;
-        match self.sink.get_ref().sync_data() {
-            Ok(()) => Ok(()),
-            Err(error) => match error.kind() {
-                ErrorKind::InvalidInput | ErrorKind::Unsupported => Ok(()),
-                _ => Err(error),
-            },
+        match self.require_of(path) {
+            Ok(()) => unless_it_cannot(self.sink.get_ref().sync_data()),
+            refused => refused,
         }
+    }
+}
+
+fn unless_it_cannot(stored: io::Result<()>) -> io::Result<()> {
+    match stored {
+        Ok(()) => Ok(()),
+        Err(error) => match error.kind() {
+            ErrorKind::InvalidInput | ErrorKind::Unsupported => Ok(()),
+            _ => Err(error),
+        },
     }
 }
 
