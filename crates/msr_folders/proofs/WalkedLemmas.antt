@@ -1,12 +1,13 @@
 -- A walk, put together from visits.
-use Rattle.std.proofs.Common.{◌≡◌, ◌≢◌, ◌<◌, ◌==◌, inl, inr, ⊎_elim, ℕ, zero, suc, ◌-◌, Bool, true, false, if◌then◌else◌, List, [], ◌∷◌, ◌++◌, refl, sym, ◌∙◌, ap, subst, append_assoc, arith, get_or, length, Ok, Err, OnOk, Result, Option, unwrap_or}
+use Rattle.std.proofs.Common.{◌≡◌, ◌≢◌, ◌<◌, ◌==◌, inl, inr, ⊎_elim, ℕ, zero, suc, ◌-◌, Bool, true, false, if◌then◌else◌, List, [], ◌∷◌, ◌++◌, refl, sym, ◌∙◌, ap, subst, append_assoc, arith, get_or, length, IfErr, Ok, Err, OnOk, Result, Option, unwrap_or}
 use Rattle.std.proofs.lemmas.Bool.Decides.{Decides-eqb}
 use Rattle.std.proofs.lemmas.List.{append-nil}
 use Rattle.std.specs.Borrow.{Bor}
 use Rattle.std.specs.Prelude.{String, string_bytes}
 use Rattle.msr_sds.specs.Folders.{IsDepthBelow}
-use Rattle.msr_devices.specs.Device.{Device}
+use Rattle.msr_devices.specs.Device.{CanCountCall, Device}
 use Rattle.msr_devices.specs.declared.fault.DeviceFault.{DeviceFault}
+use Rattle.msr_devices.proofs.Chaining.{steady_can_count}
 use Rattle.msr_tree.specs.Calls.{Goes}
 use Rattle.msr_tree.specs.Listing.{IsListing, IsTold, ListsFolder, has_folder, is_there, kind_now, listed, unlisted_after}
 use Rattle.msr_tree.specs.Steps.{Failed, Path, Step, Unlisted}
@@ -15,9 +16,9 @@ use Rattle.msr_tree.specs.declared.tree.TreeFault.{TreeFault}
 use Rattle.msr_tree.specs.declared.tree.TreeFault.TheVariants as tree_fault
 use Rattle.msr_tree.specs.declared.kind.FileKind.TheVariants.{Folder, Gone, Other}
 use Rattle.msr_folders.specs.Entries.{AreEntriesBelow, AreEntries, AreEntriesBetween, AreEntriesOf, AreOfEntry, Entry, ForEach, IsMoment, IsSameWithin, Left, Passed, Visit, WithoutList, unlisted_in}
-use Rattle.msr_folders.specs.Opening.{AreSoFar}
+use Rattle.msr_folders.specs.Opening.{AreSoFar, IsKindAt}
 use Rattle.msr_folders.specs.Paths.{below, joined}
-use Rattle.msr_folders.specs.Walks.{IsSaidBetween, IsWalked, TellsVisit, TellsWalk, VisitDoes, VisitLaws}
+use Rattle.msr_folders.specs.Walks.{HoldsAt, HoldsListed, IsSaidBetween, IsWalked, TellsVisit, TellsWalk, VisitDoes, VisitLaws}
 use Rattle.msr_folders.proofs.EntryLemmas.{earlier, entries_now, entries_seen, entry_seen, later, for_each_append, for_each_as, for_each_one, for_each_push, unlisted_append}
 
 -- one call, and then another
@@ -98,6 +99,10 @@ without place old new is = is.2 ∙ ap (λ l. Failed ∷ l) is.1
 pub on_ok_as : {A E : Type 0} {P Q : Type 0} (result : Result A E) → (P → Q) → OnOk result P → OnOk result Q
 on_ok_as (Ok x) so p = so p
 on_ok_as (Err why) so p = tt
+
+pub if_err_as : {A E : Type 0} {P Q : E → Type 0} (result : Result A E) → ((why : E) → P why → Q why) → IfErr result P → IfErr result Q
+if_err_as (Ok x) so p = tt
+if_err_as (Err why) so p = so why p
 
 -- the name of an entry among all
 pub name_at : {Z : Type 0} (items : List (String Z)) (i : ℕ) (item : String Z) → i < length items → get_or items i item ≡ item → get_or (listed items) i [] ≡ string_bytes item
@@ -349,12 +354,12 @@ module _ {V L T : Type 0} (tells : V → List L → (out0 out : Device) → (tal
       walk_as _ _ before after out0 out tally0 tally (λ old new visits are. folder_entry (Moment new) old root path levels visits some are) walk
 
   pub next_entry : (levels : ℕ) (path : Path) (kind : FileKind) (before after : List Step → Type 0) (out0 out : Device) (tally0 tally : T)
-      → (0 < levels → kind ≢ Folder) → (0 < levels → (past : List Step) → before past → IsTold past (joined root path) kind) → (levels ≡ 0 → kind ≡ Other)
+      → kind ≢ Folder → IsKindAt before (joined root path) levels kind
       → Visited (Entry path kind) before after out0 out tally0 tally
       → Walk (OfEntry levels path) before after out0 out tally0 tally
-  next_entry levels path kind before after out0 out tally0 tally alone told none visit =
+  next_entry levels path kind before after out0 out tally0 tally alone is visit =
       walk_visit _ (Entry path kind) before after out0 out tally0 tally refl
-      (λ old new went done. entry_alone (Moment new) old (record { since = laws.still visitor old; until = done }) root path levels kind alone (λ some. told some old went) none) visit
+      (λ old new went done. entry_alone (Moment new) old (record { since = laws.still visitor old; until = done }) root path levels kind (λ _. alone) (λ some. is.told some old went) is.none) visit
 
   -- all of them, and then the folder is left
   pub all_names : (levels : ℕ) (folder : Path) (names : List Path) (before mid after : List Step → Type 0) (out0 out1 out : Device) (tally0 tally1 tally : T)
@@ -402,15 +407,24 @@ module _ {V L T : Type 0} (tells : V → List L → (out0 out : Device) → (tal
   pub does_then : (before mid after : List Step → Type 0) → Goes before mid (does visitor) → Goes mid after (VisitDoes (does visitor) (listless visitor)) → Goes before after (does visitor)
   does_then before mid after one two = goes_then _ _ _ before mid after (λ old middle new first second. laws.onward visitor old middle new first second.does) one two
 
-  does_both : (before mid after : List Step → Type 0) → Goes before mid (does visitor) → Goes mid after (does visitor) → Goes before after (does visitor)
+  pub does_both : (before mid after : List Step → Type 0) → Goes before mid (does visitor) → Goes mid after (does visitor) → Goes before after (does visitor)
   does_both before mid after one two = goes_then _ _ _ before mid after (λ old middle new first second. laws.onward visitor old middle new first second) one two
 
-  does_visit : (before after : List Step → Type 0) → Goes before after (VisitDoes (does visitor) (listless visitor)) → Goes before after (does visitor)
+  pub does_visit : (before after : List Step → Type 0) → Goes before after (VisitDoes (does visitor) (listless visitor)) → Goes before after (does visitor)
   does_visit before after goes = goes_so _ _ before after (λ old new went is. is.does) goes
 
   pub does_walk : (Are : (old new : List Step) → List Visit → Type 0) (before after : List Step → Type 0) (out0 out : Device) (tally0 tally : T)
       → Walk Are before after out0 out tally0 tally → Goes before after (does visitor)
   does_walk Are before after out0 out tally0 tally walk = goes_so _ _ before after (λ old new went is. is.does) walk.goes
+
+  -- a visit that stops after others stops these too, and so does memory that is refused
+  pub stops_later : (Are : (old new : List Step) → List Visit → Type 0) (before after : List Step → Type 0) (out0 out1 out : Device) (tally0 tally1 : T)
+      → Walk Are before after out0 out1 tally0 tally1 → (fault : DeviceFault) → stops visitor out1 out fault → stops visitor out0 out fault
+  stops_later Are before after out0 out1 out tally0 tally1 walk fault stopped = laws.later visitor walk.lines out0 out1 out tally0 tally1 fault walk.told stopped
+
+  -- the calls can still be counted
+  pub told_can_count : (lines : List L) (out0 out : Device) (tally0 tally : T) → tells visitor lines out0 out tally0 tally → CanCountCall out0 → CanCountCall out
+  told_can_count lines out0 out tally0 tally told can = steady_can_count out0 out (laws.calm visitor lines out0 out tally0 tally told).steady can
 
   -- a folder was listed, whatever is answered
   does_listed : {N : Type 0} (place : Path) (names : N → List Path) (result : Result N TreeFault) (before after : List Step → Type 0)
@@ -432,6 +446,12 @@ module _ {V L T : Type 0} (tells : V → List L → (out0 out : Device) → (tal
       → Goes two after (VisitDoes (does visitor) (listless visitor)) → Goes before after (does visitor)
   does_entered place names result before one two after enters lists visits =
       does_then before two after (does_both before one two (does_visit before one enters) (does_listed place names result one two lists)) visits
+
+  -- it was entered before, and then listed
+  pub does_opened : {N : Type 0} (place : Path) (names : N → List Path) (result : Result N TreeFault) (before one two : List Step → Type 0)
+      → Goes before one (VisitDoes (does visitor) (listless visitor)) → Goes one two (ListsFolder place names result) → Goes before two (does visitor)
+  does_opened place names result before one two enters lists =
+      does_both before one two (does_visit before one enters) (does_listed place names result one two lists)
 
   -- before the first folder that is asked for
   pub no_folder_yet : (before : List Step → Type 0) (out : Device) (tally : T) → Walk (OfFolders []) before before out out tally tally
@@ -457,6 +477,27 @@ module _ {V L T : Type 0} (tells : V → List L → (out0 out : Device) → (tal
       )) are in
       for_each_push (AreEntriesBelow (Moment new) old root) taken folder visits more far (depth, deep, subst (λ n. AreEntries (Moment new) old root n folder.now more) so_deep there))
       one two
+
+  -- all of them, some of which were asked for
+  pub walked_folders : (folders : List (Bor Path)) (answer : Bool) → answer ≡ (length folders == 0) → answer ≡ false
+      → (before after : List Step → Type 0) (out0 out : Device) (tally0 tally : T)
+      → Walk (OfFolders folders) before after out0 out tally0 tally
+      → Walk (λ old new. AreEntriesBetween (does visitor) old new root folders) before after out0 out tally0 tally
+  walked_folders [] answer is some before after out0 out tally0 tally walk = absurd cc
+  walked_folders (folder ∷ folders) answer is some before after out0 out tally0 tally walk = walk
+
+-- what holds before a folder is listed holds after it, whatever is answered
+pub holds_listed : {V T N : Type 0} (holds : V → T → List Step → Type 0) → HoldsListed holds → (visitor : V) (tally : T) (place : Path) (names : N → List Path)
+    (result : Result N TreeFault) (before after : List Step → Type 0)
+    → HoldsAt before (holds visitor tally) → Goes before after (ListsFolder place names result) → HoldsAt after (holds visitor tally)
+holds_listed {N = N} holds laws visitor tally place names result before after held goes = λ new went.
+    let sooner = goes.from new went in by result sooner.0 new (held sooner.0 sooner.1) sooner.2
+  where
+    by : (answer : Result N TreeFault) (old new : List Step) → holds visitor tally old → ListsFolder place names answer old new → holds visitor tally new
+    by (Ok x) old new held lists = subst (λ l. holds visitor tally l) (sym lists.0) held
+    by (Err tree_fault.Memory) old new held lists = subst (λ l. holds visitor tally l) (sym lists) held
+    by (Err tree_fault.Failed) old new held lists =
+        subst (λ l. holds visitor tally l) (sym (lists.2 ∙ ap (λ l. Failed ∷ l) lists.1)) (laws.stays visitor tally old place held)
 
 -- a walk of entries that stay as they were
 pub tells_now : {L T : Type 0} (Tells : List L → (out0 out : Device) → (tally0 tally : T) → Type 0) (Says : (old new : List Step) → Visit → List L → Type 0)

@@ -1,8 +1,10 @@
--- What was told of a folder up to its first entry.
-use Rattle.std.specs.Prelude.{ℕ, List, [], Option, None, Some}
+-- What was told of a folder up to its first entry, and what is known of an entry.
+use Rattle.std.specs.Prelude.{◌≡◌, ◌<◌, ℕ, List, [], Option, None, Some}
 use Rattle.msr_devices.specs.Device.{Device}
-use Rattle.msr_tree.specs.Listing.{IsListing, listed}
+use Rattle.msr_tree.specs.Listing.{IsListing, IsTold, listed}
 use Rattle.msr_tree.specs.Steps.{Path, Step}
+use Rattle.msr_tree.specs.declared.kind.FileKind.{FileKind}
+use Rattle.msr_tree.specs.declared.kind.FileKind.TheVariants.{Folder, Other}
 use Rattle.msr_folders.specs.Entries.{AreEntries, AreOfEntry, ForEach, IsMoment, Visit}
 use Rattle.msr_folders.specs.Paths.{below, joined}
 use Rattle.msr_folders.specs.Walks.{TellsWalk}
@@ -24,3 +26,9 @@ OpensFolder Tells Says Does Listless root levels folder None before after out0 o
     TellsWalk Tells Says Does Listless root (λ past new. AreEntries (IsMoment Does new) past root levels folder) before after out0 out tally0 tally
 OpensFolder Tells Says Does Listless root levels folder (Some opened) before after out0 out tally0 tally =
     TellsWalk Tells Says Does Listless root (λ past new. AreSoFar (IsMoment Does new) root levels folder (listed opened.names.items) [] past) before after out0 out tally0 tally
+
+-- What is known of an entry with so many levels of folders below: if there are none, nothing, and it is no folder.
+pub record IsKindAt (went : List Step → Type 0) (place : Path) (levels : ℕ) (kind : FileKind) : Type 0 where
+  pub some : kind ≡ Folder → 0 < levels
+  pub none : levels ≡ 0 → kind ≡ Other
+  pub told : 0 < levels → (past : List Step) → went past → IsTold past place kind

@@ -4,8 +4,8 @@ ghost use Rattle.msr_devices.specs.Device.{CanCountCall, Device};
 ghost use Rattle.msr_devices.specs.declared.fault.DeviceFault.{DeviceFault};
 ghost use Rattle.msr_tree.specs.Calls.{Goes};
 ghost use Rattle.msr_tree.specs.Steps.{Path, Step};
-ghost use Rattle.msr_folders.specs.Entries.{AreEntries, AreEntriesBetween, Entry, IsMoment, Left, Visit, WithoutList};
-ghost use Rattle.msr_folders.specs.Opening.{OpensFolder};
+ghost use Rattle.msr_folders.specs.Entries.{AreEntries, AreEntriesBetween, AreOfEntry, Entry, IsMoment, Left, Visit, WithoutList};
+ghost use Rattle.msr_folders.specs.Opening.{IsKindAt, OpensFolder};
 ghost use Rattle.msr_folders.specs.Paths.{joined};
 ghost use Rattle.msr_folders.specs.Walks.{HoldsAt, HoldsListed, TellsEntering, TellsVisit, TellsWalk, VisitDoes, VisitLaws};
 
@@ -14,7 +14,7 @@ use crate::paths::{entry_path, join};
 use msr_devices::{DeviceFault, Sink};
 use msr_sds::{FOLDERS, levels_below};
 use msr_tree::{FileKind, Tree, TreeFault};
-use std::alloc::Global;
+use std::alloc::{AllocError, Global};
 
 /// What is done on a walk: each visit prints to a sink, and counts, and may change the tree.
 pub trait EntryVisitor {
@@ -133,80 +133,118 @@ pub struct EntryWalk<'a, V> {
     pub visitor: &'a V,
 }
 
-/// Begins with a folder and lists it; nothing if it is left alone, or has no list.
-fn open_folder<T: Tree, V: EntryVisitor, O: Sink>(
-    walk: &EntryWalk<'_, V>,
-    tree: &mut T,
-    folder: &str,
+/// What stands in a place below the folder that is walked, if folders are gone into there; else it is not looked at.
+fn kind_at<T: Tree>(
+    alloc: Global,
+    tree: &T,
+    root: &str,
+    path: &str,
     levels: u8,
-    out: &mut O,
-    tally: &mut V::Tally,
-) -> Result<Option<Opened<V::Folder>>, DeviceFault>
-    requires count { CanCountCall (O.device out.old) }
-    requires root { V.root walk.now.visitor.now ≡ walk.now.root.now }
-    requires holds { HoldsAt (T.went tree.old) (V.holds walk.now.visitor.now tally.old) }
-    ensures told { IfOk result (λ opened. OpensFolder (V.tells walk.now.visitor.now) (V.says walk.now.visitor.now)
-        (V.does walk.now.visitor.now) (V.listless walk.now.visitor.now) walk.now.root.now levels folder.now opened
-        (T.went tree.old) (T.went tree.new) (O.device out.old) (O.device out.new) tally.old tally.new) }
-    ensures stops { IfErr result (V.stops walk.now.visitor.now (O.device out.old) (O.device out.new)) }
-    ensures does { Goes (T.went tree.old) (T.went tree.new) (V.does walk.now.visitor.now) }
-    ensures holds { HoldsAt (T.went tree.new) (V.holds walk.now.visitor.now tally.new) }
+) -> Result<FileKind, AllocError>
+    ensures { IfOk result (IsKindAt (T.went tree.now) (joined root.now path.now) levels) }
 {
-    let Some(entered) = walk.visitor.enter_folder(tree, folder, levels, out, tally)? else {
-        return Ok(None);
-    };
-    let place = join(walk.alloc, walk.root, folder)?;
-    match tree.list(place.as_str()) {
-        Ok(names) => Ok(Some(Opened { entered, names })),
-        Err(TreeFault::Memory) => Err(DeviceFault::Memory),
-        Err(TreeFault::Failed) => {
-            walk.visitor
-                .visit_unlisted(tree, folder, place.as_str(), out, tally)?;
-            Ok(None)
-        }
+    if levels == 0 {
+        return Ok(FileKind::Other);
     }
+    let place = join(alloc, root, path)?;
+    Ok(tree.kind(place.as_str()))
 }
 
-/// Visits the entries of the folder with that path, and of folders up to `levels` below it.
-fn visit_folder<T: Tree, V: EntryVisitor, O: Sink>(
-    walk: &EntryWalk<'_, V>,
-    tree: &mut T,
-    folder: &str,
-    levels: u8,
-    out: &mut O,
-    tally: &mut V::Tally,
-) -> Result<(), DeviceFault>
-    requires count { CanCountCall (O.device out.old) }
-    requires root { V.root walk.now.visitor.now ≡ walk.now.root.now }
-    requires holds { HoldsAt (T.went tree.old) (V.holds walk.now.visitor.now tally.old) }
-    ensures told { OnOk result (TellsWalk (V.tells walk.now.visitor.now) (V.says walk.now.visitor.now)
-        (V.does walk.now.visitor.now) (V.listless walk.now.visitor.now) walk.now.root.now
-        (λ past new. AreEntries (IsMoment (V.does walk.now.visitor.now) new) past walk.now.root.now levels folder.now)
-        (T.went tree.old) (T.went tree.new) (O.device out.old) (O.device out.new) tally.old tally.new) }
-    ensures stops { IfErr result (V.stops walk.now.visitor.now (O.device out.old) (O.device out.new)) }
-    ensures does { Goes (T.went tree.old) (T.went tree.new) (V.does walk.now.visitor.now) }
-    ensures holds { HoldsAt (T.went tree.new) (V.holds walk.now.visitor.now tally.new) }
-{
-    let Some(opened) = open_folder(walk, tree, folder, levels, out, tally)? else {
-        return Ok(());
-    };
-    let alloc = walk.alloc;
-    for name in &opened.names {
-        let path = entry_path(alloc, folder, name.as_str())?;
-        let place = join(alloc, walk.root, path.as_str())?;
-        let kind = if levels == 0 {
-            FileKind::Other
-        } else {
-            tree.kind(place.as_str())
+impl<V: EntryVisitor> EntryWalk<'_, V> {
+    /// Begins with a folder and lists it; nothing if it is left alone, or has no list.
+    fn open_folder<T: Tree, O: Sink>(
+        &self,
+        tree: &mut T,
+        folder: &str,
+        levels: u8,
+        out: &mut O,
+        tally: &mut V::Tally,
+    ) -> Result<Option<Opened<V::Folder>>, DeviceFault>
+        requires count { CanCountCall (O.device out.old) }
+        requires root { V.root self.now.visitor.now ≡ self.now.root.now }
+        requires holds { HoldsAt (T.went tree.old) (V.holds self.now.visitor.now tally.old) }
+        ensures told { IfOk result (λ opened. OpensFolder (V.tells self.now.visitor.now) (V.says self.now.visitor.now)
+            (V.does self.now.visitor.now) (V.listless self.now.visitor.now) self.now.root.now levels folder.now opened
+            (T.went tree.old) (T.went tree.new) (O.device out.old) (O.device out.new) tally.old tally.new) }
+        ensures stops { IfErr result (V.stops self.now.visitor.now (O.device out.old) (O.device out.new)) }
+        ensures does { Goes (T.went tree.old) (T.went tree.new) (V.does self.now.visitor.now) }
+        ensures holds { HoldsAt (T.went tree.new) (V.holds self.now.visitor.now tally.new) }
+    {
+        let Some(entered) = self.visitor.enter_folder(tree, folder, levels, out, tally)? else {
+            return Ok(None);
         };
-        if 0 < levels && kind == FileKind::Folder {
-            visit_folder(walk, tree, path.as_str(), levels - 1, out, tally)?;
-        } else {
-            walk.visitor
-                .visit_entry(tree, &opened.entered, path.as_str(), kind, out, tally)?;
+        let place = join(self.alloc, self.root, folder)?;
+        match tree.list(place.as_str()) {
+            Ok(names) => Ok(Some(Opened { entered, names })),
+            Err(TreeFault::Memory) => Err(DeviceFault::Memory),
+            Err(TreeFault::Failed) => {
+                self.visitor
+                    .visit_unlisted(tree, folder, place.as_str(), out, tally)?;
+                Ok(None)
+            }
         }
     }
-    walk.visitor.leave_folder(tree, folder, levels, out, tally)
+
+    /// Visits an entry of a folder with `levels` below it: what it is, or if it is gone into, its entries.
+    #[cycle(walk)]
+    fn visit_path<T: Tree, O: Sink>(
+        &self,
+        tree: &mut T,
+        entered: &V::Folder,
+        path: &str,
+        levels: u8,
+        out: &mut O,
+        tally: &mut V::Tally,
+    ) -> Result<(), DeviceFault>
+        requires count { CanCountCall (O.device out.old) }
+        requires root { V.root self.now.visitor.now ≡ self.now.root.now }
+        requires holds { HoldsAt (T.went tree.old) (V.holds self.now.visitor.now tally.old) }
+        ensures told { OnOk result (TellsWalk (V.tells self.now.visitor.now) (V.says self.now.visitor.now)
+            (V.does self.now.visitor.now) (V.listless self.now.visitor.now) self.now.root.now
+            (λ past new. AreOfEntry (IsMoment (V.does self.now.visitor.now) new) past self.now.root.now levels path.now)
+            (T.went tree.old) (T.went tree.new) (O.device out.old) (O.device out.new) tally.old tally.new) }
+        ensures stops { IfErr result (V.stops self.now.visitor.now (O.device out.old) (O.device out.new)) }
+        ensures does { Goes (T.went tree.old) (T.went tree.new) (V.does self.now.visitor.now) }
+        ensures holds { HoldsAt (T.went tree.new) (V.holds self.now.visitor.now tally.new) }
+    {
+        let kind = kind_at(self.alloc, &*tree, self.root, path, levels)?;
+        if kind == FileKind::Folder {
+            return self.visit_folder(tree, path, levels - 1, out, tally);
+        }
+        self.visitor
+            .visit_entry(tree, entered, path, kind, out, tally)
+    }
+
+    /// Visits the entries of the folder with that path, and of folders up to `levels` below it.
+    #[cycle(walk)]
+    fn visit_folder<T: Tree, O: Sink>(
+        &self,
+        tree: &mut T,
+        folder: &str,
+        levels: u8,
+        out: &mut O,
+        tally: &mut V::Tally,
+    ) -> Result<(), DeviceFault>
+        requires count { CanCountCall (O.device out.old) }
+        requires root { V.root self.now.visitor.now ≡ self.now.root.now }
+        requires holds { HoldsAt (T.went tree.old) (V.holds self.now.visitor.now tally.old) }
+        ensures told { OnOk result (TellsWalk (V.tells self.now.visitor.now) (V.says self.now.visitor.now)
+            (V.does self.now.visitor.now) (V.listless self.now.visitor.now) self.now.root.now
+            (λ past new. AreEntries (IsMoment (V.does self.now.visitor.now) new) past self.now.root.now levels folder.now)
+            (T.went tree.old) (T.went tree.new) (O.device out.old) (O.device out.new) tally.old tally.new) }
+        ensures stops { IfErr result (V.stops self.now.visitor.now (O.device out.old) (O.device out.new)) }
+        ensures does { Goes (T.went tree.old) (T.went tree.new) (V.does self.now.visitor.now) }
+        ensures holds { HoldsAt (T.went tree.new) (V.holds self.now.visitor.now tally.new) }
+    {
+        let Some(opened) = self.open_folder(tree, folder, levels, out, tally)? else {
+            return Ok(());
+        };
+        for name in &opened.names {
+            let path = entry_path(self.alloc, folder, name.as_str())?;
+            self.visit_path(tree, &opened.entered, path.as_str(), levels, out, tally)?;
+        }
+        self.visitor.leave_folder(tree, folder, levels, out, tally)
+    }
 }
 
 /// Visits all of the folder that is walked, or the folders of it that are asked for, one after another.
@@ -228,11 +266,11 @@ pub fn visit_entries<T: Tree, V: EntryVisitor, O: Sink>(
     ensures holds { HoldsAt (T.went tree.new) (V.holds walk.now.visitor.now tally.new) }
 {
     if walk.below.is_empty() {
-        return visit_folder(walk, tree, "", FOLDERS, out, tally);
+        return walk.visit_folder(tree, "", FOLDERS, out, tally);
     }
     for folder in walk.below {
         let levels = levels_below(folder).unwrap_or(0);
-        visit_folder(walk, tree, folder, levels, out, tally)?;
+        walk.visit_folder(tree, folder, levels, out, tally)?;
     }
     Ok(())
 }
