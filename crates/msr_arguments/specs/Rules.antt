@@ -3,7 +3,7 @@ use Rattle.std.specs.Prelude.{◌≡◌, ℕ, ⊤, pos, true, false, List, [], �
 use Rattle.std.specs.List.{list_any}
 use Rattle.std.specs.Str.{bytes_eq}
 use Rattle.clap.specs.Words.{App, Rule, first_value, new_rule, one_text}
-use Rattle.clap.specs.Simple.{new_shape}
+use Rattle.clap.specs.Simple.{new_shape, with_subcommand}
 use Rattle.clap.specs.declared.builder.action.ArgAction.TheVariants.{Append, Set, SetTrue}
 use Rattle.clap.specs.declared.builder.value_parser.ValueParser.{ValueParser}
 use Rattle.clap.specs.declared.builder.value_parser.ValueParser.TheVariants.{Signed, String}
@@ -98,6 +98,15 @@ app_with name rules = record { top = record (new_shape name) { rules = rules }; 
 abbrev pub verbs : List Verb
 verbs = verb.Repack ∷ verb.List ∷ verb.Check ∷ verb.Compare ∷ verb.Archive ∷ verb.Verify ∷ verb.Replace ∷ verb.Feed
     ∷ []
+
+-- the program without its commands
+abbrev pub program_alone : App
+program_alone =
+    record { top = record (new_shape (codes "msrepack")) { has_version = true; subcommand_required = true }; subs = [] }
+
+-- the program with one command more
+abbrev pub with_verb : App → Verb → App
+with_verb app verb = with_subcommand app (app_with (word_of verb) (rules_of verb)).top
 
 -- the program with all its commands
 abbrev pub program_app : App

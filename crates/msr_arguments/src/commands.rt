@@ -1,9 +1,9 @@
 //! The commands and options that the program knows.
 //!
 //! Each step at a `Command` that may fail costs the check of its function seconds, so there are few.
-ghost use Rattle.std.specs.Prelude.{◌≡◌, IfOk, Some, codes, false, map};
+ghost use Rattle.std.specs.Prelude.{◌≡◌, [], IfOk, Some, codes, false, map};
 ghost use Rattle.clap.specs.Words.{app_of, new_rule, rule_of};
-ghost use Rattle.msr_arguments.specs.Rules.{app_with, dry_run_rules, flag_rule, option_rule, program_app, rule_for, rules_of};
+ghost use Rattle.msr_arguments.specs.Rules.{app_with, dry_run_rules, flag_rule, option_rule, program_alone, program_app, rule_for, rules_of, with_verb};
 ghost use Rattle.msr_options.specs.Tasks.{word_of};
 
 use crate::texts;
@@ -138,15 +138,22 @@ pub(crate) fn length_alone<'a>(alloc: Global) -> Result<Command<'a>, AllocError>
     Command::new(alloc, "msrepack").arg(length)
 }
 
+/// A command with its help, which takes nothing.
+fn titled<'a>(alloc: Global, name: &'a str, about: About<'a>) -> Command<'a>
+    ensures { app_of result ≡ app_with name.entry.now [] }
+{
+    Command::new(alloc, name)
+        .about(about.about)
+        .long_about(about.long_about)
+        .after_long_help(about.after)
+}
+
 /// A command with its help and its arguments.
 fn described<'a>(alloc: Global, name: &'a str, about: About<'a>) -> Result<Command<'a>, AllocError>
     ensures { IfOk result (λ command. app_of command
         ≡ app_with name.entry.now (map rule_for about.entry.arguments.now)) }
 {
-    let mut command = Command::new(alloc, name)
-        .about(about.about)
-        .long_about(about.long_about)
-        .after_long_help(about.after);
+    let mut command = titled(alloc, name, about);
     for argument in about.arguments {
         command = command.arg(arg_of(alloc, *argument))?;
     }
@@ -175,14 +182,29 @@ fn dry_run<'a>() -> About<'a>
     texts::DRY_RUN
 }
 
+/// The line of the program, without its commands.
+fn program_alone<'a>(alloc: Global) -> Result<Command<'a>, AllocError>
+    ensures { IfOk result (λ command. app_of command ≡ program_alone) }
+{
+    titled(alloc, "msrepack", texts::PROGRAM)
+        .version("1.1.0")
+        .subcommand_required(true)
+        .bin_name("msrepack")
+}
+
+/// The line of the program with one command more.
+fn with_verb<'a>(alloc: Global, program: Command<'a>, verb: Verb) -> Result<Command<'a>, AllocError>
+    ensures { IfOk result (λ more. app_of more ≡ with_verb (app_of program.entry) verb) }
+{
+    let command = described(alloc, verb.word(), about_of(verb))?;
+    program.subcommand(command)
+}
+
 /// The line of the program, with all its commands.
 pub(crate) fn program_line<'a>(alloc: Global) -> Result<Command<'a>, AllocError>
     ensures { IfOk result (λ command. app_of command ≡ program_app) }
 {
-    let mut command = described(alloc, "msrepack", texts::PROGRAM)?
-        .version("1.1.0")
-        .subcommand_required(true)
-        .bin_name("msrepack")?;
+    let mut command = program_alone(alloc)?;
     for verb in [
         Verb::Repack,
         Verb::List,
@@ -193,7 +215,7 @@ pub(crate) fn program_line<'a>(alloc: Global) -> Result<Command<'a>, AllocError>
         Verb::Replace,
         Verb::Feed,
     ] {
-        command = command.subcommand(described(alloc, verb.word(), about_of(verb))?)?;
+        command = with_verb(alloc, command, verb)?;
     }
     Ok(command)
 }

@@ -1,26 +1,27 @@
-use Rattle.std.proofs.Common.{refl}
+use Rattle.std.proofs.Common.{ap, sym}
+use Rattle.msr_arguments.specs.Rules.{rules_of}
 use Rattle.msr_arguments.proofs.commands.about_of.Goals as goal
 
 pub returns-in-Repack : goal.returns-in-Repack
-returns-in-Repack c = rw c.in-Repack.is refl
+returns-in-Repack c = sym (ap rules_of c.in-Repack.is)
 
 pub returns-in-List : goal.returns-in-List
-returns-in-List c = rw c.in-List.is refl
+returns-in-List c = sym (ap rules_of c.in-List.is)
 
 pub returns-in-Check : goal.returns-in-Check
-returns-in-Check c = rw c.in-Check.is refl
+returns-in-Check c = sym (ap rules_of c.in-Check.is)
 
 pub returns-in-Compare : goal.returns-in-Compare
-returns-in-Compare c = rw c.in-Compare.is refl
+returns-in-Compare c = sym (ap rules_of c.in-Compare.is)
 
 pub returns-in-Archive : goal.returns-in-Archive
-returns-in-Archive c = rw c.in-Archive.is refl
+returns-in-Archive c = sym (ap rules_of c.in-Archive.is)
 
 pub returns-in-Verify : goal.returns-in-Verify
-returns-in-Verify c = rw c.in-Verify.is refl
+returns-in-Verify c = sym (ap rules_of c.in-Verify.is)
 
 pub returns-in-Replace : goal.returns-in-Replace
-returns-in-Replace c = rw c.in-Replace.is refl
+returns-in-Replace c = sym (ap rules_of c.in-Replace.is)
 
 pub returns-in-Feed : goal.returns-in-Feed
-returns-in-Feed c = rw c.in-Feed.is refl
+returns-in-Feed c = sym (ap rules_of c.in-Feed.is)

@@ -1,13 +1,9 @@
-use Rattle.std.proofs.Common.{◌∙◌, ap}
 use Rattle.std.proofs.lemmas.List.{get_or_default}
-use Rattle.clap.specs.Simple.{app_of_fields}
 use Rattle.msr_arguments.proofs.Adding.{takes_more}
 use Rattle.msr_arguments.proofs.commands.described.Goals as goal
 
 pub loop-argument-init : goal.loop-argument-init
-loop-argument-init c =
-    ap app_of_fields c.after_long_help-command.ensures ∙ ap app_of_fields c.long_about.ensures
-    ∙ ap app_of_fields c.about.ensures ∙ c.new.ensures.app
+loop-argument-init c = c.titled-command.ensures
 
 pub loop-argument-preserved : goal.loop-argument-preserved
 loop-argument-preserved c =

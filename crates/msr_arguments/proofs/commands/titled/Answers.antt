@@ -1,0 +1,8 @@
+use Rattle.std.proofs.Common.{◌∙◌, ap}
+use Rattle.clap.specs.Simple.{app_of_fields}
+use Rattle.msr_arguments.proofs.commands.titled.Goals as goal
+
+pub returns : goal.returns
+returns c =
+    ap app_of_fields c.after_long_help.ensures ∙ ap app_of_fields c.long_about.ensures
+    ∙ ap app_of_fields c.about.ensures ∙ c.new.ensures.app
