@@ -12,6 +12,7 @@ use crate::files::{create_output, create_report, open_file, open_input, settle_s
 use crate::known::read_known;
 use crate::named::NamedFiles;
 use crate::replacing::replace_archive;
+use crate::screen::screen_below;
 use crate::task_fault::TaskFault;
 use crate::trying::try_archive;
 use crate::turns::is_in_turns;
@@ -27,6 +28,7 @@ use msr_verify::verify;
 use msr_walk::{SystemClaims, Walked, walk};
 use std::alloc::Global;
 use std::io;
+use std::io::Stderr;
 use std::rt::Files;
 use std::time::Clock;
 
@@ -70,14 +72,15 @@ where
     ensures { Does (F.went files.old) (F.went files.new) task.now (I.device input.old)
         (O.device output.old) (O.device output.new) result }
 {
+    let screen = files.screen();
     match task {
         Task::Repack(asked) => repack_file(files, alloc, asked, input, output),
         Task::List(asked) => list_file(files, alloc, asked, input, output),
         Task::Check(asked) => check_files(files, alloc, asked, output),
         Task::Compare(asked) => compare_files(files, alloc, asked, input, output),
-        Task::Archive(asked) => repack_archive(files.system(), alloc, asked, output),
-        Task::Trial(asked) => try_archive(files.system(), alloc, asked, output),
-        Task::Verify(asked) => verify_archive(files.system(), alloc, asked, output),
+        Task::Archive(asked) => repack_archive(files.system(), alloc, asked, screen, output),
+        Task::Trial(asked) => try_archive(files.system(), alloc, asked, screen, output),
+        Task::Verify(asked) => verify_archive(files.system(), alloc, asked, screen, output),
         Task::Replace(asked) => replace_archive(files.system(), alloc, asked, output),
         Task::Feed(asked) => feed_input(files, alloc, asked, input, output),
     }
@@ -317,6 +320,7 @@ fn walk_archive<'a, R: Files + Clock, O: Sink>(
     rt: &R,
     alloc: Global,
     archive: &Archiving<'_>,
+    screen: Option<Stderr>,
     output: &mut O,
 ) -> Result<Walked, TaskFault<'a>>
 where
@@ -327,15 +331,18 @@ where
         WalksKnown asked (O.device output.old) (O.device output.new) result }
 {
     let claims = SystemClaims::new(rt);
-    let mut tree = SystemTree::unlinked(rt, alloc);
-    let walked = walk(
+    let screen = screen_below(archive.below.as_slice(), screen);
+    let mut tree = SystemTree::unlinked(rt, alloc).watched(archive.folders.root, screen);
+    let ended = walk(
         &mut tree,
         &claims,
         alloc,
         &*archive,
         time_of_now(rt),
         output,
-    )?;
+    );
+    tree.clear();
+    let walked = ended?;
     Ok(walked)
 }
 
@@ -344,6 +351,7 @@ fn walk_known<'a, R: Files + Clock, O: Sink>(
     rt: &R,
     alloc: Global,
     asked: &Archiving<'a>,
+    screen: Option<Stderr>,
     output: &mut O,
 ) -> Result<Walked, TaskFault<'a>>
 where
@@ -364,9 +372,9 @@ where
                 days: asked.days,
                 known: Known::Lines(&lines),
             };
-            walk_archive(rt, alloc, &read, output)
+            walk_archive(rt, alloc, &read, screen, output)
         }
-        _ => walk_archive(rt, alloc, asked, output),
+        _ => walk_archive(rt, alloc, asked, screen, output),
     }
 }
 
@@ -374,6 +382,7 @@ fn repack_archive<'a, R: Files + Clock, O: Sink>(
     rt: &R,
     alloc: Global,
     asked: &Archiving<'a>,
+    screen: Option<Stderr>,
     output: &mut O,
 ) -> Result<Done, TaskFault<'a>>
 where
@@ -386,30 +395,36 @@ where
     }
     let Folders { root, out, reports } = asked.folders;
     require_apart(rt, alloc, root, out, reports)?;
-    let walked = walk_known(rt, alloc, asked, output)?;
+    let walked = walk_known(rt, alloc, asked, screen, output)?;
     Ok(Done::of_walk(walked.found, walked.unopened, asked.below.is_empty(), false))
 }
 
 /// Verifies the archive, of which the lines that are known were read.
-fn verify_read<'a, R: Files, O: Sink>(
+fn verify_read<'a, R: Files + Clock, O: Sink>(
     rt: &R,
     alloc: Global,
     archive: &Verifying<'_>,
+    screen: Option<Stderr>,
     output: &mut O,
 ) -> Result<WalkFound, TaskFault<'a>>
     requires { CanCountCall (O.device output.old) }
     ensures { (asked : Verifying) → IsVerifyingRead asked archive.now →
         VerifiesKnown asked (O.device output.old) (O.device output.new) result }
 {
-    let found = verify(&mut SystemTree::new(rt, alloc), alloc, &*archive, output)?;
+    let screen = screen_below(archive.below.as_slice(), screen);
+    let mut tree = SystemTree::new(rt, alloc).watched(archive.folders.root, screen);
+    let ended = verify(&mut tree, alloc, &*archive, output);
+    tree.clear();
+    let found = ended?;
     Ok(found)
 }
 
 /// Verifies it with the lines that are known, which are read first if a file has them.
-fn verify_known<'a, R: Files, O: Sink>(
+fn verify_known<'a, R: Files + Clock, O: Sink>(
     rt: &R,
     alloc: Global,
     asked: &Verifying<'a>,
+    screen: Option<Stderr>,
     output: &mut O,
 ) -> Result<WalkFound, TaskFault<'a>>
     requires { CanCountCall (O.device output.old) }
@@ -428,16 +443,17 @@ fn verify_known<'a, R: Files, O: Sink>(
                 telling: asked.telling,
                 known: Known::Lines(&lines),
             };
-            verify_read(rt, alloc, &read, output)
+            verify_read(rt, alloc, &read, screen, output)
         }
-        _ => verify_read(rt, alloc, asked, output),
+        _ => verify_read(rt, alloc, asked, screen, output),
     }
 }
 
-fn verify_archive<'a, R: Files, O: Sink>(
+fn verify_archive<'a, R: Files + Clock, O: Sink>(
     rt: &R,
     alloc: Global,
     asked: &Verifying<'a>,
+    screen: Option<Stderr>,
     output: &mut O,
 ) -> Result<Done, TaskFault<'a>>
     requires { CanCountCall (O.device output.old) }
@@ -445,6 +461,6 @@ fn verify_archive<'a, R: Files, O: Sink>(
 {
     let Folders { root, out, reports } = asked.folders;
     require_apart(rt, alloc, root, out, reports)?;
-    let found = verify_known(rt, alloc, asked, output)?;
+    let found = verify_known(rt, alloc, asked, screen, output)?;
     Ok(Done::of_walk(found, None, asked.below.is_empty(), true))
 }

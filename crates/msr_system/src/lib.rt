@@ -5,6 +5,7 @@ mod bytes;
 mod facts;
 mod listing;
 mod system;
+mod watch;
 mod writer;
 
 pub use system::SystemTree;

@@ -6,14 +6,16 @@ ghost use Rattle.msr_devices.specs.Device.{CanCountCall};
 use crate::bytes::has_same_bytes;
 use crate::facts::{RIGHTS, facts_of, system_time};
 use crate::listing::{kind_of, names_in};
+use crate::watch::Watch;
 use crate::writer::SystemWriter;
 use msr_devices::{DeviceFault, FromRead, Source};
 use msr_tree::{Facts, FileKind, Kind, Time, Tree, TreeFault, folder_above, is_within};
 use std::alloc::Global;
 use std::fs::{File, FileTimes, OpenFile, OpenOptions, Permissions};
-use std::io::ErrorKind;
+use std::io::{ErrorKind, Stderr};
 use std::os::unix::fs::{OpenOptionsExt, PermissionsExt, lchown};
 use std::rt::Files;
+use std::time::Clock;
 use std::{fs, io};
 
 /// The system's files.
@@ -26,6 +28,7 @@ pub struct SystemTree<'a, R: Files> {
     has_links: bool,
     /// The folder that was made last, if it was there and stored then, with all that lead to it.
     stored: Option<String>,
+    watch: Watch<'a>,
 }
 
 impl<'a, R: Files> SystemTree<'a, R> {
@@ -36,6 +39,7 @@ impl<'a, R: Files> SystemTree<'a, R> {
             reason: None,
             has_links: true,
             stored: None,
+            watch: Watch::none(),
         }
     }
 
@@ -47,6 +51,7 @@ impl<'a, R: Files> SystemTree<'a, R> {
             reason: None,
             has_links: false,
             stored: None,
+            watch: Watch::none(),
         }
     }
 
@@ -333,6 +338,24 @@ impl<'a, R: Files> SystemTree<'a, R> {
     }
 }
 
+impl<'a, R: Files + Clock> SystemTree<'a, R> {
+    /// The same, and a person sees on that screen, if there is one, how far the walk of a folder is.
+    pub fn watched(self, root: &'a str, screen: Option<Stderr>) -> SystemTree<'a, R> {
+        match screen {
+            Some(screen) => SystemTree {
+                watch: Watch::new(self.rt, root, screen),
+                ..self
+            },
+            None => self,
+        }
+    }
+
+    /// The walk has ended: nothing of it stays on the screen.
+    pub fn clear(&mut self) {
+        self.watch.clear();
+    }
+}
+
 /// How a file got another name.
 enum Linked {
     Done,
@@ -357,7 +380,7 @@ fn is_one_file(one: &Facts, other: &Facts) -> bool {
 }
 
 #[tactic(auto, using(crate::proofs::Unknown::unknown))]
-impl<'a, R: Files> Tree for SystemTree<'a, R> {
+impl<'a, R: Files + Clock> Tree for SystemTree<'a, R> {
     type Reader = FromRead<R::File>;
 
     type Writer = SystemWriter<R::File>;
@@ -380,6 +403,7 @@ impl<'a, R: Files> Tree for SystemTree<'a, R> {
     }
 
     fn list(&mut self, folder: &str) -> Result<Vec<String>, TreeFault> {
+        self.watch.note_folder(self.rt, self.alloc, folder);
         match names_in(self.rt, self.alloc, folder) {
             Ok(names) => Ok(names),
             Err(error) => {
@@ -405,16 +429,21 @@ impl<'a, R: Files> Tree for SystemTree<'a, R> {
 
     fn follow(&mut self, path: &str) -> Result<FromRead<R::File>, TreeFault> {
         let opened = self.followed_regular(path);
-        Ok(FromRead::new(self.told(opened)?))
+        let file = self.told(opened)?;
+        self.watch.note_file(self.rt, self.alloc, path);
+        Ok(FromRead::new(file))
     }
 
     fn open_found(&mut self, path: &str, facts: &Facts) -> Result<FromRead<R::File>, TreeFault> {
-        self.open_regular(path, facts)
+        let reader = self.open_regular(path, facts)?;
+        self.watch.note_file(self.rt, self.alloc, path);
+        Ok(reader)
     }
 
     fn open(&mut self, path: &str) -> Result<FromRead<R::File>, TreeFault> {
         let opened = self.regular(path);
         let (file, _) = self.told(opened)?;
+        self.watch.note_file(self.rt, self.alloc, path);
         Ok(FromRead::new(file))
     }
 
