@@ -42,6 +42,10 @@ pub(crate) fn facts_of(metadata: &Metadata) -> Facts {
     }
 }
 
+pub(crate) fn is_one_file(one: &Facts, other: &Facts) -> bool {
+    one.device == other.device && one.number == other.number
+}
+
 /// A time that a file can be given: one from 1970 on.
 pub(crate) fn system_time(time: Time) -> Option<SystemTime> {
     let (Ok(seconds), Ok(nanoseconds)) = (

@@ -2,8 +2,12 @@
 #![tactic(auto)]
 
 mod bytes;
+mod copying;
 mod facts;
 mod listing;
+mod making;
+mod naming;
+mod opening;
 mod system;
 mod watch;
 mod writer;

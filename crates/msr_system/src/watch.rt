@@ -69,9 +69,15 @@ impl<'a> Watch<'a> {
         }
     }
 
-    /// A file was opened. One that is opened again at once counts once, and none that stands elsewhere.
-    pub(crate) fn note_file<R: Files + Clock>(&mut self, rt: &R, alloc: Global, path: &str) {
-        if self.is_asked() && is_within(self.root, path) && !self.is_last(path) {
+    /// Whether a file could be opened. One that is opened again at once counts once, and none that stands elsewhere.
+    pub(crate) fn note_file<R: Files + Clock>(
+        &mut self,
+        rt: &R,
+        alloc: Global,
+        path: &str,
+        is_open: bool,
+    ) {
+        if self.is_asked() && is_open && is_within(self.root, path) && !self.is_last(path) {
             self.count(rt, alloc, path);
         }
     }

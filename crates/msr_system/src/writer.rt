@@ -1,7 +1,7 @@
 //! Making one of the system's files.
 ghost use Rattle.msr_devices.specs.Device.{CanCountCall};
 
-use crate::system::refusal;
+use crate::opening::refusal;
 use msr_devices::{FromWrite, Sink};
 use std::fs::OpenFile;
 use std::io;
@@ -26,7 +26,7 @@ impl<W: Write> SystemWriter<W> {
     }
 
     /// It has to be the file of that name.
-    pub(crate) fn require_of(&self, path: &str) -> io::Result<()> {
+    fn require_of(&self, path: &str) -> io::Result<()> {
         if self.path.as_str() == path {
             Ok(())
         } else {
@@ -35,9 +35,14 @@ impl<W: Write> SystemWriter<W> {
     }
 }
 
-impl<W: Write + OpenFile> SystemWriter<W> {
+impl<W: Write + OpenFile + Drop> SystemWriter<W> {
+    /// The same, and it is closed.
+    pub(crate) fn finish_of(self, path: &str) -> io::Result<()> {
+        self.require_of(path)
+    }
+
     /// The same, and its bytes are stored. A file system that cannot wait for that tells nothing.
-    pub(crate) fn store_of(&self, path: &str) -> io::Result<()> {
+    pub(crate) fn store_of(self, path: &str) -> io::Result<()> {
         self.require_of(path)?;
         match self.sink.get_ref().sync_data() {
             Ok(()) => Ok(()),

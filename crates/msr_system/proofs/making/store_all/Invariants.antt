@@ -1,7 +1,7 @@
 use Rattle.std.proofs.Common.{length}
 use denote.Shadow.{shadow}
 use denote.Text.{Utf8}
-use Rattle.msr_system.proofs.system.SystemTree.store_all.Given as goal
+use Rattle.msr_system.proofs.making.store_all.Given as goal
 
 abbrev pub decreases-loop-at : goal.decreases-loop-at
 decreases-loop-at g l = length l.at
