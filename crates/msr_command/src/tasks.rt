@@ -14,7 +14,7 @@ use crate::named::NamedFiles;
 use crate::replacing::replace_archive;
 use crate::screen::screen_below;
 use crate::task_fault::TaskFault;
-use crate::trying::try_archive;
+use crate::trying::try_watched;
 use crate::turns::is_in_turns;
 use msr_devices::{FromWrite, Sink, Source};
 use msr_folders::{FileId, LockFile, WalkFound, folders_overlap};
@@ -79,7 +79,7 @@ where
         Task::Check(asked) => check_files(files, alloc, asked, output),
         Task::Compare(asked) => compare_files(files, alloc, asked, input, output),
         Task::Archive(asked) => repack_archive(files.system(), alloc, asked, screen, output),
-        Task::Trial(asked) => try_archive(files.system(), alloc, asked, screen, output),
+        Task::Trial(asked) => try_watched(files.system(), alloc, asked, screen, output),
         Task::Verify(asked) => verify_archive(files.system(), alloc, asked, screen, output),
         Task::Replace(asked) => replace_archive(files.system(), alloc, asked, output),
         Task::Feed(asked) => feed_input(files, alloc, asked, input, output),
@@ -319,6 +319,26 @@ pub(crate) fn require_apart<'a, R: Files>(
 fn walk_archive<'a, R: Files + Clock, O: Sink>(
     rt: &R,
     alloc: Global,
+    tree: &mut SystemTree<'_, R>,
+    archive: &Archiving<'_>,
+    output: &mut O,
+) -> Result<Walked, TaskFault<'a>>
+where
+    R::File: LockFile,
+    requires apart { StandApart archive.now.folders }
+    requires output { CanCountCall (O.device output.old) }
+    ensures { (asked : Archiving) → IsArchivingRead asked archive.now →
+        WalksKnown asked (O.device output.old) (O.device output.new) result }
+{
+    let claims = SystemClaims::new(rt);
+    let walked = walk(tree, &claims, alloc, &*archive, time_of_now(rt), output)?;
+    Ok(walked)
+}
+
+/// The same, and a person sees on that screen, if there is one, how far it is.
+fn walk_watched<'a, R: Files + Clock, O: Sink>(
+    rt: &R,
+    alloc: Global,
     archive: &Archiving<'_>,
     screen: Option<Stderr>,
     output: &mut O,
@@ -330,20 +350,11 @@ where
     ensures { (asked : Archiving) → IsArchivingRead asked archive.now →
         WalksKnown asked (O.device output.old) (O.device output.new) result }
 {
-    let claims = SystemClaims::new(rt);
     let screen = screen_below(archive.below.as_slice(), screen);
     let mut tree = SystemTree::unlinked(rt, alloc).watched(archive.folders.root, screen);
-    let ended = walk(
-        &mut tree,
-        &claims,
-        alloc,
-        &*archive,
-        time_of_now(rt),
-        output,
-    );
+    let walked = walk_archive(rt, alloc, &mut tree, archive, output);
     tree.clear();
-    let walked = ended?;
-    Ok(walked)
+    walked
 }
 
 /// Walks it with the lines that are known, which are read first if a file has them.
@@ -372,9 +383,9 @@ where
                 days: asked.days,
                 known: Known::Lines(&lines),
             };
-            walk_archive(rt, alloc, &read, screen, output)
+            walk_watched(rt, alloc, &read, screen, output)
         }
-        _ => walk_archive(rt, alloc, asked, screen, output),
+        _ => walk_watched(rt, alloc, asked, screen, output),
     }
 }
 
@@ -401,6 +412,21 @@ where
 
 /// Verifies the archive, of which the lines that are known were read.
 fn verify_read<'a, R: Files + Clock, O: Sink>(
+    alloc: Global,
+    tree: &mut SystemTree<'_, R>,
+    archive: &Verifying<'_>,
+    output: &mut O,
+) -> Result<WalkFound, TaskFault<'a>>
+    requires { CanCountCall (O.device output.old) }
+    ensures { (asked : Verifying) → IsVerifyingRead asked archive.now →
+        VerifiesKnown asked (O.device output.old) (O.device output.new) result }
+{
+    let found = verify(tree, alloc, &*archive, output)?;
+    Ok(found)
+}
+
+/// The same, and a person sees on that screen, if there is one, how far it is.
+fn verify_watched<'a, R: Files + Clock, O: Sink>(
     rt: &R,
     alloc: Global,
     archive: &Verifying<'_>,
@@ -413,10 +439,9 @@ fn verify_read<'a, R: Files + Clock, O: Sink>(
 {
     let screen = screen_below(archive.below.as_slice(), screen);
     let mut tree = SystemTree::new(rt, alloc).watched(archive.folders.root, screen);
-    let ended = verify(&mut tree, alloc, &*archive, output);
+    let found = verify_read(alloc, &mut tree, archive, output);
     tree.clear();
-    let found = ended?;
-    Ok(found)
+    found
 }
 
 /// Verifies it with the lines that are known, which are read first if a file has them.
@@ -443,9 +468,9 @@ fn verify_known<'a, R: Files + Clock, O: Sink>(
                 telling: asked.telling,
                 known: Known::Lines(&lines),
             };
-            verify_read(rt, alloc, &read, screen, output)
+            verify_watched(rt, alloc, &read, screen, output)
         }
-        _ => verify_read(rt, alloc, asked, screen, output),
+        _ => verify_watched(rt, alloc, asked, screen, output),
     }
 }
 
