@@ -12,31 +12,16 @@ use std::os::unix::fs::{OpenOptionsExt, PermissionsExt, lchown};
 use std::rt::Files;
 use std::{fs, io};
 
-/// Copies a file under a name that nothing has.
+/// Copies a file under a name that nothing has. What is half done is removed.
 pub(crate) fn copy_bytes<R: Files>(rt: &R, from: &str, to: &str) -> io::Result<()> {
     let (mut source, facts) = regular(rt, from)?;
-    copy_opened(rt, &mut source, &facts, to)
-}
-
-fn copy_opened<R: Files>(rt: &R, source: &mut R::File, facts: &Facts, to: &str) -> io::Result<()> {
     let mut target = OpenOptions::new()
         .read(true)
         .write(true)
         .create_new(true)
         .mode(0o600)
         .open(rt, to)?;
-    fill_or_remove(rt, source, facts, &mut target, to)
-}
-
-/// What is half done is removed.
-fn fill_or_remove<R: Files>(
-    rt: &R,
-    source: &mut R::File,
-    facts: &Facts,
-    target: &mut R::File,
-    to: &str,
-) -> io::Result<()> {
-    let copied = fill(rt, source, facts, target, to);
+    let copied = fill(rt, &mut source, &facts, &mut target, to);
     if copied.is_err() {
         let _ = fs::remove_file(rt, to);
     }
@@ -52,24 +37,13 @@ fn fill<R: Files>(
     to: &str,
 ) -> io::Result<()> {
     let count = io::copy(source, target)?;
-    require_whole::<R>(source, facts, target, count)?;
-    keep(rt, facts, target, to);
-    target.sync_all()
-}
-
-fn require_whole<R: Files>(
-    source: &R::File,
-    facts: &Facts,
-    target: &R::File,
-    count: u64,
-) -> io::Result<()> {
     let after = facts_of(&source.metadata()?);
     let is_whole = count == facts.bytes && after.bytes == count && after.changed == facts.changed;
-    if is_whole && target.metadata()?.len() == count {
-        Ok(())
-    } else {
-        Err(refusal("changed while it was copied"))
+    if !is_whole || target.metadata()?.len() != count {
+        return Err(refusal("changed while it was copied"));
     }
+    keep(rt, facts, target, to);
+    target.sync_all()
 }
 
 /// Gives a copy the owner, group, mode and time of its file, as far as the system lets it. Without the owner it gets
@@ -95,8 +69,10 @@ pub(crate) fn dress<R: Files>(
     facts: &Facts,
     time: Option<Time>,
 ) -> io::Result<()> {
-    let file = regular_file(rt, path)?;
-    dress_opened(rt, &file, path, &facts.rights, time)
+    match regular_file(rt, path) {
+        Ok(file) => dress_opened(rt, &file, path, &facts.rights, time),
+        Err(error) => Err(error),
+    }
 }
 
 fn dress_opened<R: Files>(
@@ -111,7 +87,10 @@ fn dress_opened<R: Files>(
     if let Some(time) = time {
         set_time(file, time)?;
     }
-    require_dressed(&facts_of(&file.metadata()?), rights, time)
+    match file.metadata() {
+        Ok(metadata) => require_dressed(&facts_of(&metadata), rights, time),
+        Err(error) => Err(error),
+    }
 }
 
 fn set_time<F: OpenFile>(file: &F, time: Time) -> io::Result<()> {

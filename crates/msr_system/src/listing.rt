@@ -7,7 +7,6 @@ ghost use Rattle.msr_tree.specs.Listing.{listed};
 
 use msr_tree::{FileKind, in_order};
 use std::alloc::{Alloc, Global};
-use std::fs::DirEntry;
 use std::io::ErrorKind;
 use std::rt::Files;
 use std::{fs, io};
@@ -19,20 +18,10 @@ pub(crate) fn names_in<R: Files>(rt: &R, alloc: Global, folder: &str) -> io::Res
     ensures { IfOk result (λ names. IsStrictlySortedBy (slice_cmp nat_cmp) (listed names.items)) }
 {
     let mut names = Vec::new(alloc);
-    list_whole(rt, alloc, folder, &mut names)?;
+    list(&(rt, alloc), folder, &mut names)?;
+    fs::metadata(rt, folder)?;
     in_order(&mut names);
     Ok(names)
-}
-
-fn list_whole<R: Files>(
-    rt: &R,
-    alloc: Global,
-    folder: &str,
-    names: &mut Vec<String>,
-) -> io::Result<()> {
-    list(&(rt, alloc), folder, names)?;
-    fs::metadata(rt, folder)?;
-    Ok(())
 }
 
 /// Appends the names in the folder, as the system gives them. It is generic over what reads them, since each call that
@@ -43,17 +32,9 @@ fn list<F: Files + Alloc<A = Global> + Clone + Drop>(
     names: &mut Vec<String>,
 ) -> io::Result<()> {
     for entry in fs::read_dir(files, folder)? {
-        push_entry(names, files.alloc(), entry)?;
+        push_name(names, files.alloc(), entry?.file_name())?;
     }
     Ok(())
-}
-
-fn push_entry<F: Files + Drop>(
-    names: &mut Vec<String>,
-    alloc: Global,
-    entry: io::Result<DirEntry<F, Global>>,
-) -> io::Result<()> {
-    push_name(names, alloc, entry?.file_name())
 }
 
 fn push_name(names: &mut Vec<String>, alloc: Global, name: &str) -> io::Result<()> {

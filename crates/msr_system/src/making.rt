@@ -1,7 +1,7 @@
 //! Making the system's folders, and storing them.
 
-use crate::opening::{found, refusal, store};
-use msr_tree::{Kind, folder_above, is_within};
+use crate::opening::{refusal, store, tells_none};
+use msr_tree::{folder_above, is_within};
 use std::alloc::Global;
 use std::io::ErrorKind;
 use std::rt::Files;
@@ -41,8 +41,9 @@ fn make_all<R: Files>(rt: &R, top: &str, folder: &str, is_new: &mut bool) -> io:
 /// The highest first, unless something is in the way.
 fn make_below<R: Files>(rt: &R, top: &str, folder: &str, is_new: &mut bool) -> io::Result<bool> {
     for end in top.len()..folder.len() {
-        if !make_at(rt, top, folder, end, is_new)? {
-            return Ok(false);
+        let made = make_at(rt, top, folder, end, is_new);
+        if !matches!(made, Ok(true)) {
+            return made;
         }
     }
     make_folder(rt, folder, is_new)
@@ -76,9 +77,10 @@ fn make_folder<R: Files>(rt: &R, path: &str, is_new: &mut bool) -> io::Result<bo
 }
 
 fn is_folder<R: Files>(rt: &R, path: &str) -> io::Result<bool> {
-    match found(rt, path)? {
-        Some(facts) => Ok(facts.kind == Kind::Folder),
-        None => Ok(false),
+    match fs::symlink_metadata(rt, path) {
+        Ok(metadata) => Ok(metadata.is_dir()),
+        Err(error) if tells_none(error.kind()) => Ok(false),
+        Err(error) => Err(error),
     }
 }
 
@@ -89,11 +91,16 @@ fn store_unless<R: Files>(
     top: &str,
     folder: &str,
 ) -> io::Result<bool> {
-    if !is_stored(stored, folder) {
-        store_all(rt, top, folder)?;
-        *stored = String::from_str(alloc, folder).ok();
+    if is_stored(stored, folder) {
+        return Ok(true);
     }
-    Ok(true)
+    match store_all(rt, top, folder) {
+        Ok(()) => {
+            *stored = String::from_str(alloc, folder).ok();
+            Ok(true)
+        }
+        Err(error) => Err(error),
+    }
 }
 
 fn is_stored(stored: &Option<String>, folder: &str) -> bool {
@@ -106,7 +113,10 @@ fn is_stored(stored: &Option<String>, folder: &str) -> bool {
 fn store_all<R: Files>(rt: &R, top: &str, folder: &str) -> io::Result<()> {
     let mut at = folder;
     while top.len() < at.len() {
-        store(rt, at)?;
+        let stored = store(rt, at);
+        if stored.is_err() {
+            return stored;
+        }
         at = folder_above(at);
     }
     store(rt, top)

@@ -25,7 +25,13 @@ fn link<R: Files>(rt: &R, from: &str, to: &str) -> Linked {
 }
 
 pub(crate) fn copy_file<R: Files>(rt: &R, from: &str, to: &str) -> io::Result<()> {
-    found_regular(rt, from)?;
+    match found_regular(rt, from) {
+        Ok(_) => link_or_copy(rt, from, to),
+        Err(error) => Err(error),
+    }
+}
+
+fn link_or_copy<R: Files>(rt: &R, from: &str, to: &str) -> io::Result<()> {
     match link(rt, from, to) {
         Linked::Done => Ok(()),
         Linked::HasName => Err(ErrorKind::AlreadyExists.into()),
@@ -40,19 +46,17 @@ pub(crate) fn rename_over<R: Files>(
     to: &str,
     has_links: bool,
 ) -> io::Result<()> {
-    fs::rename(rt, from, to)?;
-    if has_links {
-        remove_left(rt, from)
-    } else {
-        Ok(())
+    match fs::rename(rt, from, to) {
+        Ok(()) if has_links => remove_left(rt, from),
+        renamed => renamed,
     }
 }
 
 fn remove_left<R: Files>(rt: &R, path: &str) -> io::Result<()> {
-    if is_there(rt, path)? {
-        fs::remove_file(rt, path)
-    } else {
-        Ok(())
+    match is_there(rt, path) {
+        Ok(true) => fs::remove_file(rt, path),
+        Ok(false) => Ok(()),
+        Err(error) => Err(error),
     }
 }
 
@@ -65,10 +69,10 @@ pub(crate) fn rename_free<R: Files>(rt: &R, from: &str, to: &str) -> io::Result<
 }
 
 fn rename_looked<R: Files>(rt: &R, from: &str, to: &str) -> io::Result<bool> {
-    if is_there(rt, to)? {
-        Ok(false)
-    } else {
-        done(fs::rename(rt, from, to))
+    match is_there(rt, to) {
+        Ok(false) => done(fs::rename(rt, from, to)),
+        Ok(true) => Ok(false),
+        Err(error) => Err(error),
     }
 }
 
@@ -82,8 +86,11 @@ fn done(answer: io::Result<()>) -> io::Result<bool> {
 /// Removing may be refused before the system looks whether something has the name.
 pub(crate) fn remove<R: Files>(rt: &R, path: &str) -> io::Result<()> {
     match fs::remove_file(rt, path) {
-        Err(error) if !matches!(found(rt, path), Ok(None)) => Err(error),
-        _ => Ok(()),
+        Ok(()) => Ok(()),
+        Err(error) => match found(rt, path) {
+            Ok(None) => Ok(()),
+            _ => Err(error),
+        },
     }
 }
 

@@ -37,29 +37,35 @@ pub(crate) fn followed<R: Files>(rt: &R, path: &str) -> io::Result<Option<Facts>
 
 /// Whether something stands under a name.
 pub(crate) fn is_there<R: Files>(rt: &R, path: &str) -> io::Result<bool> {
-    Ok(found(rt, path)?.is_some())
+    match found(rt, path) {
+        Ok(facts) => Ok(facts.is_some()),
+        Err(error) => Err(error),
+    }
 }
 
 /// Whether two names lead to one file, links followed.
 pub(crate) fn are_one<R: Files>(rt: &R, one: &str, other: &str) -> io::Result<bool> {
-    match followed(rt, one)? {
-        Some(facts) => leads_to(rt, other, &facts),
-        None => Ok(false),
+    match followed(rt, one) {
+        Ok(Some(facts)) => leads_to(rt, other, &facts),
+        Ok(None) => Ok(false),
+        Err(error) => Err(error),
     }
 }
 
 fn leads_to<R: Files>(rt: &R, path: &str, file: &Facts) -> io::Result<bool> {
-    match followed(rt, path)? {
-        Some(facts) => Ok(is_one_file(file, &facts)),
-        None => Ok(false),
+    match followed(rt, path) {
+        Ok(Some(facts)) => Ok(is_one_file(file, &facts)),
+        Ok(None) => Ok(false),
+        Err(error) => Err(error),
     }
 }
 
 /// What is told of the regular file under a name.
 pub(crate) fn found_regular<R: Files>(rt: &R, path: &str) -> io::Result<Facts> {
-    match found(rt, path)? {
-        Some(facts) => only_regular(facts),
-        None => Err(ErrorKind::NotFound.into()),
+    match found(rt, path) {
+        Ok(Some(facts)) => only_regular(facts),
+        Ok(None) => Err(ErrorKind::NotFound.into()),
+        Err(error) => Err(error),
     }
 }
 
@@ -73,8 +79,11 @@ fn only_regular(facts: Facts) -> io::Result<Facts> {
 
 /// Opens the regular file to which a name leads, links followed.
 pub(crate) fn followed_regular<R: Files>(rt: &R, path: &str) -> io::Result<R::File> {
-    only_regular(facts_of(&fs::metadata(rt, path)?))?;
-    File::open(rt, path)
+    match fs::metadata(rt, path) {
+        Ok(metadata) if metadata.is_file() => File::open(rt, path),
+        Ok(_) => Err(refusal("not a regular file")),
+        Err(error) => Err(error),
+    }
 }
 
 /// Opens a regular file, with what is told of it. Nothing else is opened, since opening a pipe waits for somebody who
@@ -90,7 +99,13 @@ pub(crate) fn regular<R: Files>(rt: &R, path: &str) -> io::Result<(R::File, Fact
 
 /// What is told of an open file, if it is what a look found.
 fn opened<F: OpenFile>(file: &F, looked: &Facts) -> io::Result<Facts> {
-    let facts = facts_of(&file.metadata()?);
+    match file.metadata() {
+        Ok(metadata) => same_file(facts_of(&metadata), looked),
+        Err(error) => Err(error),
+    }
+}
+
+fn same_file(facts: Facts, looked: &Facts) -> io::Result<Facts> {
     if is_one_file(looked, &facts) {
         Ok(facts)
     } else {
@@ -100,14 +115,22 @@ fn opened<F: OpenFile>(file: &F, looked: &Facts) -> io::Result<Facts> {
 
 /// The same, without what is told of it.
 pub(crate) fn regular_file<R: Files>(rt: &R, path: &str) -> io::Result<R::File> {
-    let (file, _) = regular(rt, path)?;
-    Ok(file)
+    match regular(rt, path) {
+        Ok((file, _)) => Ok(file),
+        Err(error) => Err(error),
+    }
 }
 
 pub(crate) fn store<R: Files>(rt: &R, folder: &str) -> io::Result<()> {
-    File::open(rt, folder)?.sync_all()
+    match File::open(rt, folder) {
+        Ok(file) => file.sync_all(),
+        Err(error) => Err(error),
+    }
 }
 
 pub(crate) fn store_bytes<R: Files>(rt: &R, path: &str) -> io::Result<()> {
-    regular_file(rt, path)?.sync_all()
+    match regular_file(rt, path) {
+        Ok(file) => file.sync_all(),
+        Err(error) => Err(error),
+    }
 }

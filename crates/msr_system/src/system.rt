@@ -200,7 +200,7 @@ impl<'a, R: Files + Clock> Tree for SystemTree<'a, R> {
     }
 
     fn finish(&mut self, path: &str, writer: SystemWriter<R::File>) -> Result<(), TreeFault> {
-        let answer = writer.finish_of(path);
+        let answer = writer.require_of(path);
         told(&mut self.reason, answer)
     }
 

@@ -26,7 +26,7 @@ impl<W: Write> SystemWriter<W> {
     }
 
     /// It has to be the file of that name.
-    fn require_of(&self, path: &str) -> io::Result<()> {
+    pub(crate) fn require_of(&self, path: &str) -> io::Result<()> {
         if self.path.as_str() == path {
             Ok(())
         } else {
@@ -35,22 +35,23 @@ impl<W: Write> SystemWriter<W> {
     }
 }
 
-impl<W: Write + OpenFile + Drop> SystemWriter<W> {
-    /// The same, and it is closed.
-    pub(crate) fn finish_of(self, path: &str) -> io::Result<()> {
-        self.require_of(path)
-    }
-
+impl<W: Write + OpenFile> SystemWriter<W> {
     /// The same, and its bytes are stored. A file system that cannot wait for that tells nothing.
-    pub(crate) fn store_of(self, path: &str) -> io::Result<()> {
-        self.require_of(path)?;
-        match self.sink.get_ref().sync_data() {
-            Ok(()) => Ok(()),
-            Err(error) => match error.kind() {
-                ErrorKind::InvalidInput | ErrorKind::Unsupported => Ok(()),
-                _ => Err(error),
-            },
+    pub(crate) fn store_of(&self, path: &str) -> io::Result<()> {
+        match self.require_of(path) {
+            Ok(()) => unless_it_cannot(self.sink.get_ref().sync_data()),
+            refused => refused,
         }
+    }
+}
+
+fn unless_it_cannot(stored: io::Result<()>) -> io::Result<()> {
+    match stored {
+        Ok(()) => Ok(()),
+        Err(error) => match error.kind() {
+            ErrorKind::InvalidInput | ErrorKind::Unsupported => Ok(()),
+            _ => Err(error),
+        },
     }
 }
 
