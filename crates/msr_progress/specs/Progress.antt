@@ -29,8 +29,8 @@ count_text count =
     else decimal (count / 1_000 / 1_000) ++ (codes "," ++ (digits_of (count / 1_000) ++ (codes "," ++ digits_of count)))
 
 -- a tenth of the unit in which so many bytes are told
-abbrev pub size_of : ℕ → ℕ
-size_of bytes =
+abbrev pub tenth_of : ℕ → ℕ
+tenth_of bytes =
     if nat_lt bytes 1_000_000 then 100
     else if nat_lt bytes 1_000_000_000 then 100_000
     else if nat_lt bytes 1_000_000_000_000 then 100_000_000
@@ -47,7 +47,7 @@ unit_of bytes =
 abbrev pub amount_text : ℕ → List ℕ
 amount_text bytes =
     if nat_lt bytes 1_000 then decimal bytes ++ codes " bytes"
-    else decimal (bytes / size_of bytes / 10) ++ (codes "." ++ (decimal (bytes / size_of bytes % 10) ++ (codes " " ++ unit_of bytes)))
+    else decimal (bytes / tenth_of bytes / 10) ++ (codes "." ++ (decimal (bytes / tenth_of bytes % 10) ++ (codes " " ++ unit_of bytes)))
 
 abbrev pub noun_of : ℕ → List ℕ
 noun_of files = if files == 1 then codes "file" else codes "files"
@@ -58,7 +58,7 @@ progress_text files bytes folder =
     count_text files ++ (codes " " ++ (noun_of files ++ (codes ", " ++ (amount_text bytes ++ (codes ": " ++ plain_path folder)))))
 
 -- A text cut to so many bytes, before the first character that does not fit whole.
-pub record IsCut (most : ℕ) (text cut : List ℕ) : Type 0 where
+pub record IsCutToFit (most : ℕ) (text cut : List ℕ) : Type 0 where
   pub kept : ℕ
   pub is : cut ≡ take kept text
   pub fits : kept ≤ most
@@ -66,13 +66,13 @@ pub record IsCut (most : ℕ) (text cut : List ℕ) : Type 0 where
   pub nearest : (more : ℕ) → kept < more → more ≤ most → ¬ (IsCharBoundary text more)
 
 -- it fits a terminal of 80 columns
-abbrev pub IsLine : (files bytes : ℕ) → (folder line : List ℕ) → Type 0
-IsLine files bytes folder line = IsCut 79 (progress_text files bytes folder) line
+abbrev pub IsProgressLine : (files bytes : ℕ) → (folder line : List ℕ) → Type 0
+IsProgressLine files bytes folder line = IsCutToFit 79 (progress_text files bytes folder) line
 
 -- A writer has got the line, over what stood in its place.
 pub record ShowsLine (files bytes : ℕ) (folder : List ℕ) (old new : Option (List ℕ)) : Type 0 where
   pub line : List ℕ
-  pub is_line : IsLine files bytes folder line
+  pub is_progress : IsProgressLine files bytes folder line
   pub told : Appends old new (codes "\r" ++ (line ++ codes "\u{1b}[K"))
 
 -- what is said of a writer's bytes, if there is one

@@ -1,7 +1,7 @@
 //! The text of the line.
 ghost use Rattle.std.specs.Prelude.{◌≡◌, IfOk};
 ghost use Rattle.std.specs.String.{string_bytes};
-ghost use Rattle.msr_progress.specs.Progress.{IsLine, amount_text, count_text, digits_of, noun_of, size_of, unit_of};
+ghost use Rattle.msr_progress.specs.Progress.{IsProgressLine, amount_text, count_text, digits_of, noun_of, tenth_of, unit_of};
 
 use std::alloc::{AllocError, Global};
 use std::fmt;
@@ -61,7 +61,7 @@ fn count_text(alloc: Global, count: u64) -> Result<String, AllocError>
 
 /// A tenth of the unit in which so many bytes are told.
 fn tenth_of(bytes: u64) -> u64
-    ensures { result ≡ size_of bytes }
+    ensures { result ≡ tenth_of bytes }
 {
     if bytes < 1_000_000 {
         100
@@ -115,7 +115,7 @@ pub(crate) fn line_of(
     bytes: u64,
     folder: &str,
 ) -> Result<String, AllocError>
-    ensures { IfOk result (λ text. IsLine files bytes folder.now (string_bytes text)) }
+    ensures { IfOk result (λ text. IsProgressLine files bytes folder.now (string_bytes text)) }
 {
     let count = count_text(alloc, files)?;
     let noun = noun_of(files);
