@@ -13,6 +13,7 @@ import io
 import itertools
 import os
 import pty
+import re
 import resource
 import socket
 import subprocess
@@ -49,6 +50,8 @@ A_FEW = "an output that takes only some bytes in each call"
 NOBODY_SEES = "what is printed to a device, where nobody sees it"
 CAN_LIST = "a folder that cannot be listed: who runs this may list all"
 NO_TERMINAL = "a standard error that is a terminal: this system gives none (/dev/pts)"
+# The line that shows how far a walk is, and what takes it away: whether a walk takes so long no transcript tells.
+PROGRESS = re.compile(rb"\r[^\r\n]*\x1b\[K")
 FOLLOWS = "steps that look at what a skipped one would have changed"
 
 Ran = namedtuple("Ran", "status printed complaint")
@@ -202,7 +205,7 @@ class Player(transcript.Script):
         tty.setraw(other)
         ran = self.end(words, given, stdout=subprocess.PIPE, stderr=other)
         os.close(other)
-        complaint = all_of(terminal)
+        complaint = PROGRESS.sub(b"", all_of(terminal))
         os.close(terminal)
         return ran._replace(complaint=complaint)
 

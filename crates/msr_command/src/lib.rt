@@ -10,6 +10,7 @@ mod known;
 mod named;
 mod program;
 mod replacing;
+mod screen;
 mod task_fault;
 mod tasks;
 mod trying;

@@ -9,6 +9,7 @@ use msr_devices::{DeviceFault, FromRead, FromWrite, Sink, Source};
 use msr_folders::{FileId, settle};
 use std::fs::{File, OpenFile, OpenOptions};
 use std::io;
+use std::io::Stderr;
 use std::rt::Files;
 use std::time::Clock;
 
@@ -30,6 +31,9 @@ pub trait NamedFiles {
     ghost went: { Self → List Step → Type 0 };
 
     fn system(&self) -> &Self::System;
+
+    /// Where a person sees how far a walk is, if one does.
+    fn screen(&self) -> Option<Stderr>;
 
     /// Opens what a name leads to, links followed, to be read from its start, and tells which regular file it is. What
     /// comes through a pipe or a device is what its name leads to.
@@ -66,11 +70,17 @@ pub trait NamedFiles {
 #[derive(Drop)]
 pub struct SystemFiles<'a, R> {
     rt: &'a R,
+    screen: Option<Stderr>,
 }
 
 impl<'a, R: Files + Clock> SystemFiles<'a, R> {
     pub fn new(rt: &'a R) -> SystemFiles<'a, R> {
-        SystemFiles { rt }
+        SystemFiles { rt, screen: None }
+    }
+
+    /// The same, and a person sees on that screen, if there is one, how far a walk is.
+    pub fn watched(rt: &'a R, screen: Option<Stderr>) -> SystemFiles<'a, R> {
+        SystemFiles { rt, screen }
     }
 }
 
@@ -96,6 +106,10 @@ impl<'a, R: Files + Clock> NamedFiles for SystemFiles<'a, R> {
 
     fn system(&self) -> &R {
         self.rt
+    }
+
+    fn screen(&self) -> Option<Stderr> {
+        self.screen
     }
 
     fn open(&self, name: &str) -> io::Result<(FromRead<R::File>, Option<FileId>)> {

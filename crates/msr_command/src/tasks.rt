@@ -12,8 +12,9 @@ use crate::files::{create_output, create_report, open_file, open_input, settle_s
 use crate::known::read_known;
 use crate::named::NamedFiles;
 use crate::replacing::replace_archive;
+use crate::screen::screen_below;
 use crate::task_fault::TaskFault;
-use crate::trying::try_archive;
+use crate::trying::try_watched;
 use crate::turns::is_in_turns;
 use msr_devices::{FromWrite, Sink, Source};
 use msr_folders::{FileId, LockFile, WalkFound, folders_overlap};
@@ -27,6 +28,7 @@ use msr_verify::verify;
 use msr_walk::{SystemClaims, Walked, walk};
 use std::alloc::Global;
 use std::io;
+use std::io::Stderr;
 use std::rt::Files;
 use std::time::Clock;
 
@@ -70,14 +72,15 @@ where
     ensures { Does (F.went files.old) (F.went files.new) task.now (I.device input.old)
         (O.device output.old) (O.device output.new) result }
 {
+    let screen = files.screen();
     match task {
         Task::Repack(asked) => repack_file(files, alloc, asked, input, output),
         Task::List(asked) => list_file(files, alloc, asked, input, output),
         Task::Check(asked) => check_files(files, alloc, asked, output),
         Task::Compare(asked) => compare_files(files, alloc, asked, input, output),
-        Task::Archive(asked) => repack_archive(files.system(), alloc, asked, output),
-        Task::Trial(asked) => try_archive(files.system(), alloc, asked, output),
-        Task::Verify(asked) => verify_archive(files.system(), alloc, asked, output),
+        Task::Archive(asked) => repack_archive(files.system(), alloc, asked, screen, output),
+        Task::Trial(asked) => try_watched(files.system(), alloc, asked, screen, output),
+        Task::Verify(asked) => verify_archive(files.system(), alloc, asked, screen, output),
         Task::Replace(asked) => replace_archive(files.system(), alloc, asked, output),
         Task::Feed(asked) => feed_input(files, alloc, asked, input, output),
     }
@@ -316,6 +319,7 @@ pub(crate) fn require_apart<'a, R: Files>(
 fn walk_archive<'a, R: Files + Clock, O: Sink>(
     rt: &R,
     alloc: Global,
+    tree: &mut SystemTree<'_, R>,
     archive: &Archiving<'_>,
     output: &mut O,
 ) -> Result<Walked, TaskFault<'a>>
@@ -327,16 +331,30 @@ where
         WalksKnown asked (O.device output.old) (O.device output.new) result }
 {
     let claims = SystemClaims::new(rt);
-    let mut tree = SystemTree::unlinked(rt, alloc);
-    let walked = walk(
-        &mut tree,
-        &claims,
-        alloc,
-        &*archive,
-        time_of_now(rt),
-        output,
-    )?;
+    let walked = walk(tree, &claims, alloc, &*archive, time_of_now(rt), output)?;
     Ok(walked)
+}
+
+/// The same, and a person sees on that screen, if there is one, how far it is.
+fn walk_watched<'a, R: Files + Clock, O: Sink>(
+    rt: &R,
+    alloc: Global,
+    archive: &Archiving<'_>,
+    screen: Option<Stderr>,
+    output: &mut O,
+) -> Result<Walked, TaskFault<'a>>
+where
+    R::File: LockFile,
+    requires apart { StandApart archive.now.folders }
+    requires output { CanCountCall (O.device output.old) }
+    ensures { (asked : Archiving) → IsArchivingRead asked archive.now →
+        WalksKnown asked (O.device output.old) (O.device output.new) result }
+{
+    let screen = screen_below(archive.below.as_slice(), screen);
+    let mut tree = SystemTree::unlinked(rt, alloc).watched(archive.folders.root, screen);
+    let walked = walk_archive(rt, alloc, &mut tree, archive, output);
+    tree.clear();
+    walked
 }
 
 /// Walks it with the lines that are known, which are read first if a file has them.
@@ -344,6 +362,7 @@ fn walk_known<'a, R: Files + Clock, O: Sink>(
     rt: &R,
     alloc: Global,
     asked: &Archiving<'a>,
+    screen: Option<Stderr>,
     output: &mut O,
 ) -> Result<Walked, TaskFault<'a>>
 where
@@ -364,9 +383,9 @@ where
                 days: asked.days,
                 known: Known::Lines(&lines),
             };
-            walk_archive(rt, alloc, &read, output)
+            walk_watched(rt, alloc, &read, screen, output)
         }
-        _ => walk_archive(rt, alloc, asked, output),
+        _ => walk_watched(rt, alloc, asked, screen, output),
     }
 }
 
@@ -374,6 +393,7 @@ fn repack_archive<'a, R: Files + Clock, O: Sink>(
     rt: &R,
     alloc: Global,
     asked: &Archiving<'a>,
+    screen: Option<Stderr>,
     output: &mut O,
 ) -> Result<Done, TaskFault<'a>>
 where
@@ -386,14 +406,14 @@ where
     }
     let Folders { root, out, reports } = asked.folders;
     require_apart(rt, alloc, root, out, reports)?;
-    let walked = walk_known(rt, alloc, asked, output)?;
+    let walked = walk_known(rt, alloc, asked, screen, output)?;
     Ok(Done::of_walk(walked.found, walked.unopened, asked.below.is_empty(), false))
 }
 
 /// Verifies the archive, of which the lines that are known were read.
-fn verify_read<'a, R: Files, O: Sink>(
-    rt: &R,
+fn verify_read<'a, R: Files + Clock, O: Sink>(
     alloc: Global,
+    tree: &mut SystemTree<'_, R>,
     archive: &Verifying<'_>,
     output: &mut O,
 ) -> Result<WalkFound, TaskFault<'a>>
@@ -401,15 +421,35 @@ fn verify_read<'a, R: Files, O: Sink>(
     ensures { (asked : Verifying) → IsVerifyingRead asked archive.now →
         VerifiesKnown asked (O.device output.old) (O.device output.new) result }
 {
-    let found = verify(&mut SystemTree::new(rt, alloc), alloc, &*archive, output)?;
+    let found = verify(tree, alloc, &*archive, output)?;
     Ok(found)
 }
 
+/// The same, and a person sees on that screen, if there is one, how far it is.
+fn verify_watched<'a, R: Files + Clock, O: Sink>(
+    rt: &R,
+    alloc: Global,
+    archive: &Verifying<'_>,
+    screen: Option<Stderr>,
+    output: &mut O,
+) -> Result<WalkFound, TaskFault<'a>>
+    requires { CanCountCall (O.device output.old) }
+    ensures { (asked : Verifying) → IsVerifyingRead asked archive.now →
+        VerifiesKnown asked (O.device output.old) (O.device output.new) result }
+{
+    let screen = screen_below(archive.below.as_slice(), screen);
+    let mut tree = SystemTree::new(rt, alloc).watched(archive.folders.root, screen);
+    let found = verify_read(alloc, &mut tree, archive, output);
+    tree.clear();
+    found
+}
+
 /// Verifies it with the lines that are known, which are read first if a file has them.
-fn verify_known<'a, R: Files, O: Sink>(
+fn verify_known<'a, R: Files + Clock, O: Sink>(
     rt: &R,
     alloc: Global,
     asked: &Verifying<'a>,
+    screen: Option<Stderr>,
     output: &mut O,
 ) -> Result<WalkFound, TaskFault<'a>>
     requires { CanCountCall (O.device output.old) }
@@ -428,16 +468,17 @@ fn verify_known<'a, R: Files, O: Sink>(
                 telling: asked.telling,
                 known: Known::Lines(&lines),
             };
-            verify_read(rt, alloc, &read, output)
+            verify_watched(rt, alloc, &read, screen, output)
         }
-        _ => verify_read(rt, alloc, asked, output),
+        _ => verify_watched(rt, alloc, asked, screen, output),
     }
 }
 
-fn verify_archive<'a, R: Files, O: Sink>(
+fn verify_archive<'a, R: Files + Clock, O: Sink>(
     rt: &R,
     alloc: Global,
     asked: &Verifying<'a>,
+    screen: Option<Stderr>,
     output: &mut O,
 ) -> Result<Done, TaskFault<'a>>
     requires { CanCountCall (O.device output.old) }
@@ -445,6 +486,6 @@ fn verify_archive<'a, R: Files, O: Sink>(
 {
     let Folders { root, out, reports } = asked.folders;
     require_apart(rt, alloc, root, out, reports)?;
-    let found = verify_known(rt, alloc, asked, output)?;
+    let found = verify_known(rt, alloc, asked, screen, output)?;
     Ok(Done::of_walk(found, None, asked.below.is_empty(), true))
 }

@@ -75,6 +75,9 @@ fn main(rt: HostRuntime) -> ExitCode {
     let alloc = rt.alloc();
     let standard = rt.stderr();
     let is_terminal = standard.is_terminal();
+    // Lines and how far a walk is would mix at one terminal.
+    let is_watched = is_terminal && !rt.stdout().is_terminal();
+    let screen = if is_watched { Some(standard) } else { None };
     let mut errors = Errors {
         to: standard,
         is_terminal,
@@ -87,7 +90,7 @@ fn main(rt: HostRuntime) -> ExitCode {
                 let mut input = FromRead::new(given);
                 let mut output = FromWrite::new(rt.stdout());
                 run_words(
-                    &mut SystemFiles::new(&rt),
+                    &mut SystemFiles::watched(&rt, screen),
                     alloc,
                     words.as_slice(),
                     &mut input,

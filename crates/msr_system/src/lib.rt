@@ -9,6 +9,7 @@ mod making;
 mod naming;
 mod opening;
 mod system;
+mod watch;
 mod writer;
 
 pub use system::SystemTree;

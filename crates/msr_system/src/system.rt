@@ -10,14 +10,16 @@ use crate::naming::{copy_file, remove, remove_folder, rename_free, rename_over};
 use crate::opening::{
     are_one, followed, followed_regular, found, is_there, regular_file, store, store_bytes,
 };
+use crate::watch::Watch;
 use crate::writer::SystemWriter;
 use msr_devices::{FromRead, Sink, Source};
 use msr_tree::{Facts, FileKind, Kind, Time, Tree, TreeFault};
 use std::alloc::Global;
 use std::fs::File;
 use std::io;
-use std::io::{Read, Write};
+use std::io::{Read, Stderr, Write};
 use std::rt::Files;
+use std::time::Clock;
 
 /// The system's files.
 #[derive(Drop)]
@@ -29,6 +31,7 @@ pub struct SystemTree<'a, R: Files> {
     has_links: bool,
     /// The folder that was made last, if it was there and stored then, with all that lead to it.
     stored: Option<String>,
+    watch: Watch<'a>,
 }
 
 impl<'a, R: Files> SystemTree<'a, R> {
@@ -39,6 +42,7 @@ impl<'a, R: Files> SystemTree<'a, R> {
             reason: None,
             has_links: true,
             stored: None,
+            watch: Watch::none(),
         }
     }
 
@@ -50,7 +54,26 @@ impl<'a, R: Files> SystemTree<'a, R> {
             reason: None,
             has_links: false,
             stored: None,
+            watch: Watch::none(),
         }
+    }
+}
+
+impl<'a, R: Files + Clock> SystemTree<'a, R> {
+    /// The same, and a person sees on that screen, if there is one, how far the walk of a folder is.
+    pub fn watched(self, root: &'a str, screen: Option<Stderr>) -> SystemTree<'a, R> {
+        match screen {
+            Some(screen) => SystemTree {
+                watch: Watch::new(self.rt, root, screen),
+                ..self
+            },
+            None => self,
+        }
+    }
+
+    /// The walk has ended: nothing of it stays on the screen.
+    pub fn clear(&mut self) {
+        self.watch.clear();
     }
 }
 
@@ -97,7 +120,7 @@ fn writer<F: Write>(
 }
 
 #[tactic(auto, using(crate::proofs::Unknown::unknown))]
-impl<'a, R: Files> Tree for SystemTree<'a, R> {
+impl<'a, R: Files + Clock> Tree for SystemTree<'a, R> {
     type Reader = FromRead<R::File>;
 
     type Writer = SystemWriter<R::File>;
@@ -120,6 +143,7 @@ impl<'a, R: Files> Tree for SystemTree<'a, R> {
     }
 
     fn list(&mut self, folder: &str) -> Result<Vec<String>, TreeFault> {
+        self.watch.note_folder(self.rt, self.alloc, folder);
         match names_in(self.rt, self.alloc, folder) {
             Ok(names) => Ok(names),
             Err(error) => {
@@ -145,6 +169,8 @@ impl<'a, R: Files> Tree for SystemTree<'a, R> {
 
     fn follow(&mut self, path: &str) -> Result<FromRead<R::File>, TreeFault> {
         let opened = followed_regular(self.rt, path);
+        self.watch
+            .note_file(self.rt, self.alloc, path, opened.is_ok());
         reader(&mut self.reason, opened)
     }
 
@@ -155,11 +181,15 @@ impl<'a, R: Files> Tree for SystemTree<'a, R> {
             return Err(TreeFault::Failed);
         }
         let opened = File::open(self.rt, path);
+        self.watch
+            .note_file(self.rt, self.alloc, path, opened.is_ok());
         reader(&mut self.reason, opened)
     }
 
     fn open(&mut self, path: &str) -> Result<FromRead<R::File>, TreeFault> {
         let opened = regular_file(self.rt, path);
+        self.watch
+            .note_file(self.rt, self.alloc, path, opened.is_ok());
         reader(&mut self.reason, opened)
     }
 

@@ -12,7 +12,7 @@ returns-in_err-lines-in-File g c =
 
 pub returns-in_default : goal.returns-in_default
 returns-in_default g c =
-    c.verify_read-in_default.ensures c.args.asked.now (record { names = refl; telling = refl; known = known_same c.args.asked.now.known c.in_default.not-File })
+    c.verify_watched-in_default.ensures c.args.asked.now (record { names = refl; telling = refl; known = known_same c.args.asked.now.known c.in_default.not-File })
 
 pub returns-in_default-clone : goal.returns-in_default-clone
 returns-in_default-clone g c =

@@ -12,7 +12,7 @@ returns-in_err-lines-in-File g c =
 
 pub returns-in_default : goal.returns-in_default
 returns-in_default g c =
-    c.walk_archive-in_default.ensures c.args.asked.now (record { days = refl; known = known_same c.args.asked.now.known c.in_default.not-File })
+    c.walk_watched-in_default.ensures c.args.asked.now (record { days = refl; known = known_same c.args.asked.now.known c.in_default.not-File })
 
 pub returns-in_default-clone : goal.returns-in_default-clone
 returns-in_default-clone g c =
