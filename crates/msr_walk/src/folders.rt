@@ -1,7 +1,7 @@
 //! The walk through the folders of an archive.
 ghost use Rattle.std.specs.Prelude.{◌≡◌, ◌≢◌, ◌↔◌, ◌∷◌, [], IfErr, IfOk, IsErrOf, OnOk, true};
 ghost use Rattle.msr_devices.specs.Device.{CanCountCall, HasFailed};
-ghost use Rattle.msr_sds.specs.SdsPath.{ReadsAsDay};
+ghost use Rattle.msr_sds.specs.SdsPath.{HasForm, ReadsAsDay};
 ghost use Rattle.msr_folders.specs.Entries.{AreEntriesOf, Entry as Found};
 ghost use Rattle.msr_folders.proofs.WithinLemmas.{within_laws};
 ghost use Rattle.msr_folders.specs.Within.{ChangesWithin};
@@ -125,6 +125,17 @@ fn tell<K, C, O: Sink>(
     Ok(())
 }
 
+/// What is asked of the day with this path.
+fn asked_of(archive: &Archiving<'_>, name: &SdsName<'_>) -> DayOptions
+    requires { HasForm name.now }
+    ensures { result ≡ with_name (day_name name.now) archive.now.days }
+{
+    DayOptions {
+        names: names_for(archive.days.names, name),
+        ..archive.days
+    }
+}
+
 impl<'a, C: Claims> Walker<'a, C> {
     /// Whether the file of a day was changed too late.
     fn is_young<T: Tree>(&self, tree: &mut T, path: &str) -> Result<bool, AllocError>
@@ -167,10 +178,7 @@ impl<'a, C: Claims> Walker<'a, C> {
                 waiting: None,
             });
         }
-        let days = DayOptions {
-            names: names_for(self.archive.days.names, name),
-            ..self.archive.days
-        };
+        let days = asked_of(self.archive, name);
         let day = Day::new(self.alloc, self.archive.folders, path)?;
         let length = day_length(tree, self.alloc, day.input(), &days)?;
         let work = Work {

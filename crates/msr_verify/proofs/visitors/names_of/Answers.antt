@@ -12,5 +12,5 @@ asked_is false names is any = any refl
 
 pub returns : goal.returns
 returns c =
-    c.for_day.ensures ∙ (ap (λ n. names_for n c.asked.result) c.day_name.ensures
-    ∙ ap (λ (a : Names). names_for (day_name c.args.name.now) a) (asked_is c.args.archive.now.names c.asked.result c.asked.ensures.own c.asked.ensures.any))
+    c.names_for.ensures
+    ∙ ap (λ (a : Names). names_for (day_name c.args.name.now) a) (asked_is c.args.archive.now.names c.asked.result c.asked.ensures.own c.asked.ensures.any)
