@@ -65,7 +65,7 @@ returns-in_err-handled-clause-goes g c =
 
 pub returns-clause-told : goal.returns-clause-told
 returns-clause-told g c =
-    let asked = c.asked_of.ensures in
+    let asked = c.asked_of-days.ensures in
     record {
       asked = c.in_length.result;
       for_day = record {
@@ -89,7 +89,7 @@ returns-clause-goes g c =
     let folders = c.args.self.now.archive.now.folders in
     let names = day_names folders.root.now folders.out.now folders.reports.now c.args.path.now in
     let within = day_within folders.root.now folders.out.now folders.reports.now c.args.path.now (c.args.name.now, c.requires) in
-    let asked = c.asked_of.ensures in
+    let asked = c.asked_of-days.ensures in
     tells_after (λ told. told.outcome) (with_name (day_name c.args.name.now) c.args.self.now.archive.now.days) names folders.out.now folders.reports.now _ _ _ _ c.in_ok-is_young.ensures.goes
     (day_told (λ handled. handled.outcome) (λ told. told.outcome) (with_name (day_name c.args.name.now) c.args.self.now.archive.now.days) names folders.out.now folders.reports.now c.in_ok-length.length (Ok c.in_ok-handled.handled) _ _ _ _
     (subst (λ (d : DayOptions). d.same_length ≡ false → c.in_ok-length.length ≡ d.options.record_length) asked c.in_ok-length.ensures.own)
