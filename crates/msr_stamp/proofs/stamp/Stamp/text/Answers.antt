@@ -1,7 +1,7 @@
 use Rattle.std.proofs.Common.{rules, ◌≡◌}
 use Rattle.std.specs.Fmt.{signed_decimal}
 use Rattle.std.specs.String.{string_bytes}
-use Rattle.msr_making.proofs.stamp.Stamp.text.Goals as goal
+use Rattle.msr_stamp.proofs.stamp.Stamp.text.Goals as goal
 
 pub returns : goal.returns
 returns c =
