@@ -1,20 +1,19 @@
 -- How the stamp of a day is given, and what a crash leaves of it meanwhile.
-use Rattle.std.proofs.Common.{◌≡◌, ◌≢◌, ◌⊎◌, inl, inr, ⊎_elim, ℕ, Bool, true, false, List, [], ◌∷◌, ◌++◌, length, Option, None, Some, IsSomeAnd, Result, Ok, Err, option_map, refl, sym, ◌∙◌, ap, subst}
+use Rattle.std.proofs.Common.{◌≡◌, ◌≢◌, ◌&&◌, ◌⊎◌, inl, inr, ⊎_elim, ℕ, Bool, true, false, List, [], ◌∷◌, ◌++◌, length, Option, None, Some, IfSome, IsSomeAnd, Result, Ok, Err, option_map, refl, sym, ◌∙◌, ap, subst}
 use Rattle.std.specs.Str.{bytes_eq}
 use Rattle.std.proofs.lemmas.Bool.{cases_Bool}
 use Rattle.std.proofs.lemmas.Slice.Eq.{bytes_eq-Decides}
 use Rattle.msr_tree.specs.Calls.{DoesStep, Goes, Looks, Tells}
 use Rattle.msr_tree.specs.Steps.{AtEachMoment, ChangesOnly, Failed, File, FolderStored, IsNoneOf, IsReady, Leaves, MayLeave, Path, Removed, Renamed, ShowsAfter, Step, Throughout, now, seen}
 use Rattle.msr_tree.specs.declared.facts.Facts.{Facts}
-use Rattle.msr_tree.specs.declared.facts.Kind.TheVariants.{Regular}
 use Rattle.msr_tree.specs.declared.tree.TreeFault.{TreeFault}
 use Rattle.msr_tree.specs.declared.tree.TreeFault.TheVariants as fault
-use Rattle.msr_tree.proofs.Acting.{acts_does, goes_as, within_renamed}
-use Rattle.msr_tree.proofs.Changes.{changes_more, changes_none, changes_then, each_by_changes, leaves_kept, may_kept, ready_kept, ready_renamed, with_changes}
+use Rattle.msr_tree.proofs.Acting.{acts_does, acts_tells, goes_as, within_renamed}
+use Rattle.msr_tree.proofs.Changes.{changes_more, changes_none, changes_then, each_by_changes, leaves_kept, may_kept, now_kept, ready_renamed, with_changes}
 use Rattle.msr_tree.proofs.Crash.{is_of, is_self, leaves, leaves_seen}
 use Rattle.msr_tree.proofs.Moments.{at_end, joined}
 use Rattle.msr_stamp.specs.Making.{WritesText}
-use Rattle.msr_stamp.specs.Stamp.{stamp_text}
+use Rattle.msr_stamp.specs.Stamp.{stamp_of, stamp_text}
 use Rattle.msr_stamp.specs.declared.stamp.Stamp.{Stamp}
 use Rattle.msr_stamp.specs.declared.stamp.StampOf.{StampOf}
 use Rattle.msr_stamp.specs.declared.stamp.StampOf.TheVariants as stamped
@@ -22,7 +21,7 @@ use Rattle.msr_stamp.proofs.Begun.{goes_both}
 use Rattle.msr_exchange.specs.Names.{AreStampNames, Names, StampPlaces}
 use Rattle.msr_exchange.specs.Promise.{KeepsBoth}
 use Rattle.msr_exchange.specs.declared.names.Place.TheVariants.{Day, Original, Records}
-use Rattle.msr_replace.specs.Stamped.{AddsTexts, DropsStamp, FindsStamp, GivesStamp, IsStampText, LeavesStamp, LeavesTexts, NamesStamp, StampsDay, StampsReplaced, StampsRestored, TellsGone, stamp_names}
+use Rattle.msr_replace.specs.Stamped.{AddsTexts, DropsStamp, FindsStamp, GivesStamp, IsStampOfFound, IsStampText, LeavesStamp, LeavesTexts, NamesStamp, StampsDay, StampsReplaced, StampsRestored, TellsGone, stamp_names}
 use Rattle.msr_replace.specs.declared.answers.DayRestored.{DayRestored}
 use Rattle.msr_replace.specs.declared.answers.DayRestored.TheVariants.{Restored}
 
@@ -98,9 +97,6 @@ removed_texts name Is p = record {
 }
 
 module _ (stamp : StampPlaces) where
-  l : List Path
-  l = stamp_names stamp
-
   pub named_stamp : {A B : Type 0} (renamed : Result A TreeFault) (stored : Result B TreeFault) (folder : Path) (one mid two : List Step → Type 0)
       → Goes one mid (DoesStep (Renamed stamp.part stamp.path) renamed) → Goes mid two (DoesStep (FolderStored folder) stored) → Goes one two (NamesStamp stamp)
   named_stamp renamed stored folder one mid two first second = goes_both _ _ _ one mid two
@@ -268,19 +264,44 @@ module _ (stamp : StampPlaces) where
       from = λ new went. (new, went, record { changes = changes_none (stamp_names stamp) new; adds = λ are is. absurd (not is); none = λ n. refl });
     }
 
--- a look at the file that has the day's place, and at what is not there
-pub finds_regular : (name : Path) (facts : Facts) (value : Stamp) (one two : List Step → Type 0) → facts.kind ≡ Regular → value.bytes ≡ facts.bytes → Goes one two (Tells (Looks name) (Ok (Some facts))) → Goes one two (FindsStamp name (Some value))
-finds_regular name facts value one two regular same goes = goes_as _ _ one two
+-- a look at the file that has the day's place
+pub finds_regular : (name : Path) (found : Option Facts) (value : Option Stamp) (one two : List Step → Type 0) → IfSome value (IsStampOfFound found) → Goes one two (Tells (Looks name) (Ok found)) → Goes one two (FindsStamp name value)
+finds_regular name found value one two is goes = goes_as _ _ one two
     (λ p q tells. record {
-      changes = subst (λ (l : List Step). ChangesOnly [] p l) (sym tells.0) (changes_none [] p);
-      is = by (now p name) (tells.1.regular regular);
+      changes = (acts_tells [] (Looks name) (Ok found) p q tells).changes;
+      is = by found value p is tells.1;
     }) goes
   where
-    by : (found : Option File) → IsSomeAnd found (λ file. facts.bytes ≡ length file.bytes) → IsSomeAnd found (λ file. value.bytes ≡ length file.bytes)
-    by None has = has
-    by (Some file) has = same ∙ has
+    as_long : (facts : Facts) (s : Stamp) (file : Option File) → s ≡ stamp_of facts → IsSomeAnd file (λ file. facts.bytes ≡ length file.bytes) → IsSomeAnd file (λ file. s.bytes ≡ length file.bytes)
+    as_long facts s None same has = has
+    as_long facts s (Some file) same has = ap (λ (x : Stamp). x.bytes) same ∙ has
 
-other_way : (x y : Path) → bytes_eq x y ≡ false → bytes_eq y x ≡ false
+    by : (found : Option Facts) (value : Option Stamp) (p : List Step) → IfSome value (IsStampOfFound found) → Looks name p found → IfSome value (λ s. IsSomeAnd (now p name) (λ file. s.bytes ≡ length file.bytes))
+    by found None p is looks = tt
+    by None (Some s) p is looks = absurd is
+    by (Some facts) (Some s) p is looks = as_long facts s (now p name) is.1 (looks.regular is.0)
+
+pub finds_none : (name : Path) (why : TreeFault) (one two : List Step → Type 0) → Goes one two (Tells (Looks name) (Err why)) → Goes one two (FindsStamp name None)
+finds_none name why one two goes = goes_as _ _ one two (λ p q tells. record { changes = (acts_tells [] (Looks name) (Err why) p q tells).changes; is = tt }) goes
+
+-- two looks, at the original and at the records
+pub tells_gone : (original records : Path) (first second : Result (Option Facts) TreeFault) (there gone : Bool) (one mid two : List Step → Type 0) → (gone ≡ true → second ≡ Ok None)
+    → Goes one mid (Tells (Looks original) first) → Goes mid two (Tells (Looks records) second) → Goes one two (TellsGone records (there && gone))
+tells_gone original records first second there gone one mid two is a b = goes_both _ _ _ one mid two
+    (λ p q r x y.
+    let quiet = (acts_tells [] (Looks original) first p q x).changes in
+    record {
+      changes = changes_then [] p q r quiet (acts_tells [] (Looks records) second q r y).changes;
+      none = λ both.
+          let looks : Looks records q None = (subst (λ (s : Result (Option Facts) TreeFault). Tells (Looks records) s q r) (is (second_is there gone both)) y).1 in
+          sym (now_kept [] records p q tt quiet) ∙ looks;
+    }) a b
+  where
+    second_is : (there gone : Bool) → there && gone ≡ true → gone ≡ true
+    second_is true gone so = so
+    second_is false gone so = absurd cc
+
+pub other_way : (x y : Path) → bytes_eq x y ≡ false → bytes_eq y x ≡ false
 other_way x y not = elim (cases_Bool (bytes_eq y x)) [
   | inl is ↦ let yes = (bytes_eq-Decides x y).1 (sym ((bytes_eq-Decides y x).0 is)) in absurd cc
   | inr no ↦ no

@@ -1,7 +1,9 @@
 -- What is done with the stamp of a day whose files have changed places.
 use Rattle.std.specs.Prelude.{◌≡◌, ◌≢◌, ◌⊎◌, ℕ, Bool, true, List, [], ◌∷◌, ◌++◌, length, Option, None, Some, IfSome, IsSomeAnd}
 use Rattle.msr_tree.specs.Steps.{AtEachMoment, ChangesOnly, IsReady, Leaves, MayLeave, Path, Step, now}
-use Rattle.msr_stamp.specs.Stamp.{stamp_text}
+use Rattle.msr_tree.specs.declared.facts.Facts.{Facts}
+use Rattle.msr_tree.specs.declared.facts.Kind.TheVariants.{Regular}
+use Rattle.msr_stamp.specs.Stamp.{stamp_of, stamp_text}
 use Rattle.msr_stamp.specs.declared.stamp.Stamp.{Stamp}
 use Rattle.msr_stamp.specs.declared.stamp.StampOf.{StampOf}
 use Rattle.msr_stamp.specs.declared.stamp.StampOf.TheVariants as stamped
@@ -38,7 +40,11 @@ pub record LeavesStamp (names : Names) (stamp : StampPlaces) (of : StampOf) (byt
   pub may : (text : List ℕ) → MayLeave past stamp.path (Some text)
       → MayLeave old stamp.path (Some text) ⊎ (IsStampText of bytes text × Leaves past names.day (Some bytes))
 
--- the stamp of a regular file
+-- the stamp of what was found, a regular file
+abbrev pub IsStampOfFound : Option Facts → Stamp → Type 0
+IsStampOfFound None stamp = ⊥
+IsStampOfFound (Some facts) stamp = (facts.kind ≡ Regular) × (stamp ≡ stamp_of facts)
+
 pub record FindsStamp (name : Path) (found : Option Stamp) (old new : List Step) : Type 0 where
   pub changes : ChangesOnly [] old new
   pub is : IfSome found (λ stamp. IsSomeAnd (now old name) (λ file. stamp.bytes ≡ length file.bytes))

@@ -1,15 +1,15 @@
 //! The stamp of a day whose files have changed places, by which `archive` leaves it alone. If it cannot be written, none is
 //! left, or an old one that tells of another file.
-ghost use Rattle.std.specs.Prelude.{◌≡◌, [], IfOk, string_bytes};
+ghost use Rattle.std.specs.Prelude.{◌≡◌, [], IfOk, IfSome, None, Ok, true};
 ghost use Rattle.msr_tree.specs.Calls.{Goes};
 ghost use Rattle.msr_tree.specs.Steps.{ChangesOnly};
 ghost use Rattle.msr_exchange.specs.Work.{stamp_in};
-ghost use Rattle.msr_replace.specs.Stamped.{DropsStamp, FindsStamp, GivesStamp, NamesStamp, StampsDay, StampsReplaced, StampsRestored, TellsGone};
+ghost use Rattle.msr_replace.specs.Stamped.{DropsStamp, FindsStamp, GivesStamp, IsStampOfFound, NamesStamp, StampsDay, StampsReplaced, StampsRestored, TellsGone};
 
 use crate::answers::{DayAnswer, DayRestored};
 use msr_exchange::{DayNames, DayWork, Place};
 use msr_stamp::{Stamp, StampOf, gives_text, write_stamp};
-use msr_tree::{Kind, Tree, folder_above};
+use msr_tree::{Facts, Kind, Tree, TreeFault, folder_above};
 use std::alloc::{AllocError, Global};
 use std::marker::Model;
 
@@ -45,13 +45,24 @@ impl StampNames {
     }
 }
 
+/// The stamp of what was found, if it is a regular file.
+fn regular_stamp(found: Option<Facts>) -> Option<Stamp>
+    ensures { IfSome result (IsStampOfFound found) }
+{
+    let facts = found?;
+    match facts.kind {
+        Kind::Regular => Some(Stamp::of(&facts)),
+        Kind::Folder | Kind::Link | Kind::Other => None,
+    }
+}
+
 /// The stamp of the file that has the day's place, if it is a regular one.
 fn stamp_of_file<T: Tree>(tree: &mut T, names: &DayNames) -> Option<Stamp>
     ensures { Goes (T.went tree.old) (T.went tree.new) (FindsStamp names.now.day result) }
 {
     match tree.look(names.at(Place::Day)) {
-        Ok(Some(facts)) if facts.kind == Kind::Regular => Some(Stamp::of(&facts)),
-        _ => None,
+        Ok(found) => regular_stamp(found),
+        Err(_) => None,
     }
 }
 
@@ -127,13 +138,44 @@ fn stamp_day<T: Tree>(
     }
 }
 
+/// Whether a look found nothing.
+fn is_nothing(found: Result<Option<Facts>, TreeFault>) -> bool
+    ensures { result ≡ true → found ≡ Ok None }
+{
+    match found {
+        Ok(None) => true,
+        Ok(Some(_)) | Err(_) => false,
+    }
+}
+
+/// Whether a look found something.
+fn is_something(found: Result<Option<Facts>, TreeFault>) -> bool {
+    match found {
+        Ok(Some(_)) => true,
+        Ok(None) | Err(_) => false,
+    }
+}
+
 /// Whether ASIDE has the day's original, and OUT no records of it.
 fn are_gone<T: Tree>(tree: &mut T, names: &DayNames) -> bool
     ensures { Goes (T.went tree.old) (T.went tree.new) (TellsGone names.now.records result) }
 {
-    match tree.look(names.at(Place::Original)) {
-        Ok(Some(_)) => matches!(tree.look(names.at(Place::Records)), Ok(None)),
-        _ => false,
+    let original = tree.look(names.at(Place::Original));
+    let records = tree.look(names.at(Place::Records));
+    is_something(original) & is_nothing(records)
+}
+
+/// Whether a day of which that was told may have its records in ROOT.
+fn may_be_in_place(answer: DayAnswer) -> bool {
+    match answer {
+        DayAnswer::Replaced { .. } | DayAnswer::Same => true,
+        DayAnswer::Young
+        | DayAnswer::Larger { .. }
+        | DayAnswer::Changed
+        | DayAnswer::Missing
+        | DayAnswer::NotShown
+        | DayAnswer::Differs
+        | DayAnswer::Refused(_) => false,
     }
 }
 
@@ -147,7 +189,7 @@ pub(crate) fn stamp_replaced<T: Tree>(
 )
     ensures { Goes (T.went tree.old) (T.went tree.new) (StampsReplaced names.now stamp.now) }
 {
-    if !matches!(answer, DayAnswer::Replaced { .. } | DayAnswer::Same) {
+    if !may_be_in_place(answer) {
         return;
     }
     if are_gone(tree, names) {
@@ -165,7 +207,8 @@ pub(crate) fn stamp_restored<T: Tree>(
 )
     ensures { Goes (T.went tree.old) (T.went tree.new) (StampsRestored names.now stamp.now answer) }
 {
-    if answer == DayRestored::Restored {
-        stamp_day(tree, work.alloc, names, stamp, StampOf::Input);
+    match answer {
+        DayRestored::Restored => stamp_day(tree, work.alloc, names, stamp, StampOf::Input),
+        DayRestored::Changed | DayRestored::Refused(_) => {}
     }
 }

@@ -11,18 +11,26 @@ use msr_devices::write_all;
 use msr_tree::{Tree, TreeFault};
 use std::alloc::Global;
 
-/// Makes a file. What stands under its name was left by a run that was killed, and is removed: no file that is there is
-/// written to.
+/// Makes a file under a name that nothing has.
+fn make_file<T: Tree>(tree: &mut T, path: &str) -> Result<T::Writer, TreeFault>
+    ensures count { IfOk result (λ writer. CanCountCall (T.Writer.device writer)) }
+    ensures goes { Goes (T.went tree.old) (T.went tree.new)
+        (ActsOnFiles (path.now ∷ []) (IsBegun (λ writer. T.Writer.device writer)) result) }
+{
+    tree.make(path)
+}
+
+/// The same. What stands there was left by a run that was killed, and is removed: no file that is there is written to.
 fn begin<T: Tree>(tree: &mut T, path: &str) -> Result<T::Writer, TreeFault>
     ensures count { IfOk result (λ writer. CanCountCall (T.Writer.device writer)) }
     ensures goes { Goes (T.went tree.old) (T.went tree.new)
         (ActsOnFiles (path.now ∷ []) (IsBegun (λ writer. T.Writer.device writer)) result) }
 {
-    if let Ok(writer) = tree.make(path) {
+    if let Ok(writer) = make_file(tree, path) {
         return Ok(writer);
     }
     let _ = tree.remove(path);
-    tree.make(path)
+    make_file(tree, path)
 }
 
 /// Writes a stamp, and tells whether it is on the disk.

@@ -34,4 +34,4 @@ returns-clause-told g c =
 pub returns-clause-goes : goal.returns-clause-goes
 returns-clause-goes g c =
     left_there (paths_at c.args.places) c.args.asked.now c.args.look.now c.in-Some.facts.input c.of-stamp.result c.in_ok-is_stamped.is_stamped c.in_ok-found.found c.in-Some-found.repacked
-    c.of-stamp.ensures c.if-not-is_stamped.false c.in-Some-found.is c.in-Some.ensures.input (c.is_kept.ensures c.if-not-is_kept.false) _ _ _ (rw c.stamped_by.ensures at c.in_ok-is_stamped.ensures) c.in_ok-found.ensures.goes
+    c.of-stamp.ensures c.if-not-is_stamped.false c.in-Some-found.is c.in-Some.ensures.input (c.is_kept.ensures c.if-not-is_kept.false) _ _ _ (rw c.stamped_by-of.ensures at c.in_ok-is_stamped.ensures) c.in_ok-found.ensures.goes
