@@ -1,5 +1,5 @@
 -- What is done with the stamp of a day whose files have changed places.
-use Rattle.std.specs.Prelude.{◌≡◌, ◌≢◌, ◌⊎◌, ℕ, Bool, true, List, [], ◌∷◌, ◌++◌, length, Option, None, Some, IfSome, IsSomeAnd}
+use Rattle.std.specs.Prelude.{◌≡◌, ◌≢◌, ◌⊎◌, ℕ, Bool, true, List, [], ◌∷◌, codes, length, Option, None, Some, IfSome, IsSomeAnd}
 use Rattle.msr_tree.specs.Steps.{AtEachMoment, ChangesOnly, IsReady, Leaves, MayLeave, Path, Step, now}
 use Rattle.msr_tree.specs.declared.facts.Facts.{Facts}
 use Rattle.msr_tree.specs.declared.facts.Kind.TheVariants.{Regular}
@@ -7,8 +7,10 @@ use Rattle.msr_stamp.specs.Stamp.{stamp_of, stamp_text}
 use Rattle.msr_stamp.specs.declared.stamp.Stamp.{Stamp}
 use Rattle.msr_stamp.specs.declared.stamp.StampOf.{StampOf}
 use Rattle.msr_stamp.specs.declared.stamp.StampOf.TheVariants as stamped
-use Rattle.msr_exchange.specs.Names.{AreStampNames, Names, StampPlaces, all}
+use Rattle.msr_exchange.specs.Names.{AreStampNames, Names, StampPlaces, all, path_below}
 use Rattle.msr_exchange.specs.Promise.{KeepsBoth}
+use Rattle.msr_exchange.specs.Work.{parts_in}
+use Rattle.msr_exchange.specs.declared.work.DayWork.{DayWork}
 use Rattle.msr_exchange.specs.declared.names.Place.TheVariants.{Original, Records}
 use Rattle.msr_replace.specs.declared.answers.DayRestored.{DayRestored}
 use Rattle.msr_replace.specs.declared.answers.DayRestored.TheVariants.{Restored}
@@ -19,6 +21,13 @@ all_with names stamp = stamp.path ∷ stamp.part ∷ all names
 
 abbrev pub stamp_names : StampPlaces → List Path
 stamp_names stamp = stamp.path ∷ stamp.part ∷ []
+
+-- the name of the stamp that is in its making in a folder, and all such names there
+abbrev pub stamp_part_in : DayWork → (folder : List ℕ) → Path
+stamp_part_in work folder = path_below work.reports.now (path_below folder (codes ".msrepack-replace.stamp"))
+
+abbrev pub all_parts_in : DayWork → (folder : List ℕ) → List Path
+all_parts_in work folder = stamp_part_in work folder ∷ parts_in work folder
 
 -- The text is that of a stamp of a file with as many bytes.
 pub record IsStampText (of : StampOf) (bytes text : List ℕ) : Type 0 where
