@@ -265,24 +265,23 @@ module _ (stamp : StampPlaces) where
     }
 
 -- a look at the file that has the day's place
-pub finds_regular : (name : Path) (found : Option Facts) (value : Option Stamp) (one two : List Step → Type 0) → IfSome value (IsStampOfFound found) → Goes one two (Tells (Looks name) (Ok found)) → Goes one two (FindsStamp name value)
-finds_regular name found value one two is goes = goes_as _ _ one two
+pub finds_regular : (name : Path) (facts : Facts) (value : Option Stamp) (one two : List Step → Type 0) → IfSome value (IsStampOfFound facts) → Goes one two (Tells (Looks name) (Ok (Some facts))) → Goes one two (FindsStamp name value)
+finds_regular name facts value one two is goes = goes_as _ _ one two
     (λ p q tells. record {
-      changes = (acts_tells [] (Looks name) (Ok found) p q tells).changes;
-      is = by found value p is tells.1;
+      changes = (acts_tells [] (Looks name) (Ok (Some facts)) p q tells).changes;
+      is = by value p is tells.1;
     }) goes
   where
-    as_long : (facts : Facts) (s : Stamp) (file : Option File) → s ≡ stamp_of facts → IsSomeAnd file (λ file. facts.bytes ≡ length file.bytes) → IsSomeAnd file (λ file. s.bytes ≡ length file.bytes)
-    as_long facts s None same has = has
-    as_long facts s (Some file) same has = ap (λ (x : Stamp). x.bytes) same ∙ has
+    as_long : (s : Stamp) (file : Option File) → s ≡ stamp_of facts → IsSomeAnd file (λ file. facts.bytes ≡ length file.bytes) → IsSomeAnd file (λ file. s.bytes ≡ length file.bytes)
+    as_long s None same has = has
+    as_long s (Some file) same has = ap (λ (x : Stamp). x.bytes) same ∙ has
 
-    by : (found : Option Facts) (value : Option Stamp) (p : List Step) → IfSome value (IsStampOfFound found) → Looks name p found → IfSome value (λ s. IsSomeAnd (now p name) (λ file. s.bytes ≡ length file.bytes))
-    by found None p is looks = tt
-    by None (Some s) p is looks = absurd is
-    by (Some facts) (Some s) p is looks = as_long facts s (now p name) is.1 (looks.regular is.0)
+    by : (value : Option Stamp) (p : List Step) → IfSome value (IsStampOfFound facts) → Looks name p (Some facts) → IfSome value (λ s. IsSomeAnd (now p name) (λ file. s.bytes ≡ length file.bytes))
+    by None p is looks = tt
+    by (Some s) p is looks = as_long s (now p name) is.is (looks.regular is.regular)
 
-pub finds_none : (name : Path) (why : TreeFault) (one two : List Step → Type 0) → Goes one two (Tells (Looks name) (Err why)) → Goes one two (FindsStamp name None)
-finds_none name why one two goes = goes_as _ _ one two (λ p q tells. record { changes = (acts_tells [] (Looks name) (Err why) p q tells).changes; is = tt }) goes
+pub finds_none : (name : Path) (answer : Result (Option Facts) TreeFault) (one two : List Step → Type 0) → Goes one two (Tells (Looks name) answer) → Goes one two (FindsStamp name None)
+finds_none name answer one two goes = goes_as _ _ one two (λ p q tells. record { changes = (acts_tells [] (Looks name) answer p q tells).changes; is = tt }) goes
 
 -- two looks, at the original and at the records
 pub tells_gone : (original records : Path) (first second : Result (Option Facts) TreeFault) (there gone : Bool) (one mid two : List Step → Type 0) → (gone ≡ true → second ≡ Ok None)

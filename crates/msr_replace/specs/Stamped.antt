@@ -50,9 +50,9 @@ pub record LeavesStamp (names : Names) (stamp : StampPlaces) (of : StampOf) (byt
       → MayLeave old stamp.path (Some text) ⊎ (IsStampText of bytes text × Leaves past names.day (Some bytes))
 
 -- the stamp of what was found, a regular file
-abbrev pub IsStampOfFound : Option Facts → Stamp → Type 0
-IsStampOfFound None stamp = ⊥
-IsStampOfFound (Some facts) stamp = (facts.kind ≡ Regular) × (stamp ≡ stamp_of facts)
+pub record IsStampOfFound (facts : Facts) (stamp : Stamp) : Type 0 where
+  pub regular : facts.kind ≡ Regular
+  pub is : stamp ≡ stamp_of facts
 
 pub record FindsStamp (name : Path) (found : Option Stamp) (old new : List Step) : Type 0 where
   pub changes : ChangesOnly [] old new

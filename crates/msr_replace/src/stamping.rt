@@ -38,20 +38,18 @@ impl StampNames {
         ensures { IfOk result (λ names. names ≡ stamp_in work.now path.now) }
     {
         let (reports, folder) = (work.reports, folder_above(path));
-        Ok(StampNames {
-            path: format!(in work.alloc; "{reports}/{path}.from")?,
-            part: format!(in work.alloc; "{reports}/{folder}/.msrepack-replace.stamp")?,
-        })
+        let path = format!(in work.alloc; "{reports}/{path}.from")?;
+        let part = format!(in work.alloc; "{reports}/{folder}/.msrepack-replace.stamp")?;
+        Ok(StampNames { path, part })
     }
 }
 
 /// The stamp of what was found, if it is a regular file.
-fn regular_stamp(found: Option<Facts>) -> Option<Stamp>
-    ensures { IfSome result (IsStampOfFound found) }
+fn regular_stamp(facts: &Facts) -> Option<Stamp>
+    ensures { IfSome result (IsStampOfFound facts.now) }
 {
-    let facts = found?;
     match facts.kind {
-        Kind::Regular => Some(Stamp::of(&facts)),
+        Kind::Regular => Some(Stamp::of(facts)),
         Kind::Folder | Kind::Link | Kind::Other => None,
     }
 }
@@ -61,7 +59,8 @@ fn stamp_of_file<T: Tree>(tree: &mut T, names: &DayNames) -> Option<Stamp>
     ensures { Goes (T.went tree.old) (T.went tree.new) (FindsStamp names.now.day result) }
 {
     match tree.look(names.at(Place::Day)) {
-        Ok(found) => regular_stamp(found),
+        Ok(Some(facts)) => regular_stamp(&facts),
+        Ok(None) => None,
         Err(_) => None,
     }
 }
@@ -117,9 +116,9 @@ fn give_stamp<T: Tree>(
     }
     if write_stamp(tree, alloc, stamp.part.as_str(), of, value) {
         name_stamp(tree, stamp);
-    } else {
-        drop_stamp(tree, names, stamp);
+        return;
     }
+    drop_stamp(tree, names, stamp);
 }
 
 /// The stamp is that of the file that has the day's place, or none is left.
@@ -192,9 +191,10 @@ pub(crate) fn stamp_replaced<T: Tree>(
     if !may_be_in_place(answer) {
         return;
     }
-    if are_gone(tree, names) {
-        stamp_day(tree, work.alloc, names, stamp, StampOf::Records);
+    if !are_gone(tree, names) {
+        return;
     }
+    stamp_day(tree, work.alloc, names, stamp, StampOf::Records);
 }
 
 /// The same, if its original is.
@@ -209,6 +209,7 @@ pub(crate) fn stamp_restored<T: Tree>(
 {
     match answer {
         DayRestored::Restored => stamp_day(tree, work.alloc, names, stamp, StampOf::Input),
-        DayRestored::Changed | DayRestored::Refused(_) => {}
+        DayRestored::Changed => {}
+        DayRestored::Refused(_) => {}
     }
 }

@@ -124,8 +124,11 @@ fn clear_stamp<T: Tree>(tree: &mut T, work: &DayWork<'_>, folder: &str)
     ensures { Goes (T.went tree.old) (T.went tree.new) (ChangesOnly (stamp_part_in work.now folder.now ∷ [])) }
 {
     let reports = work.reports;
-    if let Ok(part) = format!(in work.alloc; "{reports}/{folder}/.msrepack-replace.stamp") {
-        let _ = tree.remove(part.as_str());
+    match format!(in work.alloc; "{reports}/{folder}/.msrepack-replace.stamp") {
+        Ok(part) => {
+            let _ = tree.remove(part.as_str());
+        }
+        Err(_) => {}
     }
 }
 

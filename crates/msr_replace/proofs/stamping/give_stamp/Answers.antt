@@ -10,7 +10,7 @@ returns-then-write_stamp g c =
     let part : c.as_str.result.now ≡ c.args.stamp.now.part = search rules in
     given_named c.args.stamp.now c.args.names.now c.args.of c.args.value c.write_stamp.result _ _ _ _ c.if-write_stamp.true c.has_stamp.ensures (rw part at c.write_stamp.ensures) c.name_stamp.ensures
 
-pub returns-then-not-write_stamp : goal.returns-then-not-write_stamp
-returns-then-not-write_stamp g c =
+pub returns : goal.returns
+returns g c =
     let part : c.as_str.result.now ≡ c.args.stamp.now.part = search rules in
     given_none c.args.stamp.now c.args.names.now c.args.of c.args.value c.write_stamp.result _ _ _ _ c.has_stamp.ensures (rw part at c.write_stamp.ensures) c.drop_stamp.ensures

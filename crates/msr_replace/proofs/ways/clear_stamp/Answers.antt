@@ -5,11 +5,11 @@ use Rattle.msr_replace.specs.Stamped.{stamp_part_in}
 use Rattle.msr_replace.proofs.Quiet.{quiet_acts, quiet_none}
 use Rattle.msr_replace.proofs.ways.clear_stamp.Goals as goal
 
-pub returns-then-Ok : goal.returns-then-Ok
-returns-then-Ok g c =
+pub returns-in-Ok : goal.returns-in-Ok
+returns-in-Ok g c =
     let part = stamp_part_in c.args.work.now c.args.folder.now in
     let path : c.as_str.result.now ≡ part = search rules in
     quiet_acts (part ∷ []) _ _ _ _ (goes_does (part ∷ []) (Removed part) c.remove.result _ _ (λ name none. none.0) (rw path at c.remove.ensures))
 
-pub returns-then-not-Ok : goal.returns-then-not-Ok
-returns-then-not-Ok g c = quiet_none (stamp_part_in c.args.work.now c.args.folder.now ∷ []) _
+pub returns-in-Err : goal.returns-in-Err
+returns-in-Err g c = quiet_none (stamp_part_in c.args.work.now c.args.folder.now ∷ []) _
