@@ -75,14 +75,14 @@ module _ (names : Names) (stamp : StampPlaces) (are : AreStampNames names stamp)
 
     pub replaced_then : (x : DayAnswer) (one mid two : List Step → Type 0) → Goes one mid (Exchanges work names report (giving x)) → Goes mid two (StampsReplaced names stamp) → Goes one two (Replaces work names report stamp (giving x))
     replaced_then x one mid two first second = goes_both _ _ _ one mid two
-        (λ p q r exchanges stamps. record {
-          changes = changes_then (all_with names stamp) p q r (more_all p q exchanges.changes) (more_stamp q r stamps.changes);
+        (λ p q r exchanges given. record {
+          changes = changes_then (all_with names stamp) p q r (more_all p q exchanges.changes) (more_stamp q r given.changes);
           cause = λ is. cc;
-          safe = λ a b kept. kept_on Original Records a b p q r (exchanges.safe a b kept) stamps.changes;
-          alone = alone_on Original p q r exchanges.alone stamps.changes;
-          answers = means_on x p q r stamps.changes exchanges.answers;
+          safe = λ a b kept. kept_on Original Records a b p q r (exchanges.safe a b kept) given.changes;
+          alone = alone_on Original p q r exchanges.alone given.changes;
+          answers = means_on x p q r given.changes exchanges.answers;
           stamps = λ a b kept. stamp_then stamp names stamped.Records b (all names) p q r none_all exchanges.changes
-              (stamps.adds are a b (at_end (KeepsBoth names Original a Records b) p q (exchanges.safe a b kept)));
+              (given.adds are a b (at_end (KeepsBoth names Original a Records b) p q (exchanges.safe a b kept)));
         }) first second
 
     pub replaced_stopped : (why : TreeFault) (one two : List Step → Type 0) → Goes one two (Exchanges work names report (stopping DayAnswer why)) → Goes one two (Replaces work names report stamp (stopping DayAnswer why))
@@ -113,17 +113,17 @@ module _ (names : Names) (stamp : StampPlaces) (are : AreStampNames names stamp)
 
   pub restored_then : (x : DayRestored) (one mid two : List Step → Type 0) → Goes one mid (PutsBackDay names (giving x)) → Goes mid two (StampsRestored names stamp x) → Goes one two (RestoresDay names stamp (giving x))
   restored_then x one mid two first second = goes_both _ _ _ one mid two
-      (λ p q r puts stamps. record {
-        changes = changes_then (all_with names stamp) p q r (more_all p q puts.changes) (more_stamp q r stamps.changes);
+      (λ p q r puts given. record {
+        changes = changes_then (all_with names stamp) p q r (more_all p q puts.changes) (more_stamp q r given.changes);
         cause = λ is. cc;
-        safe = λ a b kept. kept_on Records Original a b p q r (puts.safe a b kept) stamps.changes;
-        alone = alone_on Records p q r puts.alone stamps.changes;
-        answers = λ a b kept. λ is. leaves_kept (stamp_names stamp) names.day (Some b) q r (are.apart Day) stamps.changes (puts.answers a b kept is);
+        safe = λ a b kept. kept_on Records Original a b p q r (puts.safe a b kept) given.changes;
+        alone = alone_on Records p q r puts.alone given.changes;
+        answers = λ a b kept. λ is. leaves_kept (stamp_names stamp) names.day (Some b) q r (are.apart Day) given.changes (puts.answers a b kept is);
         gives_back = λ b none waits. (
-          under_on b p q r (puts.gives_back b none waits).0 stamps.changes,
-          λ is. leaves_kept (stamp_names stamp) names.day (Some b) q r (are.apart Day) stamps.changes ((puts.gives_back b none waits).1 is),
+          under_on b p q r (puts.gives_back b none waits).0 given.changes,
+          λ is. leaves_kept (stamp_names stamp) names.day (Some b) q r (are.apart Day) given.changes ((puts.gives_back b none waits).1 is),
         );
-        stamps = λ a b kept. stamps_back x b p q r puts.changes stamps (puts.answers a b kept);
+        stamps = λ a b kept. stamps_back x b p q r puts.changes given (puts.answers a b kept);
       }) first second
 
   pub restored_stopped : (why : TreeFault) (one two : List Step → Type 0) → Goes one two (PutsBackDay names (stopping DayRestored why)) → Goes one two (RestoresDay names stamp (stopping DayRestored why))

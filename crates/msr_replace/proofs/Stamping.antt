@@ -79,8 +79,8 @@ renamed_texts part name text p ready =
           (λ before. inl before)
           (λ shows.
           let is : Some other ≡ Some there.file.bytes = is_of (Renamed part name ∷ p) (now (Renamed part name ∷ p) name) there.file (Some other) there.leads there.stored shows in
-          let has : there.file.bytes ≡ text = there.has in
-          inr (cc))
+          let same : other ≡ there.file.bytes = cc in
+          inr (same ∙ there.has))
           (leaves (Renamed part name) p name (Some other) m);
     }
 
@@ -186,14 +186,10 @@ module _ (stamp : StampPlaces) where
           record {
             changes = all;
             adds = λ are bytes leaves_it.
-                let has = subst (λ (f : Option Stamp). IfFound f p) is finds.is in
+                let has = subst (λ (f : Option Stamp). IfSome f (λ s. IsSomeAnd (now p names.day) (λ file. s.bytes ≡ length file.bytes))) is finds.is in
                 of_file bytes p r are (long_as (now p names.day) bytes (leaves_it (seen p names.day) (leaves_seen p names.day)) has) leaves_it all
                 (texts_then stamp.path Is p q r (quiet_texts stamp.path Is [] p q tt finds.changes) (gives.adds are));
           }) first second
-        where
-          IfFound : Option Stamp → List Step → Type 0
-          IfFound None p = Unit {0}
-          IfFound (Some s) p = IsSomeAnd (now p names.day) (λ file. s.bytes ≡ length file.bytes)
 
     module _ (of : StampOf) where
       pub day_unstamped : (found : Option Stamp) (one mid two : List Step → Type 0) → Goes one mid (FindsStamp names.day found) → Goes mid two (DropsStamp names stamp) → Goes one two (StampsDay names stamp of)
