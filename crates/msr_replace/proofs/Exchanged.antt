@@ -20,12 +20,13 @@ use Rattle.msr_exchange.proofs.Back.{waits_moments}
 use Rattle.msr_exchange.proofs.Phases.{quiet_moments}
 use Rattle.msr_replace.specs.Answers.{Exchanges, IsInPlaceOf, Means, Replaces}
 use Rattle.msr_replace.specs.Restored.{PutsBackDay, RestoresDay}
-use Rattle.msr_replace.specs.Stamped.{LeavesStamp, StampsReplaced, StampsRestored, all_with, stamp_names}
+use Rattle.msr_exchange.specs.Stamped.{LeavesStamp, StampsRecords, all_with, stamp_names}
+use Rattle.msr_replace.specs.Stamping.{StampsRestored}
 use Rattle.msr_replace.specs.declared.answers.DayAnswer.{DayAnswer}
 use Rattle.msr_replace.specs.declared.answers.DayAnswer.TheVariants as answer
 use Rattle.msr_replace.specs.declared.answers.DayRestored.{DayRestored}
 use Rattle.msr_replace.specs.declared.answers.DayRestored.TheVariants as restored
-use Rattle.msr_replace.proofs.Stamping.{other_way, quiet_stamp, stamp_then}
+use Rattle.msr_exchange.proofs.Stamping.{other_way, quiet_stamp, stamp_then}
 
 module _ (names : Names) (stamp : StampPlaces) (are : AreStampNames names stamp) where
   -- the stamp's name is none of the day's
@@ -73,7 +74,7 @@ module _ (names : Names) (stamp : StampPlaces) (are : AreStampNames names stamp)
     means_on answer.Differs p q r ch is = is
     means_on (answer.Refused refusal) p q r ch is = is
 
-    pub replaced_then : (x : DayAnswer) (one mid two : List Step → Type 0) → Goes one mid (Exchanges work names report (giving x)) → Goes mid two (StampsReplaced names stamp) → Goes one two (Replaces work names report stamp (giving x))
+    pub replaced_then : (x : DayAnswer) (one mid two : List Step → Type 0) → Goes one mid (Exchanges work names report (giving x)) → Goes mid two (StampsRecords names stamp) → Goes one two (Replaces work names report stamp (giving x))
     replaced_then x one mid two first second = goes_both _ _ _ one mid two
         (λ p q r exchanges given. record {
           changes = changes_then (all_with names stamp) p q r (more_all p q exchanges.changes) (more_stamp q r given.changes);

@@ -11,7 +11,7 @@ use Rattle.msr_replace.specs.Kinds.{HoldsInt24, LacksInt24}
 use Rattle.msr_stamp.specs.declared.stamp.StampOf.TheVariants as stamped
 use Rattle.msr_exchange.specs.Names.{Names, StampPlaces, all, path_at, path_below}
 use Rattle.msr_replace.specs.Restored.{refusal_of}
-use Rattle.msr_replace.specs.Stamped.{LeavesStamp, all_with}
+use Rattle.msr_exchange.specs.Stamped.{LeavesStamp, all_with}
 use Rattle.msr_exchange.specs.Promise.{AreKept, HaveChanged, KeepsBoth, LeavesAlone}
 use Rattle.msr_replace.specs.declared.answers.DayAnswer.{DayAnswer}
 use Rattle.msr_replace.specs.declared.answers.DayAnswer.TheVariants.{Replaced, Same, Young, Larger, Changed, Missing, NotShown, Differs, Refused}

@@ -6,7 +6,7 @@ use Rattle.msr_tree.specs.declared.tree.TreeFault.TheVariants.{Failed}
 use Rattle.msr_stamp.specs.declared.stamp.StampOf.TheVariants as stamped
 use Rattle.msr_exchange.specs.Names.{Names, StampPlaces, all}
 use Rattle.msr_exchange.specs.Promise.{AreKept, IsUnderEither, KeepsBoth, LeavesAlone}
-use Rattle.msr_replace.specs.Stamped.{LeavesStamp, all_with}
+use Rattle.msr_exchange.specs.Stamped.{LeavesStamp, all_with}
 use Rattle.msr_replace.specs.declared.answers.DayRefusal.{DayRefusal}
 use Rattle.msr_replace.specs.declared.answers.DayRefusal.TheVariants as said
 use Rattle.msr_replace.specs.declared.answers.DayRestored.{DayRestored}

@@ -11,10 +11,10 @@ ghost use Rattle.msr_exchange.specs.Work.{AreThreeFolders, names_in, stamp_in};
 
 use crate::answers::{DayAnswer, DayRestored};
 use crate::looks::{Looked, Sorted, is_young, look_at_day, odd_day, sort};
-use crate::stamping::{StampNames, stamp_replaced, stamp_restored};
+use crate::stamping::{stamp_replaced, stamp_restored};
 use crate::told::{replaced_of, restored_of};
 use crate::verifying::{Opened, look_for_int24, shows_itself, verify_files};
-use msr_exchange::{DayNames, DayWork, Verified, replace_day, restore_day};
+use msr_exchange::{DayNames, DayWork, StampNames, Verified, replace_day, restore_day};
 use msr_tree::{Facts, Tree, TreeFault};
 use std::alloc::AllocError;
 
@@ -195,7 +195,7 @@ fn replace_stamped<T: Tree>(
     ensures { Goes (T.went tree.old) (T.went tree.new) (Replaces work.now names.now report.now stamp.now result) }
 {
     let answer = replace_named(tree, work, names, path, report)?;
-    stamp_replaced(tree, work, names, stamp, answer);
+    stamp_replaced(tree, work.alloc, names, stamp, answer);
     Ok(answer)
 }
 
@@ -236,7 +236,7 @@ fn restore_stamped<T: Tree>(
     ensures { Goes (T.went tree.old) (T.went tree.new) (RestoresDay names.now stamp.now result) }
 {
     let answer = restore_named(tree, names)?;
-    stamp_restored(tree, work, names, stamp, answer);
+    stamp_restored(tree, work.alloc, names, stamp, answer);
     Ok(answer)
 }
 

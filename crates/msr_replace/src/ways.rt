@@ -4,7 +4,7 @@ ghost use Rattle.msr_tree.specs.Acts.{Acts};
 ghost use Rattle.msr_tree.specs.Calls.{Goes};
 ghost use Rattle.msr_tree.specs.Steps.{ChangesOnly};
 ghost use Rattle.msr_replace.specs.Looks.{AreOfNames, RefusesByNames};
-ghost use Rattle.msr_replace.specs.Stamped.{all_parts_in, stamp_part_in};
+ghost use Rattle.msr_exchange.specs.Stamped.{all_parts_in, stamp_part_in};
 ghost use Rattle.msr_exchange.specs.Moves.{Anything};
 
 use crate::answers::DayRefusal;

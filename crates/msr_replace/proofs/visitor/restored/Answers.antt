@@ -3,7 +3,7 @@ use Rattle.msr_devices.specs.declared.fault.DeviceFault.TheVariants.{Memory}
 use Rattle.msr_exchange.specs.Work.{names_in, stamp_in}
 use Rattle.msr_tree.specs.declared.tree.TreeFault.TheVariants as fault
 use Rattle.msr_replace.specs.Restored.{RestoresDay}
-use Rattle.msr_replace.specs.Stamped.{all_with}
+use Rattle.msr_exchange.specs.Stamped.{all_with}
 use Rattle.msr_replace.specs.Said.{IsOfRestored}
 use Rattle.msr_replace.specs.declared.lines.Outcome.{Outcome}
 use Rattle.msr_replace.specs.declared.lines.Outcome.TheVariants.{Day, DayFailed, Undone}

@@ -1,7 +1,7 @@
 use Rattle.std.proofs.Common.{[], ◌∷◌}
 use Rattle.msr_exchange.specs.Moves.{Anything}
 use Rattle.msr_exchange.specs.Work.{parts_in}
-use Rattle.msr_replace.specs.Stamped.{all_parts_in, stamp_part_in}
+use Rattle.msr_exchange.specs.Stamped.{all_parts_in, stamp_part_in}
 use Rattle.msr_replace.proofs.Quiet.{quiet_acts, quiet_more, quiet_then}
 use Rattle.msr_replace.proofs.ways.begin_folder.Goals as goal
 

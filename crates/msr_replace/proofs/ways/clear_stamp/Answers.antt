@@ -1,7 +1,7 @@
 use Rattle.std.proofs.Common.{◌≡◌, ◌∷◌, [], rules}
 use Rattle.msr_tree.specs.Steps.{Removed}
 use Rattle.msr_tree.proofs.Acting.{goes_does}
-use Rattle.msr_replace.specs.Stamped.{stamp_part_in}
+use Rattle.msr_exchange.specs.Stamped.{stamp_part_in}
 use Rattle.msr_replace.proofs.Quiet.{quiet_acts, quiet_none}
 use Rattle.msr_replace.proofs.ways.clear_stamp.Goals as goal
 

@@ -1,6 +1,6 @@
 use Rattle.std.proofs.Common.{◌≡◌, rules}
-use Rattle.msr_replace.proofs.Stamping.{tells_gone}
-use Rattle.msr_replace.proofs.stamping.are_gone.Goals as goal
+use Rattle.msr_exchange.proofs.Stamping.{tells_gone}
+use Rattle.msr_exchange.proofs.stamping.are_gone.Goals as goal
 
 pub returns : goal.returns
 returns g c =

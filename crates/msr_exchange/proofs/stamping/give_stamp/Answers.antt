@@ -1,6 +1,6 @@
 use Rattle.std.proofs.Common.{◌≡◌, rules}
-use Rattle.msr_replace.proofs.Stamping.{given_already, given_named, given_none}
-use Rattle.msr_replace.proofs.stamping.give_stamp.Goals as goal
+use Rattle.msr_exchange.proofs.Stamping.{given_already, given_named, given_none}
+use Rattle.msr_exchange.proofs.stamping.give_stamp.Goals as goal
 
 pub returns-then-has_stamp : goal.returns-then-has_stamp
 returns-then-has_stamp g c = given_already c.args.stamp.now c.args.names.now c.args.of c.args.value _ _ c.has_stamp.ensures

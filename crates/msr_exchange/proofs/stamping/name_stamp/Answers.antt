@@ -1,6 +1,6 @@
 use Rattle.std.proofs.Common.{◌≡◌, rules}
-use Rattle.msr_replace.proofs.Stamping.{named_stamp}
-use Rattle.msr_replace.proofs.stamping.name_stamp.Goals as goal
+use Rattle.msr_exchange.proofs.Stamping.{named_stamp}
+use Rattle.msr_exchange.proofs.stamping.name_stamp.Goals as goal
 
 pub returns : goal.returns
 returns g c =

@@ -1,6 +1,6 @@
 use Rattle.std.proofs.Common.{◌≡◌, rules}
-use Rattle.msr_replace.proofs.Stamping.{dropped_stamp}
-use Rattle.msr_replace.proofs.stamping.drop_stamp.Goals as goal
+use Rattle.msr_exchange.proofs.Stamping.{dropped_stamp}
+use Rattle.msr_exchange.proofs.stamping.drop_stamp.Goals as goal
 
 pub returns : goal.returns
 returns g c =

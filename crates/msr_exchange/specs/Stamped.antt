@@ -1,5 +1,5 @@
 -- What is done with the stamp of a day whose files have changed places.
-use Rattle.std.specs.Prelude.{◌≡◌, ◌≢◌, ◌⊎◌, ℕ, Bool, true, List, [], ◌∷◌, codes, length, Option, None, Some, IfSome, IsSomeAnd}
+use Rattle.std.specs.Prelude.{◌≡◌, ◌⊎◌, ℕ, Bool, true, List, [], ◌∷◌, codes, length, Option, None, Some, IfSome, IsSomeAnd}
 use Rattle.msr_tree.specs.Steps.{AtEachMoment, ChangesOnly, IsReady, Leaves, MayLeave, Path, Step, now}
 use Rattle.msr_tree.specs.declared.facts.Facts.{Facts}
 use Rattle.msr_tree.specs.declared.facts.Kind.TheVariants.{Regular}
@@ -12,8 +12,6 @@ use Rattle.msr_exchange.specs.Promise.{KeepsBoth}
 use Rattle.msr_exchange.specs.Work.{parts_in}
 use Rattle.msr_exchange.specs.declared.work.DayWork.{DayWork}
 use Rattle.msr_exchange.specs.declared.names.Place.TheVariants.{Original, Records}
-use Rattle.msr_replace.specs.declared.answers.DayRestored.{DayRestored}
-use Rattle.msr_replace.specs.declared.answers.DayRestored.TheVariants.{Restored}
 
 -- the names that change when a day's files change places
 abbrev pub all_with : Names → StampPlaces → List Path
@@ -85,14 +83,7 @@ pub record TellsGone (name : Path) (gone : Bool) (old new : List Step) : Type 0 
   pub none : gone ≡ true → now old name ≡ None
 
 -- The stamp is that of the records, if they are in ROOT, and no longer in OUT.
-pub record StampsReplaced (names : Names) (stamp : StampPlaces) (old new : List Step) : Type 0 where
+pub record StampsRecords (names : Names) (stamp : StampPlaces) (old new : List Step) : Type 0 where
   pub changes : ChangesOnly (stamp_names stamp) old new
   pub adds : AreStampNames names stamp → (a b : List ℕ) → KeepsBoth names Original a Records b old
       → AtEachMoment (LeavesStamp names stamp stamped.Records b old) old new
-
--- The stamp is that of the original, if this is the answer.
-pub record StampsRestored (names : Names) (stamp : StampPlaces) (answer : DayRestored) (old new : List Step) : Type 0 where
-  pub changes : ChangesOnly (stamp_names stamp) old new
-  pub adds : AreStampNames names stamp → answer ≡ Restored → (bytes : List ℕ) → Leaves old names.day (Some bytes)
-      → AtEachMoment (LeavesStamp names stamp stamped.Input bytes old) old new
-  pub none : answer ≢ Restored → new ≡ old
