@@ -5,4 +5,4 @@ pub mod Making
 pub mod Moved
 pub mod NameLemmas
 pub mod Phases
-pub mod Stamping
+pub mod Stamps

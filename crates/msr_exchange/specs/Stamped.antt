@@ -14,8 +14,8 @@ use Rattle.msr_exchange.specs.declared.work.DayWork.{DayWork}
 use Rattle.msr_exchange.specs.declared.names.Place.TheVariants.{Original, Records}
 
 -- the names that change when a day's files change places
-abbrev pub all_with : Names → StampPlaces → List Path
-all_with names stamp = stamp.path ∷ stamp.part ∷ all names
+abbrev pub all_and_stamp : Names → StampPlaces → List Path
+all_and_stamp names stamp = stamp.path ∷ stamp.part ∷ all names
 
 abbrev pub stamp_names : StampPlaces → List Path
 stamp_names stamp = stamp.path ∷ stamp.part ∷ []

@@ -20,13 +20,13 @@ use Rattle.msr_exchange.proofs.Back.{waits_moments}
 use Rattle.msr_exchange.proofs.Phases.{quiet_moments}
 use Rattle.msr_replace.specs.Answers.{Exchanges, IsInPlaceOf, Means, Replaces}
 use Rattle.msr_replace.specs.Restored.{PutsBackDay, RestoresDay}
-use Rattle.msr_exchange.specs.Stamped.{LeavesStamp, StampsRecords, all_with, stamp_names}
+use Rattle.msr_exchange.specs.Stamped.{LeavesStamp, StampsRecords, all_and_stamp, stamp_names}
 use Rattle.msr_replace.specs.Stamping.{StampsRestored}
 use Rattle.msr_replace.specs.declared.answers.DayAnswer.{DayAnswer}
 use Rattle.msr_replace.specs.declared.answers.DayAnswer.TheVariants as answer
 use Rattle.msr_replace.specs.declared.answers.DayRestored.{DayRestored}
 use Rattle.msr_replace.specs.declared.answers.DayRestored.TheVariants as restored
-use Rattle.msr_exchange.proofs.Stamping.{other_way, quiet_stamp, stamp_then}
+use Rattle.msr_exchange.proofs.Stamps.{other_way, quiet_stamp, stamp_then}
 
 module _ (names : Names) (stamp : StampPlaces) (are : AreStampNames names stamp) where
   -- the stamp's name is none of the day's
@@ -36,11 +36,11 @@ module _ (names : Names) (stamp : StampPlaces) (are : AreStampNames names stamp)
   none_all : IsNoneOf stamp.path (all names)
   none_all = (from_all Day, (from_all DayPart, (from_all Original, (from_all OriginalPart, (from_all Records, (from_all RecordsPart, (from_all Note, (from_all NotePart, tt))))))))
 
-  more_all : (p q : List Step) → ChangesOnly (all names) p q → ChangesOnly (all_with names stamp) p q
-  more_all p q changes = changes_more (all names) (all_with names stamp) p q (λ n none. none.1.1) changes
+  more_all : (p q : List Step) → ChangesOnly (all names) p q → ChangesOnly (all_and_stamp names stamp) p q
+  more_all p q changes = changes_more (all names) (all_and_stamp names stamp) p q (λ n none. none.1.1) changes
 
-  more_stamp : (p q : List Step) → ChangesOnly (stamp_names stamp) p q → ChangesOnly (all_with names stamp) p q
-  more_stamp p q changes = changes_more (stamp_names stamp) (all_with names stamp) p q (λ n none. (none.0, (none.1.0, tt))) changes
+  more_stamp : (p q : List Step) → ChangesOnly (stamp_names stamp) p q → ChangesOnly (all_and_stamp names stamp) p q
+  more_stamp p q changes = changes_more (stamp_names stamp) (all_and_stamp names stamp) p q (λ n none. (none.0, (none.1.0, tt))) changes
 
   -- both are kept while the day is stamped
   kept_on : (one other : Place) (a b : List ℕ) (p q r : List Step) → AtEachMoment (KeepsBoth names one a other b) p q → ChangesOnly (stamp_names stamp) q r → AtEachMoment (KeepsBoth names one a other b) p r
@@ -77,7 +77,7 @@ module _ (names : Names) (stamp : StampPlaces) (are : AreStampNames names stamp)
     pub replaced_then : (x : DayAnswer) (one mid two : List Step → Type 0) → Goes one mid (Exchanges work names report (giving x)) → Goes mid two (StampsRecords names stamp) → Goes one two (Replaces work names report stamp (giving x))
     replaced_then x one mid two first second = goes_both _ _ _ one mid two
         (λ p q r exchanges given. record {
-          changes = changes_then (all_with names stamp) p q r (more_all p q exchanges.changes) (more_stamp q r given.changes);
+          changes = changes_then (all_and_stamp names stamp) p q r (more_all p q exchanges.changes) (more_stamp q r given.changes);
           cause = λ is. cc;
           safe = λ a b kept. kept_on Original Records a b p q r (exchanges.safe a b kept) given.changes;
           alone = alone_on Original p q r exchanges.alone given.changes;
@@ -115,7 +115,7 @@ module _ (names : Names) (stamp : StampPlaces) (are : AreStampNames names stamp)
   pub restored_then : (x : DayRestored) (one mid two : List Step → Type 0) → Goes one mid (PutsBackDay names (giving x)) → Goes mid two (StampsRestored names stamp x) → Goes one two (RestoresDay names stamp (giving x))
   restored_then x one mid two first second = goes_both _ _ _ one mid two
       (λ p q r puts given. record {
-        changes = changes_then (all_with names stamp) p q r (more_all p q puts.changes) (more_stamp q r given.changes);
+        changes = changes_then (all_and_stamp names stamp) p q r (more_all p q puts.changes) (more_stamp q r given.changes);
         cause = λ is. cc;
         safe = λ a b kept. kept_on Records Original a b p q r (puts.safe a b kept) given.changes;
         alone = alone_on Records p q r puts.alone given.changes;
@@ -147,7 +147,7 @@ module _ (names : Names) (stamp : StampPlaces) where
       new,
       went,
       record {
-        changes = changes_none (all_with names stamp) new;
+        changes = changes_none (all_and_stamp names stamp) new;
         cause = λ is. cc;
         safe = λ a b kept. quiet_moments names Original Records [] a b new new tt tt tt kept.keeps (changes_none [] new);
         alone = alone_moments [] names.original names.day new new tt (changes_none [] new);
@@ -163,7 +163,7 @@ module _ (names : Names) (stamp : StampPlaces) where
       new,
       went,
       record {
-        changes = changes_none (all_with names stamp) new;
+        changes = changes_none (all_and_stamp names stamp) new;
         cause = λ is. cc;
         safe = λ a b kept. quiet_moments names Records Original [] a b new new tt tt tt kept.keeps (changes_none [] new);
         alone = alone_moments [] names.records names.day new new tt (changes_none [] new);

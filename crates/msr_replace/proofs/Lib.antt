@@ -8,4 +8,4 @@ pub mod Quiet
 pub mod Reading
 pub mod Restored
 pub mod Saying
-pub mod Stamping
+pub mod Stamps

@@ -11,7 +11,7 @@ use Rattle.msr_replace.specs.Kinds.{HoldsInt24, LacksInt24}
 use Rattle.msr_stamp.specs.declared.stamp.StampOf.TheVariants as stamped
 use Rattle.msr_exchange.specs.Names.{Names, StampPlaces, all, path_at, path_below}
 use Rattle.msr_replace.specs.Restored.{refusal_of}
-use Rattle.msr_exchange.specs.Stamped.{LeavesStamp, all_with}
+use Rattle.msr_exchange.specs.Stamped.{LeavesStamp, all_and_stamp}
 use Rattle.msr_exchange.specs.Promise.{AreKept, HaveChanged, KeepsBoth, LeavesAlone}
 use Rattle.msr_replace.specs.declared.answers.DayAnswer.{DayAnswer}
 use Rattle.msr_replace.specs.declared.answers.DayAnswer.TheVariants.{Replaced, Same, Young, Larger, Changed, Missing, NotShown, Differs, Refused}
@@ -117,7 +117,7 @@ pub record Exchanges (work : DayWork) (names : Names) (report : Path) (result : 
 
 -- The same, and then its stamp is that of the records, if they are in ROOT and no longer in OUT.
 pub record Replaces (work : DayWork) (names : Names) (report : Path) (stamp : StampPlaces) (result : Result DayAnswer TreeFault) (old new : List Step) : Type 0 where
-  pub changes : ChangesOnly (all_with names stamp) old new
+  pub changes : ChangesOnly (all_and_stamp names stamp) old new
   pub cause : IsErrOf result Failed → failures old < failures new
   pub safe : (a b : List ℕ) → AreKept names Original Records a b old → AtEachMoment (KeepsBoth names Original a Records b) old new
   pub alone : LeavesAlone names.original names.day old new

@@ -6,7 +6,7 @@ use Rattle.msr_tree.specs.declared.tree.TreeFault.TheVariants.{Failed}
 use Rattle.msr_stamp.specs.declared.stamp.StampOf.TheVariants as stamped
 use Rattle.msr_exchange.specs.Names.{Names, StampPlaces, all}
 use Rattle.msr_exchange.specs.Promise.{AreKept, IsUnderEither, KeepsBoth, LeavesAlone}
-use Rattle.msr_exchange.specs.Stamped.{LeavesStamp, all_with}
+use Rattle.msr_exchange.specs.Stamped.{LeavesStamp, all_and_stamp}
 use Rattle.msr_replace.specs.declared.answers.DayRefusal.{DayRefusal}
 use Rattle.msr_replace.specs.declared.answers.DayRefusal.TheVariants as said
 use Rattle.msr_replace.specs.declared.answers.DayRestored.{DayRestored}
@@ -50,7 +50,7 @@ pub record PutsBackDay (names : Names) (result : Result DayRestored TreeFault) (
 
 -- The same, and then its stamp is that of the original, if that has its place again.
 pub record RestoresDay (names : Names) (stamp : StampPlaces) (result : Result DayRestored TreeFault) (old new : List Step) : Type 0 where
-  pub changes : ChangesOnly (all_with names stamp) old new
+  pub changes : ChangesOnly (all_and_stamp names stamp) old new
   pub cause : IsErrOf result Failed → failures old < failures new
   pub safe : (a b : List ℕ) → AreKept names Records Original a b old → AtEachMoment (KeepsBoth names Records a Original b) old new
   pub alone : LeavesAlone names.records names.day old new

@@ -1,5 +1,5 @@
 use Rattle.std.proofs.Common.{◌≡◌, rules}
-use Rattle.msr_exchange.proofs.Stamping.{tells_gone}
+use Rattle.msr_exchange.proofs.Stamps.{tells_gone}
 use Rattle.msr_exchange.proofs.stamping.are_gone.Goals as goal
 
 pub returns : goal.returns

@@ -1,5 +1,5 @@
 use Rattle.std.proofs.Common.{◌≡◌, rules}
-use Rattle.msr_exchange.proofs.Stamping.{dropped_stamp}
+use Rattle.msr_exchange.proofs.Stamps.{dropped_stamp}
 use Rattle.msr_exchange.proofs.stamping.drop_stamp.Goals as goal
 
 pub returns : goal.returns

@@ -1,5 +1,5 @@
 use Rattle.std.proofs.Common.{◌≡◌, rules}
-use Rattle.msr_exchange.proofs.Stamping.{given_already, given_named, given_none}
+use Rattle.msr_exchange.proofs.Stamps.{given_already, given_named, given_none}
 use Rattle.msr_exchange.proofs.stamping.give_stamp.Goals as goal
 
 pub returns-then-has_stamp : goal.returns-then-has_stamp

@@ -1,5 +1,5 @@
 use Rattle.std.proofs.Common.{◌≡◌, rules}
-use Rattle.msr_exchange.proofs.Stamping.{named_stamp}
+use Rattle.msr_exchange.proofs.Stamps.{named_stamp}
 use Rattle.msr_exchange.proofs.stamping.name_stamp.Goals as goal
 
 pub returns : goal.returns

@@ -1,4 +1,4 @@
-use Rattle.msr_exchange.proofs.Stamping.{day_stamped, day_unstamped}
+use Rattle.msr_exchange.proofs.Stamps.{day_stamped, day_unstamped}
 use Rattle.msr_exchange.proofs.stamping.stamp_day.Goals as goal
 
 pub returns-in-Some : goal.returns-in-Some

@@ -1,5 +1,5 @@
 use Rattle.std.proofs.Common.{◌≡◌, rules}
-use Rattle.msr_exchange.proofs.Stamping.{finds_none, finds_regular}
+use Rattle.msr_exchange.proofs.Stamps.{finds_none, finds_regular}
 use Rattle.msr_exchange.proofs.stamping.stamp_of_file.Goals as goal
 
 pub returns-in-Ok-Some : goal.returns-in-Ok-Some

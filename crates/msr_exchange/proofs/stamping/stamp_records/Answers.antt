@@ -1,4 +1,4 @@
-use Rattle.msr_exchange.proofs.Stamping.{records_stamped, records_there}
+use Rattle.msr_exchange.proofs.Stamps.{records_stamped, records_there}
 use Rattle.msr_exchange.proofs.stamping.stamp_records.Goals as goal
 
 pub returns-then-not-are_gone : goal.returns-then-not-are_gone

@@ -1,5 +1,5 @@
 use Rattle.msr_exchange.specs.declared.answers.DayRestored.TheVariants.{Changed, Refused}
-use Rattle.msr_exchange.proofs.Stamping.{restored_not, restored_stamped}
+use Rattle.msr_exchange.proofs.Stamps.{restored_not, restored_stamped}
 use Rattle.msr_exchange.proofs.stamping.stamp_restored.Goals as goal
 
 pub returns-in-Restored : goal.returns-in-Restored
