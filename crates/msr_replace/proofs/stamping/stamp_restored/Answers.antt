@@ -1,6 +1,6 @@
-use Rattle.msr_exchange.specs.declared.answers.DayRestored.TheVariants.{Changed, Refused}
-use Rattle.msr_exchange.proofs.Stamps.{restored_not, restored_stamped}
-use Rattle.msr_exchange.proofs.stamping.stamp_restored.Goals as goal
+use Rattle.msr_replace.specs.declared.answers.DayRestored.TheVariants.{Changed, Refused}
+use Rattle.msr_replace.proofs.Stamps.{restored_not, restored_stamped}
+use Rattle.msr_replace.proofs.stamping.stamp_restored.Goals as goal
 
 pub returns-in-Restored : goal.returns-in-Restored
 returns-in-Restored g c = rw c.in-Restored.is (restored_stamped c.args.stamp.now c.args.names.now _ _ c.stamp_day.ensures)
