@@ -6,14 +6,14 @@ use Rattle.msr_stamp.specs.declared.stamp.Stamp.{Stamp}
 use Rattle.msr_stamp.specs.declared.stamp.StampOf.{StampOf}
 use Rattle.msr_stamp.specs.declared.stamp.StampOf.TheVariants.{Input, Records}
 
-abbrev pub word_of : StampOf → List ℕ
-word_of Input = codes "input"
-word_of Records = codes "records"
+abbrev pub stamp_word : StampOf → List ℕ
+stamp_word Input = codes "input"
+stamp_word Records = codes "records"
 
 -- which file it is of, how many bytes that has, and when it was last changed
 abbrev pub stamp_text : StampOf → Stamp → List ℕ
 stamp_text of stamp =
-    word_of of ++ (codes " " ++ (decimal stamp.bytes ++ (codes " bytes, changed at "
+    stamp_word of ++ (codes " " ++ (decimal stamp.bytes ++ (codes " bytes, changed at "
     ++ (signed_decimal stamp.seconds ++ (codes " s " ++ (signed_decimal stamp.nanoseconds ++ codes " ns\n"))))))
 
 -- that of what a look found

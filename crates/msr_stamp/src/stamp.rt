@@ -2,7 +2,7 @@
 ghost use Rattle.std.specs.Prelude.{◌≡◌, IfOk, true};
 ghost use Rattle.std.specs.String.{string_bytes};
 ghost use Rattle.msr_devices.specs.Device.{CanCountCall, HasLeft};
-ghost use Rattle.msr_stamp.specs.Stamp.{stamp_of, stamp_text, word_of};
+ghost use Rattle.msr_stamp.specs.Stamp.{stamp_of, stamp_text, stamp_word};
 
 use msr_devices::{Source, read_some};
 use msr_tree::Facts;
@@ -22,7 +22,7 @@ pub enum StampOf {
 
 impl StampOf {
     fn word(self) -> &'static str
-        ensures { result.now ≡ word_of self }
+        ensures { result.now ≡ stamp_word self }
     {
         match self {
             StampOf::Input => "input",
