@@ -1,11 +1,12 @@
 """`replace` and its undo, said again from docs/MANUAL.md, over the files that there are: each day has one thing that is to
 be told of it, or none.
 """
+import contextlib
 import os
 import shutil
 
 from reports import parsed
-from walks import NotDone, Verification, in_one_line, is_young, read_regular, skipped
+from walks import NotDone, Verification, in_one_line, is_young, read_regular, skipped, stamp_of
 
 # Where the encoding of a written record stands, and the one of 24-bit integers.
 ENCODING, INT24 = 52, 2
@@ -32,6 +33,12 @@ def put(source, path, dress=None):
     os.replace(part, path)
 
 
+def stamp(reports, path, file, is_placed):
+    """The stamp by which `archive --resume` leaves the day alone."""
+    with contextlib.suppress(OSError), open(f"{reports}/{path}.from", "w", encoding="utf-8") as it:
+        it.write(stamp_of(file, is_placed))
+
+
 class Replacement(Verification):
     """What becomes of each day of an archive whose records are to take its place."""
 
@@ -56,7 +63,12 @@ class Replacement(Verification):
             return "young"
         self.look(path)
         word = super().found_of(file, records, report)
-        return self.replaced(path, file, records) if word == "verified" else word
+        if word == "verified":
+            word = self.replaced(path, file, records)
+        is_placed = os.path.isfile(f"{self.aside}/{path}") and not os.path.lexists(records)
+        if word.split()[0] in ("replaced", "same") and is_placed:
+            stamp(self.reports, path, file, True)
+        return word
 
     def told(self, word, path, why=None, reason=None):
         word, *sizes = word.split()
@@ -115,7 +127,7 @@ class Restoration:
 
     def __init__(self, task):
         self.task, self.sums = task, dict.fromkeys(self.SUMS, 0)
-        self.root, self.out, _ = task.names
+        self.root, self.out, self.reports = task.names
         self.aside = task.aside
 
     def lines(self):
@@ -150,6 +162,7 @@ class Restoration:
                 raise NotDone("records: other ones are in OUT")
             put(file, records)
         put(original, file)
+        stamp(self.reports, path, file, False)
         for one in (original + NOTED, original):
             if os.path.lexists(one):
                 os.remove(one)

@@ -438,17 +438,20 @@ class Walk:
     # What is done.
 
     def counts_before(self, source, places):
-        """How many records and bytes an earlier walk read and wrote, if all is as that one left it."""
+        """How many records and bytes an earlier walk read and wrote, if all is as that one left it; or as `replace` did, which
+        put the records in the place of the day's file."""
+        is_placed = not os.path.exists(places.records)
         try:
             report = parsed(read_regular(places.report))
-            is_as_it_was = read_regular(places.stamp) == stamp_of(source).encode()
+            is_as_it_was = read_regular(places.stamp) == stamp_of(source, is_placed).encode()
             length, size = self.length_for(read_regular(source)), os.path.getsize(source)
         except (OSError, NotAReport):
             return None
         written = sum(line.records for line in report.lines)
         is_asked = (report.length, report.kinds, report.tolerance) == (length, self.task.kinds, self.task.tolerance)
-        is_small = not self.task.only_smaller or written * length < size
-        is_whole = os.path.isfile(places.records) and os.path.getsize(places.records) == written * report.length
+        is_small = is_placed or not self.task.only_smaller or written * length < size
+        kept = source if is_placed else places.records
+        is_whole = os.path.isfile(kept) and os.path.getsize(kept) == written * report.length
         is_strict = not self.task.strict or report.counts[2] == 0
         is_strict = is_strict and not (self.task.misplaced and stray(source, read_regular(source), report.tolerance))
         is_kept = is_asked and is_small and is_whole and is_strict and is_as_it_was
@@ -795,7 +798,8 @@ def samples_in(report):
     return min(MOST, sum(line.samples for line in report.lines))
 
 
-def stamp_of(path):
-    """The line of a day's size and the time of its last change; the form is ours here, the documents have none."""
+def stamp_of(path, is_placed=False):
+    """The line of a day's size and the time of its last change, and whether its records have its place; the form is ours
+    here, the documents have none."""
     told = os.stat(path)
-    return f"{told.st_size} {told.st_mtime_ns}\n"
+    return f"{told.st_size} {told.st_mtime_ns}{' records' * is_placed}\n"

@@ -5,3 +5,4 @@ pub mod Making
 pub mod Moved
 pub mod NameLemmas
 pub mod Phases
+pub mod Stamps

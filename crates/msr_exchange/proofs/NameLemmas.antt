@@ -13,7 +13,7 @@ use Rattle.msr_sds.specs.SdsPath.{AreDigits, HasForm, IsDataType, IsLocation, Re
 use Rattle.msr_sds.proofs.CutLemmas.{from_channel, from_data_type, from_location, from_station, from_year}
 use Rattle.msr_tree.specs.Steps.{folder_above, stands_in}
 use Rattle.msr_tree.proofs.FolderLemmas.{folder_at as folder_at_slash}
-use Rattle.msr_exchange.specs.Names.{AreNames, Names, OtherDaysAreApart, folder_at, is_place, is_lasting, names_of_day, path_at}
+use Rattle.msr_exchange.specs.Names.{AreNames, AreStampNames, Names, OtherDaysAreApart, StampPlaces, beside, folder_at, is_place, is_lasting, names_of_day, path_at, path_below, stamp_of_day}
 use Rattle.msr_exchange.specs.declared.names.Place.{Place}
 use Rattle.msr_exchange.specs.declared.names.Place.TheVariants.{Day, DayPart, Original, OriginalPart, Records, RecordsPart, Note, NotePart}
 
@@ -80,9 +80,18 @@ unequal x y not is = let yes = (bytes_eq-Decides x y).1 is in cc
 abbrev mark : List ℕ
 mark = codes ".touch-time"
 
+abbrev from_mark : List ℕ
+from_mark = codes ".from"
+
+abbrev stamp_part : List ℕ
+stamp_part = codes ".msrepack-replace.stamp"
+
+ended_starts : (file ending : List ℕ) → get_or file 0 46 ≢ 46 → get_or (file ++ ending) 0 46 ≢ 46
+ended_starts [] ending starts = absurd (starts refl)
+ended_starts (b ∷ file) ending starts = starts
+
 noted_starts : (file : List ℕ) → get_or file 0 46 ≢ 46 → get_or (file ++ mark) 0 46 ≢ 46
-noted_starts [] starts = absurd (starts refl)
-noted_starts (b ∷ file) starts = starts
+noted_starts file starts = ended_starts file mark starts
 
 longer : (file : List ℕ) → file ≢ file ++ mark
 longer file e = let eleven : length mark ≡ 11 = refl in omega (arith, length-append file mark, ap length e)
@@ -143,6 +152,55 @@ module _ (root out aside folder file path : List ℕ) (is_in : IsIn folder file 
   cut : (one other : Place) → path_at N one ≡ path_at N other → (folder_at N one ≡ folder_at N other) × (tail_at file one ≡ tail_at file other)
   cut one other e = last_cut (folder_at N one) (folder_at N other) (tail_at file one) (tail_at file other)
       (tail_lacks file is_in.name one) (tail_lacks file is_in.name other) (sym (in_folder one) ∙ e ∙ in_folder other)
+
+  -- beside the report
+  module _ (reports : List ℕ) where
+    abbrev beside_report : List ℕ
+    beside_report = path_below reports (path ++ from_mark)
+
+    abbrev beside_part : List ℕ
+    beside_part = path_below reports (beside path stamp_part)
+
+    from_in : beside_report ≡ (reports ++ slash ∷ folder_above path) ++ slash ∷ (file ++ from_mark)
+    from_in = ap (λ p. reports ++ slash ∷ (p ++ from_mark)) cut_path ∙ ap (λ t. reports ++ slash ∷ t) (append_assoc (folder_above path) (slash ∷ file) from_mark) ∙ placed reports (folder_above path) (file ++ from_mark)
+
+    from_lacks : Lacks slash (file ++ from_mark)
+    from_lacks = All-append (λ byte. byte ≢ slash) file from_mark is_in.name.lacks (clear_lacks from_mark refl)
+
+    not_from : (place : Place) → tail_at file place ≢ file ++ from_mark
+    not_from Day e = let five : length from_mark ≡ 5 = refl in omega (arith, length-append file from_mark, ap length e)
+    not_from DayPart e = ended_starts file from_mark is_in.name.starts (ap (λ t. get_or t 0 46) (sym e))
+    not_from Original e = let five : length from_mark ≡ 5 = refl in omega (arith, length-append file from_mark, ap length e)
+    not_from OriginalPart e = ended_starts file from_mark is_in.name.starts (ap (λ t. get_or t 0 46) (sym e))
+    not_from Records e = let five : length from_mark ≡ 5 = refl in omega (arith, length-append file from_mark, ap length e)
+    not_from RecordsPart e = ended_starts file from_mark is_in.name.starts (ap (λ t. get_or t 0 46) (sym e))
+    not_from Note e = let five : length from_mark ≡ 5 = refl in let eleven : length mark ≡ 11 = refl in omega (arith, length-append file from_mark, length-append file mark, ap length e)
+    not_from NotePart e = ended_starts file from_mark is_in.name.starts (ap (λ t. get_or t 0 46) (sym e))
+
+    not_part : (place : Place) → tail_at file place ≢ stamp_part
+    not_part Day e = is_in.name.starts (ap (λ t. get_or t 0 46) e)
+    not_part DayPart e = unequal (codes ".msrepack-replace.day") stamp_part refl e
+    not_part Original e = is_in.name.starts (ap (λ t. get_or t 0 46) e)
+    not_part OriginalPart e = unequal (codes ".msrepack-replace.original") stamp_part refl e
+    not_part Records e = is_in.name.starts (ap (λ t. get_or t 0 46) e)
+    not_part RecordsPart e = unequal (codes ".msrepack-replace.records") stamp_part refl e
+    not_part Note e = noted_starts file is_in.name.starts (ap (λ t. get_or t 0 46) e)
+    not_part NotePart e = unequal (codes ".msrepack-replace.note") stamp_part refl e
+
+    pub apart_from_stamp : (place : Place) → bytes_eq (path_at N place) beside_report ≡ false
+    apart_from_stamp place = unlike (path_at N place) beside_report (λ e. not_from place
+        (last_cut (folder_at N place) (reports ++ slash ∷ folder_above path) (tail_at file place) (file ++ from_mark)
+        (tail_lacks file is_in.name place) from_lacks (sym (in_folder place) ∙ e ∙ from_in)).1)
+
+    pub apart_from_part : (place : Place) → bytes_eq (path_at N place) beside_part ≡ false
+    apart_from_part place = unlike (path_at N place) beside_part (λ e. not_part place
+        (last_cut (folder_at N place) (reports ++ slash ∷ folder_above path) (tail_at file place) stamp_part
+        (tail_lacks file is_in.name place) (clear_lacks stamp_part refl) (sym (in_folder place) ∙ e ∙ placed reports (folder_above path) stamp_part)).1)
+
+    pub part_apart : bytes_eq beside_report beside_part ≡ false
+    part_apart = unlike beside_report beside_part (λ e. ended_starts file from_mark is_in.name.starts (ap (λ t. get_or t 0 46)
+        (last_cut (reports ++ slash ∷ folder_above path) (reports ++ slash ∷ folder_above path) (file ++ from_mark) stamp_part
+        from_lacks (clear_lacks stamp_part refl) (sym from_in ∙ e ∙ placed reports (folder_above path) stamp_part)).1))
 
   module _ (out_is : root ≢ out) (aside_is : root ≢ aside) (others_are : out ≢ aside) where
     differ : (one other : Place) → is_place one other ≡ false → path_at N one ≢ path_at N other
@@ -259,6 +317,15 @@ day_is_in path p day = record {
 pub are_names_of : (root out aside path : List ℕ) (p : SdsPath) → ReadsAsDay path p → root ≢ out → root ≢ aside → out ≢ aside → AreNames (names_of_day root out aside path)
 are_names_of root out aside path p day out_is aside_is others_are =
     are_names root out aside (folder_text p) (file_name p) path (day_is_in path p day) out_is aside_is others_are
+
+-- and its stamp
+pub are_stamp_names : (root out aside reports path : List ℕ) (p : SdsPath) → ReadsAsDay path p → AreStampNames (names_of_day root out aside path) (stamp_of_day reports path)
+are_stamp_names root out aside reports path p day =
+    let is = day_is_in path p day in
+    record {
+      apart = λ place. (apart_from_stamp root out aside (folder_text p) (file_name p) path is reports place, (apart_from_part root out aside (folder_text p) (file_name p) path is reports place, tt));
+      parts = part_apart root out aside (folder_text p) (file_name p) path is reports;
+    }
 
 -- what stands before the first dot and after it is determined
 same_parts : (a b x y : List ℕ) → Lacks dot a → Lacks dot b → a ++ dot ∷ x ≡ b ++ dot ∷ y → (a ≡ b) × (x ≡ y)

@@ -87,6 +87,22 @@ pub record AreNames (names : Names) : Type 0 where
   pub apart : (one other : Place) → is_place one other ≡ false → bytes_eq (path_at names one) (path_at names other) ≡ false
   pub inside : (place : Place) → stands_in (folder_at names place) (path_at names place) ≡ true
 
+-- the name of a day's stamp, beside its report, and the one under which it is made
+pub record StampPlaces : Type 0 where
+  pub path : Path
+  pub part : Path
+
+abbrev pub stamp_of_day : (reports : Path) (path : List ℕ) → StampPlaces
+stamp_of_day reports path = record {
+  path = path_below reports (path ++ codes ".from");
+  part = path_below reports (beside path (codes ".msrepack-replace.stamp"));
+}
+
+-- None of the two is one of the day's other names, nor the other.
+pub record AreStampNames (names : Names) (stamp : StampPlaces) : Type 0 where
+  pub apart : (place : Place) → IsNoneOf (path_at names place) (stamp.path ∷ stamp.part ∷ [])
+  pub parts : bytes_eq stamp.path stamp.part ≡ false
+
 -- the names of a day, without those of what is in its making
 abbrev pub is_lasting : Place → Bool
 is_lasting DayPart = false

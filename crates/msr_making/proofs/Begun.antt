@@ -1,82 +1,21 @@
 -- The files of a day in their making.
-use Rattle.std.proofs.Common.{◌≡◌, ⊎_elim, ℕ, List, [], ◌∷◌, refl, sym, ap, subst, Result, Ok, Err, Some, arith}
-use Rattle.msr_devices.specs.Device.{Device, Takes, unused}
+use Rattle.std.proofs.Common.{◌≡◌, List, [], ◌∷◌, sym, subst, Result}
+use Rattle.msr_devices.specs.Device.{Device}
 use Rattle.msr_tree.specs.Folders.{ActsOnFiles}
-use Rattle.msr_tree.specs.Calls.{Begins, DoesStep, FinishesStored, Goes, PerhapsDone}
-use Rattle.msr_tree.specs.Folders.{ChangesFiles}
-use Rattle.msr_tree.specs.Steps.{ChangesOnly, FileStored, IsNoneOf, IsReady, Made, Path, Removed, Step, seen}
+use Rattle.msr_tree.specs.Calls.{Begins, Goes}
+use Rattle.msr_tree.specs.Steps.{ChangesOnly, IsNoneOf, Path, Step}
 use Rattle.msr_tree.specs.declared.tree.TreeFault.{TreeFault}
 use Rattle.msr_tree.proofs.Acting.{goes_as}
 use Rattle.msr_tree.proofs.Changes as change
-use Rattle.msr_tree.proofs.Changes.{ready_stored}
-use Rattle.msr_tree.proofs.Crash.{is_self}
-use Rattle.msr_tree.proofs.Filing.{acts_does, changes_none, changes_step, changes_then, no_fewer, stopped}
-use Rattle.msr_naming.proofs.FallingBack.{goes_both}
-use Rattle.msr_making.specs.Parts.{LeadsToTaken, IsBegun, called_told}
+use Rattle.msr_stamp.specs.Making.{IsBegun, LeadsToTaken}
+use Rattle.msr_stamp.proofs.Begun.{begun}
+use Rattle.msr_making.specs.Parts.{called_told}
 use Rattle.msr_making.specs.declared.answer.Stop.{Stop}
 
-seen_made : (path : Path) (bytes : List ℕ) (past : List Step) → seen (Made path bytes ∷ past) path ≡ Some bytes
-seen_made path bytes past = rw (is_self path) refl
-
-module _ (path : Path) where
-  perhaps : (bytes : List ℕ) (old left : List Step) → PerhapsDone (Made path bytes) old left → ChangesFiles (path ∷ []) old left
-  perhaps bytes old left may = ⊎_elim
-      (λ same. subst (λ l. ChangesFiles (path ∷ []) old l) (sym same) (changes_none (path ∷ []) old))
-      (λ done. subst (λ l. ChangesFiles (path ∷ []) old l) (sym done) (changes_step (path ∷ []) (Made path bytes) old (λ name none. none.0) tt))
-      may
-
-  both : (bytes : List ℕ) (old new : List Step) → new ≡ FileStored path ∷ Made path bytes ∷ old → ChangesFiles (path ∷ []) old new
-  both bytes old new is = subst (λ l. ChangesFiles (path ∷ []) old l) (sym is)
-      (changes_then (path ∷ []) old (Made path bytes ∷ old) (FileStored path ∷ Made path bytes ∷ old)
-      (changes_step (path ∷ []) (Made path bytes) old (λ name none. none.0) tt)
-      (changes_step (path ∷ []) (FileStored path) (Made path bytes ∷ old) (λ name none. refl) tt))
-
-  begun : {W : Type 0} (device : W → Device) (result : Result W TreeFault) (old new : List Step) → Begins path device result old new → ActsOnFiles (path ∷ []) (IsBegun device) result old new
-  begun device (Ok writer) old new begins = record {
-    changes = subst (λ l. ChangesFiles (path ∷ []) old l) (sym begins.1) (changes_step (path ∷ []) (Made path []) old (λ name none. none.0) tt);
-    cause = λ is. cc;
-    does = begins.2;
-  }
-  begun device (Err why) old new begins = stopped (path ∷ []) _ why _ old new (λ left may. perhaps [] old left may) begins
-
-  finished : (writer : Device) (result : Result (Unit {0}) TreeFault) (old new : List Step) → FinishesStored path writer result old new → ActsOnFiles (path ∷ []) (λ sooner later x. LeadsToTaken path writer later) result old new
-  finished writer (Ok x) old new finishes = record {
-    changes = both finishes.0 old new finishes.2;
-    cause = λ is. cc;
-    does = record {
-      bytes = finishes.0;
-      took = finishes.1;
-      has = subst (λ (l : List Step). IsReady path finishes.0 l) (sym finishes.2) (ready_stored path finishes.0 (Made path finishes.0 ∷ old) (seen_made path finishes.0 old));
-    };
-  }
-  finished writer (Err why) old new finishes = stopped (path ∷ []) _ why _ old new
-      (λ left may. ⊎_elim (λ perhaps_made. perhaps may.0 old left perhaps_made) (λ is. both may.0 old left is) may.1) finishes
-
-  pub goes_begun : {W : Type 0} (device : W → Device) (result : Result W Stop) (answer : Result W TreeFault) (one two : List Step → Type 0) → called_told result ≡ answer
-      → Goes one two (Begins path device answer) → Goes one two (ActsOnFiles (path ∷ []) (IsBegun device) (called_told result))
-  goes_begun {W = W} device result answer one two is goes =
-      goes_as _ _ one two (λ p q begins. begun device (called_told result) p q begins) (subst (λ (a : Result W TreeFault). Goes one two (Begins path device a)) (sym is) goes)
-
-  pub goes_finished : (writer : Device) (answer : Result (Unit {0}) TreeFault) (one two : List Step → Type 0)
-      → Goes one two (FinishesStored path writer answer) → Goes one two (ActsOnFiles (path ∷ []) (λ sooner later x. LeadsToTaken path writer later) answer)
-  goes_finished writer answer one two goes = goes_as _ _ one two (λ p q finishes. finished writer answer p q finishes) goes
-
-  -- what was there was removed, and then it is made
-  pub begun_again : {W A : Type 0} (device : W → Device) (first last : Result W TreeFault) (removed : Result A TreeFault) (one two three four : List Step → Type 0)
-      → Goes one two (ActsOnFiles (path ∷ []) (IsBegun device) first) → Goes two three (DoesStep (Removed path) removed) → Goes three four (ActsOnFiles (path ∷ []) (IsBegun device) last)
-      → Goes one four (ActsOnFiles (path ∷ []) (IsBegun device) last)
-  begun_again device first last removed one two three four a b c =
-      goes_both _ _ _ one three four
-      (λ p q r before acts. record {
-        changes = changes_then (path ∷ []) p q r before acts.changes;
-        cause = λ is.
-            let few = no_fewer (path ∷ []) p q before in
-            let more = acts.cause is in
-            omega arith;
-        does = acts.does;
-      })
-      (goes_both _ _ (λ p q. ChangesFiles (path ∷ []) p q) one two three
-      (λ p q r x y. changes_then (path ∷ []) p q r x.changes (acts_does (path ∷ []) (Removed path) removed q r (λ name none. none.0) tt y).changes) a b) c
+pub goes_begun : (path : Path) {W : Type 0} (device : W → Device) (result : Result W Stop) (answer : Result W TreeFault) (one two : List Step → Type 0) → called_told result ≡ answer
+    → Goes one two (Begins path device answer) → Goes one two (ActsOnFiles (path ∷ []) (IsBegun device) (called_told result))
+goes_begun path {W = W} device result answer one two is goes =
+    goes_as _ _ one two (λ p q begins. begun path device (called_told result) p q begins) (subst (λ (a : Result W TreeFault). Goes one two (Begins path device a)) (sym is) goes)
 
 -- what was made stays while other names change
 pub taken_kept : (names : List Path) (path : Path) (writer : Device) (old new : List Step) → IsNoneOf path names → ChangesOnly names old new → LeadsToTaken path writer old → LeadsToTaken path writer new
@@ -85,11 +24,3 @@ taken_kept names path writer old new none changes taken = record {
   took = taken.took;
   has = change.ready_kept names path taken.bytes old new none changes taken.has;
 }
-
--- a file that was begun has what was written
-pub taken_is : (path : Path) (begun writer : Device) (bytes : List ℕ) (past : List Step) → begun ≡ unused (Some []) → Takes begun writer bytes → LeadsToTaken path writer past → IsReady path bytes past
-taken_is path begun writer bytes past is takes taken =
-    let wrote = takes.back [] (ap (λ (d : Device). d.bytes) is) in
-    let took = taken.took in
-    let same : taken.bytes ≡ bytes = cc in
-    subst (λ (b : List ℕ). IsReady path b past) same taken.has

@@ -35,6 +35,7 @@ use Rattle.msr_making.specs.declared.making.Found.{Found}
 use Rattle.msr_making.specs.declared.making.Found.TheVariants.{Ended, Open}
 use Rattle.msr_making.specs.declared.making.Making.{Making}
 use Rattle.msr_making.proofs.Cleared.{unseen_by}
+use Rattle.msr_making.proofs.Lefts.{either_before}
 use Rattle.msr_making.proofs.Owns.{free_kept, more_stamp, none_empty, none_stamp, own_each, own_kept, report_each, report_kept}
 use Rattle.msr_making.proofs.Sights.{day_look_later, looks_kept}
 use Rattle.msr_making.proofs.Untouched.{kept_for, left_claimed, left_then, still_there, untouched_then}
@@ -172,9 +173,6 @@ module _ (paths : DayPaths) (asked : DayOptions) (old mid new : List Step) (chan
   seen_so : (path : Path) (what : Option (List ℕ)) → seen mid path ≡ what → seen old path ≡ what
   seen_so path what is = sym (seen_kept [] path old mid tt changes) ∙ is
 
-  some_so : (path : Path) (P : List ℕ → Type 0) → IsSomeAnd (seen mid path) P → IsSomeAnd (seen old path) P
-  some_so path P is = subst (λ (x : Option (List ℕ)). IsSomeAnd x P) (seen_kept [] path old mid tt changes) is
-
   one_so : (a b : Path) → AreOneFile a b mid → AreOneFile a b old
   one_so a b is = (is.0, sym (now_kept [] a old mid tt changes) ∙ is.1, sym (now_kept [] b old mid tt changes) ∙ is.2)
 
@@ -274,15 +272,7 @@ module _ (paths : DayPaths) (asked : DayOptions) (old mid new : List Step) (chan
   outcome_before (Same repacked) is = (
     record {
       resume = is.0.resume;
-      left = record {
-        stamp = is.0.left.stamp;
-        has_stamp = seen_so paths.stamp _ is.0.left.has_stamp;
-        has_input = some_so paths.input _ is.0.left.has_input;
-        read = is.0.left.read;
-        kept = is.0.left.kept;
-        has_report = seen_so paths.report _ is.0.left.has_report;
-        has_records = some_so paths.records _ is.0.left.has_records;
-      };
+      left = either_before paths asked repacked old mid changes is.0.left;
     },
     untouched_then paths old mid new (still_there paths old mid changes) is.1,
   )

@@ -9,15 +9,17 @@ use Rattle.msr_tree.specs.Steps.{File, Path, Step, failures, now, seen}
 use Rattle.msr_tree.specs.declared.facts.Facts.{Facts}
 use Rattle.msr_tree.specs.declared.tree.TreeFault.{TreeFault}
 use Rattle.msr_tree.proofs.Filing.{no_fewer, now_kept, seen_kept}
-use Rattle.msr_making.specs.Day.{GotSmaller, IsReportKept, IsReportLeft}
-use Rattle.msr_making.specs.Keeping.{AsksForKept, AsksForReport, AsksForText, IsReportThere}
+use Rattle.msr_stamp.specs.Stamp.{stamp_of, stamp_text}
+use Rattle.msr_stamp.specs.declared.stamp.Stamp.{Stamp}
+use Rattle.msr_making.specs.Day.{IsKeptEither, IsReportKept, IsReportLeft}
+use Rattle.msr_making.specs.Keeping.{AsksForKept, AsksForReport, AsksForText, IsKeptBy, IsReportThere, stamped_by}
 use Rattle.msr_making.specs.Looking.{Asks, AsksForOne, AsksForShared, IsRegular, IsSightAt}
 use Rattle.msr_making.specs.Places.{DayPaths}
-use Rattle.msr_making.specs.Stamp.{stamp_of, stamp_text}
+use Rattle.msr_making.specs.Told.{IsLeftEither}
 use Rattle.msr_making.specs.declared.answer.Repacked.{Repacked}
-use Rattle.msr_making.specs.declared.stamp.Stamp.{Stamp}
 use Rattle.msr_making.specs.declared.looks.DayLook.{DayLook}
 use Rattle.msr_making.specs.declared.looks.Sight.{Sight}
+use Rattle.msr_making.specs.declared.looks.Sight.TheVariants.{Found, Nothing, Unknown}
 use Rattle.msr_making.proofs.Sights.{asks_as, asks_by, asks_then, no_memory}
 
 abbrev answered : {A : Type 0} → A → Result A AllocError
@@ -111,27 +113,76 @@ same_bytes : (one other : ℕ) (found : Option (List ℕ)) → one ≡ other →
 same_bytes one other None is so = so
 same_bytes one other (Some bytes) is so = sym so ∙ is
 
+-- it is kept, by what was found of its records
+pub kept_either : (asked : DayOptions) (repacked : Repacked) (records : Sight) → IsReportKept asked repacked → IsKeptBy asked repacked records → IsKeptEither asked repacked
+kept_either asked repacked (Found facts) report by = inl (record { report = report; smaller = by.2 })
+kept_either asked repacked Nothing report by = inr (record { report = report; as_long = by })
+kept_either asked repacked Unknown report by = absurd by
+
+pub found_either : (asked : DayOptions) (repacked : Repacked) (records : Sight) (found : Option Repacked) → found ≡ Some repacked → IfSome found (IsReportKept asked) → IsKeptBy asked repacked records
+    → IsKeptEither asked repacked
+found_either asked repacked records found is kept by = kept_either asked repacked records (subst (λ (f : Option Repacked). IfSome f (IsReportKept asked)) is kept) by
+
 -- what is left of a day
-pub left_there : (paths : DayPaths) (look : DayLook) (asked : DayOptions) (input records : Facts) (stamp : Stamp) (answer : Bool) (found : Option Repacked) (repacked : Repacked)
-    → stamp ≡ stamp_of input → answer ≡ true → found ≡ Some repacked
-    → IsRegular look.input input → IsRegular look.records records → (records.bytes ≡ repacked.bytes_written) → (IsTrue asked.only_smaller → GotSmaller repacked)
-    → (one two three : List Step → Type 0)
-    → Goes one two (AsksForText paths.stamp (stamp_text stamp) (Ok answer)) → Goes two three (AsksForReport paths.report asked input.bytes (Ok found))
-    → Goes one three (AsksForKept paths look asked (Ok (Some repacked)))
-left_there paths look asked input records stamp answer found repacked is_stamp so is_found own_regular records_regular size smaller one two three a b =
-    asks_then _ _ _ (answered answer) (answered found) (answered (Some repacked)) one two three
-    (λ p q r x y text said. λ looked.
-    let there : IsReportThere paths.report asked input.bytes q repacked = subst (λ (f : Option Repacked). IfSome f (IsReportThere paths.report asked input.bytes q)) is_found said in
-    let bytes : stamp.bytes ≡ input.bytes = ap (λ (s : Stamp). s.bytes) is_stamp in
-    record {
-      stamp = stamp;
-      has_stamp = text so;
-      has_input = same_bytes input.bytes stamp.bytes (seen p paths.input) (sym bytes) (has_bytes paths.input p look.input input own_regular looked.input);
-      read = there.read ∙ sym bytes;
-      kept = record { report = there.is; smaller = smaller };
-      has_report = sym (seen_kept [] paths.report p q tt x) ∙ there.has;
-      has_records = same_bytes records.bytes repacked.bytes_written (seen p paths.records) size (has_bytes paths.records p look.records records records_regular looked.records);
-    }) a b
+module _ (paths : DayPaths) (asked : DayOptions) where
+  there_by : (repacked : Repacked) (stamp : Stamp) (past : List Step) (records : Sight) → IsKeptBy asked repacked records → IsSightAt paths.records past records
+      → seen past paths.stamp ≡ Some (stamp_text (stamped_by records) stamp) → IsSomeAnd (seen past paths.input) (λ input. length input ≡ stamp.bytes) → repacked.bytes_read ≡ stamp.bytes
+      → (is : IsReportKept asked repacked) → seen past paths.report ≡ Some is.text → IsLeftEither asked paths repacked past
+  there_by repacked stamp past (Found facts) by sight text own read is has = inl (record {
+    stamp = stamp;
+    has_stamp = text;
+    has_input = own;
+    read = read;
+    kept = record { report = is; smaller = by.2 };
+    has_report = has;
+    has_records = same_bytes facts.bytes repacked.bytes_written (seen past paths.records) by.1 (has_bytes paths.records past (Found facts) facts (record { found = refl; regular = by.0 }) sight);
+  })
+  there_by repacked stamp past Nothing by sight text own read is has = inr (record {
+    stamp = stamp;
+    has_stamp = text;
+    has_input = own;
+    read = read;
+    kept = record { report = is; as_long = by };
+    has_report = has;
+    none = sight;
+  })
+  there_by repacked stamp past Unknown by sight text own read is has = absurd by
+
+  pub left_there : (look : DayLook) (input : Facts) (stamp : Stamp) (answer : Bool) (found : Option Repacked) (repacked : Repacked)
+      → stamp ≡ stamp_of input → answer ≡ true → found ≡ Some repacked → IsRegular look.input input → IsKeptBy asked repacked look.records
+      → (one two three : List Step → Type 0)
+      → Goes one two (AsksForText paths.stamp (stamp_text (stamped_by look.records) stamp) (Ok answer)) → Goes two three (AsksForReport paths.report asked input.bytes (Ok found))
+      → Goes one three (AsksForKept paths look asked (Ok (Some repacked)))
+  left_there look input stamp answer found repacked is_stamp so is_found own_regular by one two three a b =
+      asks_then _ _ _ (answered answer) (answered found) (answered (Some repacked)) one two three
+      (λ p q r x y text said. λ looked.
+      let there : IsReportThere paths.report asked input.bytes q repacked = subst (λ (f : Option Repacked). IfSome f (IsReportThere paths.report asked input.bytes q)) is_found said in
+      let bytes : stamp.bytes ≡ input.bytes = ap (λ (s : Stamp). s.bytes) is_stamp in
+      there_by repacked stamp p look.records by looked.records (text so)
+      (same_bytes input.bytes stamp.bytes (seen p paths.input) (sym bytes) (has_bytes paths.input p look.input input own_regular looked.input))
+      (there.read ∙ sym bytes) there.is (sym (seen_kept [] paths.report p q tt x) ∙ there.has)) a b
+
+  -- it was so before, while nothing is changed
+  pub either_before : (repacked : Repacked) (old mid : List Step) → ChangesFiles [] old mid → IsLeftEither asked paths repacked mid → IsLeftEither asked paths repacked old
+  either_before repacked old mid changes = ⊎_elim
+      (λ is. inl (record {
+        stamp = is.stamp;
+        has_stamp = sym (seen_kept [] paths.stamp old mid tt changes) ∙ is.has_stamp;
+        has_input = subst (λ (x : Option (List ℕ)). IsSomeAnd x (λ input. length input ≡ is.stamp.bytes)) (seen_kept [] paths.input old mid tt changes) is.has_input;
+        read = is.read;
+        kept = is.kept;
+        has_report = sym (seen_kept [] paths.report old mid tt changes) ∙ is.has_report;
+        has_records = subst (λ (x : Option (List ℕ)). IsSomeAnd x (λ records. length records ≡ repacked.bytes_written)) (seen_kept [] paths.records old mid tt changes) is.has_records;
+      }))
+      (λ is. inr (record {
+        stamp = is.stamp;
+        has_stamp = sym (seen_kept [] paths.stamp old mid tt changes) ∙ is.has_stamp;
+        has_input = subst (λ (x : Option (List ℕ)). IsSomeAnd x (λ input. length input ≡ is.stamp.bytes)) (seen_kept [] paths.input old mid tt changes) is.has_input;
+        read = is.read;
+        kept = is.kept;
+        has_report = sym (seen_kept [] paths.report old mid tt changes) ∙ is.has_report;
+        none = sym (now_kept [] paths.records old mid tt changes) ∙ is.none;
+      }))
 
 pub left_none : {A : Type 0} (First : (old new : List Step) → A → Type 0) (paths : DayPaths) (look : DayLook) (asked : DayOptions) (first : Result A AllocError) (one two : List Step → Type 0)
     → Goes one two (Asks First first) → Goes one two (AsksForKept paths look asked (Ok None))

@@ -1,18 +1,18 @@
 -- What is found of a day.
-use Rattle.std.proofs.Common.{◌≡◌, inl, inr, ⊎_elim, Bool, true, List, [], sym, ◌∙◌, subst, Result, Ok, Err, Option, Some, None, IfOk, IfSome, IsSomeAnd, IsTrue, ℕ, length, arith}
+use Rattle.std.proofs.Common.{◌≡◌, inl, inr, ⊎_elim, Bool, true, List, [], sym, ◌∙◌, subst, Result, Ok, Err, Option, Some, None, IfOk, IfSome, IsTrue, arith}
 use Rattle.std.specs.declared.alloc.AllocError.{AllocError}
 use Rattle.msr_options.specs.declared.days.DayOptions.{DayOptions}
 use Rattle.msr_options.specs.declared.hint.Unopened.{Unopened}
 use Rattle.msr_tree.specs.Calls.{Goes}
 use Rattle.msr_tree.specs.Folders.{ChangesFiles}
 use Rattle.msr_tree.specs.Steps.{Path, Step}
-use Rattle.msr_making.specs.Day.{IsKept}
+use Rattle.msr_making.specs.Day.{IsKeptEither}
 use Rattle.msr_making.specs.Ending.{SaysFound, SeeksDay}
 use Rattle.msr_making.specs.Keeping.{AsksForKept}
 use Rattle.msr_making.specs.Looking.{Asks, AsksForShared, FindsBeside, FindsDay, HasUnknown, IsDayLook, IsSightKnown, SaysDay, SeesAt}
 use Rattle.msr_making.specs.Making.{LooksForSame}
 use Rattle.msr_making.specs.Places.{DayPaths}
-use Rattle.msr_making.specs.Told.{IsLeftFor, IsLeftThere, IsSameThere}
+use Rattle.msr_making.specs.Told.{IsLeftEither, IsLeftFor, IsSameThere}
 use Rattle.msr_making.specs.declared.answer.DayFault.TheVariants.{CannotOpen}
 use Rattle.msr_making.specs.declared.answer.DayOutcome.TheVariants.{Refused, Same}
 use Rattle.msr_making.specs.declared.answer.Repacked.{Repacked}
@@ -21,7 +21,8 @@ use Rattle.msr_making.specs.declared.looks.Sight.{Sight}
 use Rattle.msr_making.specs.declared.making.Found.TheVariants.{Ended, Open}
 use Rattle.msr_naming.proofs.FallingBack.{goes_both}
 use Rattle.msr_tree.specs.Calls.{AreOneFile}
-use Rattle.msr_tree.proofs.Filing.{changes_none, changes_then, no_fewer, now_kept, seen_kept}
+use Rattle.msr_tree.proofs.Filing.{changes_none, changes_then, no_fewer, now_kept}
+use Rattle.msr_making.proofs.Lefts.{either_before}
 use Rattle.msr_making.proofs.Untouched.{left_untouched, still_there}
 use Rattle.msr_making.proofs.Sights.{asks_as, asks_then, day_look_later, found_day, said_nothing}
 
@@ -69,22 +70,11 @@ module _ (paths : DayPaths) (asked : DayOptions) (look : DayLook) where
       of (Ok a) p q r x said = (q, x, said)
       of (Err e) p q r x said = tt
 
-  left_earlier : (repacked : Repacked) (old mid : List Step) → ChangesFiles [] old mid → IsLeftThere asked paths repacked mid → IsLeftThere asked paths repacked old
-  left_earlier repacked old mid changes is = record {
-    stamp = is.stamp;
-    has_stamp = sym (seen_kept [] paths.stamp old mid tt changes) ∙ is.has_stamp;
-    has_input = subst (λ (x : Option (List ℕ)). IsSomeAnd x (λ input. length input ≡ is.stamp.bytes)) (seen_kept [] paths.input old mid tt changes) is.has_input;
-    read = is.read;
-    kept = is.kept;
-    has_report = sym (seen_kept [] paths.report old mid tt changes) ∙ is.has_report;
-    has_records = subst (λ (x : Option (List ℕ)). IsSomeAnd x (λ records. length records ≡ repacked.bytes_written)) (seen_kept [] paths.records old mid tt changes) is.has_records;
-  }
-
   pub kept_at : (found : Option Repacked) (repacked : Repacked) (one two : List Step → Type 0) → found ≡ Some repacked → Goes one two (AsksForKept paths look asked (Ok found)) → Goes one two (AsksForKept paths look asked (Ok (Some repacked)))
   kept_at found repacked one two is goes = subst (λ (f : Option Repacked). Goes one two (AsksForKept paths look asked (Ok f))) is goes
 
-  pub was_kept : (found : Option Repacked) (repacked : Repacked) → found ≡ Some repacked → IfSome found (IsKept asked) → IsKept asked repacked
-  was_kept found repacked is kept = subst (λ (f : Option Repacked). IfSome f (IsKept asked)) is kept
+  pub was_kept : (found : Option Repacked) (repacked : Repacked) → found ≡ Some repacked → IfSome found (IsKeptEither asked) → IsKeptEither asked repacked
+  was_kept found repacked is kept = subst (λ (f : Option Repacked). IfSome f (IsKeptEither asked)) is kept
 
   pub found_same : (repacked : Repacked) (answer : Bool) (one two three four : List Step → Type 0) → IsTrue asked.resume → Goes one two (FindsDay paths (Ok look)) → Goes two three (AsksForShared paths (Ok answer))
       → Goes three four (AsksForKept paths look asked (Ok (Some repacked))) → Goes one four (SeeksDay paths asked (Ok (Ended (Same repacked))))
@@ -92,14 +82,14 @@ module _ (paths : DayPaths) (asked : DayOptions) (look : DayLook) where
       (λ p q r x y said kept. (
         record {
           resume = resume;
-          left = left_earlier repacked p kept.0 (changes_then [] p q kept.0 x kept.1) (kept.2 (day_look_later paths look p kept.0 (changes_then [] p q kept.0 x kept.1) said.are));
+          left = either_before paths asked repacked p kept.0 (changes_then [] p q kept.0 x kept.1) (kept.2 (day_look_later paths look p kept.0 (changes_then [] p q kept.0 x kept.1) said.are));
         },
         still_there paths p r (changes_then [] p q r x y),
       )) first (asked_both _ answer (given (Some repacked)) two three four second third)
 
   same_of : (found : Result (Option Repacked) AllocError) (old mid new : List Step) → IsTrue asked.resume → ChangesFiles [] old mid → IsDayLook paths look mid
-      → IfOk found (λ f. IsDayLook paths look mid → IfSome f (λ repacked. IsLeftThere asked paths repacked mid)) → IfOk found (λ f. IfSome f (λ repacked. IsSameThere asked paths repacked old))
-  same_of (Ok (Some repacked)) old mid new resume changes looked is = record { resume = resume; left = left_earlier repacked old mid changes (is looked) }
+      → IfOk found (λ f. IsDayLook paths look mid → IfSome f (λ repacked. IsLeftEither asked paths repacked mid)) → IfOk found (λ f. IfSome f (λ repacked. IsSameThere asked paths repacked old))
+  same_of (Ok (Some repacked)) old mid new resume changes looked is = record { resume = resume; left = either_before paths asked repacked old mid changes (is looked) }
   same_of (Ok None) old mid new resume changes looked is = tt
   same_of (Err e) old mid new resume changes looked is = tt
 
@@ -115,7 +105,7 @@ module _ (paths : DayPaths) (asked : DayOptions) (look : DayLook) where
             let all = changes_then [] p q m.0 x.changes m.1 in
             same_of found p m.0 r resume all (day_look_later paths look p m.0 all x.said.are) m.2;
       }) (found_day paths stamp (given look) one two three a b)
-      (goes_both _ _ (λ q r. ChangesFiles [] q r × ((m : List Step) × ChangesFiles [] q m × IfOk found (λ f. IsDayLook paths look m → IfSome f (λ repacked. IsLeftThere asked paths repacked m)))) three four five
+      (goes_both _ _ (λ q r. ChangesFiles [] q r × ((m : List Step) × ChangesFiles [] q m × IfOk found (λ f. IsDayLook paths look m → IfSome f (λ repacked. IsLeftEither asked paths repacked m)))) three four five
       (λ q m r x y. (changes_then [] q m r x.changes y.changes, (m, x.changes, y.said))) c d)
 
 -- a day that nobody has claimed

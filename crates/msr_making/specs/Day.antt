@@ -279,10 +279,18 @@ pub record IsKept (asked : DayOptions) (repacked : Repacked) : Type 0 where
   pub report : IsReportKept asked repacked
   pub smaller : IsTrue asked.only_smaller → GotSmaller repacked
 
+-- It is of these options, and as long as what is read now: it has the place of the day's file.
+pub record IsKeptInPlace (asked : DayOptions) (repacked : Repacked) : Type 0 where
+  pub report : IsReportKept asked repacked
+  pub as_long : repacked.bytes_written ≡ repacked.bytes_read
+
+abbrev pub IsKeptEither : DayOptions → Repacked → Type 0
+IsKeptEither asked repacked = IsKept asked repacked ⊎ IsKeptInPlace asked repacked
+
 -- It was asked for that days are left alone that an earlier walk did, and this one is kept.
 pub record IsSame (asked : DayOptions) (repacked : Repacked) : Type 0 where
   pub resume : IsTrue asked.resume
-  pub kept : IsKept asked repacked
+  pub kept : IsKeptEither asked repacked
 
 -- it was asked for that files are left alone that were changed in some last days
 abbrev pub AsksForAge : DayOptions → Type 0

@@ -7,7 +7,6 @@ pub mod Making
 pub mod Parts
 pub mod Places
 pub mod Shrinking
-pub mod Stamp
 pub mod Stamping
 pub mod Told
 pub mod Verifying

@@ -30,7 +30,6 @@ IsIrregular sight = (facts : Facts) → sight ≡ Found facts → facts.kind ≢
 -- of a day those that are looked at for what an earlier walk left
 pub record AreRegular (look : DayLook) (facts : DayFacts) : Type 0 where
   pub input : IsRegular look.input facts.input
-  pub records : IsRegular look.records facts.records
 
 -- what is told of each name of a day
 pub record IsDayLook (paths : DayPaths) (look : DayLook) (past : List Step) : Type 0 where

@@ -13,7 +13,8 @@ use Rattle.msr_naming.specs.Naming.{day_paths}
 use Rattle.msr_naming.specs.Promise.{HasOwn, HasReport, IsToBeStamped}
 use Rattle.msr_naming.specs.declared.files.DayFiles.{DayFiles}
 use Rattle.msr_making.specs.Places.{AreFileNames, DayPaths, ShowsAllLeft, paths_of}
-use Rattle.msr_making.specs.Stamp.{stamp_of, stamp_text}
+use Rattle.msr_stamp.specs.Stamp.{stamp_of, stamp_text}
+use Rattle.msr_stamp.specs.declared.stamp.StampOf.TheVariants.{Input}
 use Rattle.msr_making.specs.Told.{IsOutcomeThere, IsSameThere}
 use Rattle.msr_making.specs.declared.answer.DayEnd.{DayEnd}
 use Rattle.msr_making.specs.declared.answer.Left.TheVariants as left
@@ -35,7 +36,7 @@ pub record AwaitsStamp (input : Path) (files : DayFiles) (choice : Choice) (old 
   pub report : Report
   pub has_input : seen old input ≡ Some bytes
   pub reported : IsReported choice bytes records text report
-  pub awaits : IsToBeStamped files (stamp_text (stamp_of facts)) records text new
+  pub awaits : IsToBeStamped files (stamp_text Input (stamp_of facts)) records text new
 
 -- A day is done, or left as it is, or refused. If it has its own before, it has it at each moment since: whatever a crash
 -- leaves then, if each folder was stored that was to be; and in any case if the walk is killed then.

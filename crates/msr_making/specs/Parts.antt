@@ -1,9 +1,10 @@
 -- Records and report of a day, beside their names.
-use Rattle.std.specs.Prelude.{◌≡◌, ℕ, false, List, [], ◌∷◌, Some, bytes_eq, Result, Ok, Err}
-use Rattle.msr_devices.specs.Device.{Device, unused}
-use Rattle.msr_tree.specs.Steps.{IsReady, Path, Step}
+use Rattle.std.specs.Prelude.{◌≡◌, false, List, [], ◌∷◌, bytes_eq, Result, Ok, Err}
+use Rattle.msr_devices.specs.Device.{Device}
+use Rattle.msr_tree.specs.Steps.{Path, Step}
 use Rattle.msr_tree.specs.declared.tree.TreeFault.{TreeFault}
 use Rattle.msr_tree.specs.declared.tree.TreeFault.TheVariants as fault
+use Rattle.msr_stamp.specs.Making.{IsBegun, LeadsToTaken}
 use Rattle.msr_naming.specs.declared.files.DayFiles.{DayFiles}
 use Rattle.msr_making.specs.declared.answer.DayFault.TheVariants.{CannotOpen}
 use Rattle.msr_making.specs.declared.answer.Stop.{Stop}
@@ -34,18 +35,8 @@ part_paths files = files.records.part ∷ files.report.part ∷ []
 abbrev pub ArePartsApart : DayFiles → Type 0
 ArePartsApart files = bytes_eq files.records.part files.report.part ≡ false
 
--- a file is begun, and has no bytes
-abbrev pub IsBegun : {W : Type 0} → (W → Device) → (old new : List Step) → W → Type 0
-IsBegun device old new writer = device writer ≡ unused (Some [])
-
 abbrev pub AreBegun : {W : Type 0} → (W → Device) → (old new : List Step) → Parts W → Type 0
 AreBegun device old new parts = IsBegun device old new parts.records × IsBegun device old new parts.report
-
--- A name leads to a file with the bytes that its writer took, and these are on the disk.
-pub record LeadsToTaken (path : Path) (writer : Device) (past : List Step) : Type 0 where
-  pub bytes : List ℕ
-  pub took : writer.bytes ≡ Some bytes
-  pub has : IsReady path bytes past
 
 abbrev pub AreFinished : DayFiles → (records report : Device) → (old new : List Step) → Unit {0} → Type 0
 AreFinished files records report old new x = ArePartsApart files → LeadsToTaken files.records.part records new × LeadsToTaken files.report.part report new

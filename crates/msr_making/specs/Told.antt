@@ -10,16 +10,17 @@ use Rattle.msr_options.specs.declared.hint.Side.TheVariants.{Records, Report as 
 use Rattle.msr_report.specs.declared.report.Report.{Report}
 use Rattle.msr_report_reader.specs.Reading.{IsReadFrom}
 use Rattle.msr_tool.specs.declared.fault.ToolFault.{ToolFault}
-use Rattle.msr_making.specs.Day.{AsksForAge, CountAnswers, GotSmaller, IsKept, IsMisplaced, IsOtherData, IsVerifiedBy, ShowsWritten, samples_of_lines}
+use Rattle.msr_making.specs.Day.{AsksForAge, CountAnswers, GotSmaller, IsKept, IsKeptInPlace, IsMisplaced, IsOtherData, IsVerifiedBy, ShowsWritten, samples_of_lines}
 use Rattle.msr_making.specs.Places.{DayPaths, IsOneOfMade, IsUnseen}
-use Rattle.msr_making.specs.Stamp.{stamp_text}
+use Rattle.msr_stamp.specs.Stamp.{stamp_text}
+use Rattle.msr_stamp.specs.declared.stamp.Stamp.{Stamp}
+use Rattle.msr_stamp.specs.declared.stamp.StampOf.TheVariants as stamped
 use Rattle.msr_making.specs.declared.answer.DayFault.{DayFault}
 use Rattle.msr_making.specs.declared.answer.DayFault.TheVariants.{CannotOpen, Changed, ClaimedByAnother, Differs, Gone, Larger, Listing, Misplaced, NotShown, Shrunk, Tool}
 use Rattle.msr_making.specs.declared.answer.DayOutcome.{DayOutcome}
 use Rattle.msr_making.specs.declared.answer.DayOutcome.TheVariants.{Done, Refused, Same, Young}
 use Rattle.msr_making.specs.declared.answer.Repacked.{Repacked}
 use Rattle.msr_making.specs.declared.answer.Shrinkage.{Shrinkage}
-use Rattle.msr_making.specs.declared.stamp.Stamp.{Stamp}
 
 -- The bytes of the day's file were repacked, with these counts, to these records and this text, and their segments belong to
 -- the day if that is asked for.
@@ -57,17 +58,31 @@ pub record IsDoneThere (asked : DayOptions) (paths : DayPaths) (repacked : Repac
 -- An earlier walk left the day: its stamp is of a file as long as the day's own is, and records and report stand beside it.
 pub record IsLeftThere (asked : DayOptions) (paths : DayPaths) (repacked : Repacked) (past : List Step) : Type 0 where
   pub stamp : Stamp
-  pub has_stamp : seen past paths.stamp ≡ Some (stamp_text stamp)
+  pub has_stamp : seen past paths.stamp ≡ Some (stamp_text stamped.Input stamp)
   pub has_input : IsSomeAnd (seen past paths.input) (λ input. length input ≡ stamp.bytes)
   pub read : repacked.bytes_read ≡ stamp.bytes
   pub kept : IsKept asked repacked
   pub has_report : seen past paths.report ≡ Some kept.report.text
   pub has_records : IsSomeAnd (seen past paths.records) (λ records. length records ≡ repacked.bytes_written)
 
+-- The records of an earlier walk have the place of the day's file: the stamp is of records as long as the file is, a report
+-- of as many bytes stands beside it, and nothing has the records' name.
+pub record IsInPlaceThere (asked : DayOptions) (paths : DayPaths) (repacked : Repacked) (past : List Step) : Type 0 where
+  pub stamp : Stamp
+  pub has_stamp : seen past paths.stamp ≡ Some (stamp_text stamped.Records stamp)
+  pub has_input : IsSomeAnd (seen past paths.input) (λ input. length input ≡ stamp.bytes)
+  pub read : repacked.bytes_read ≡ stamp.bytes
+  pub kept : IsKeptInPlace asked repacked
+  pub has_report : seen past paths.report ≡ Some kept.report.text
+  pub none : now past paths.records ≡ None
+
+abbrev pub IsLeftEither : DayOptions → DayPaths → Repacked → List Step → Type 0
+IsLeftEither asked paths repacked past = IsLeftThere asked paths repacked past ⊎ IsInPlaceThere asked paths repacked past
+
 -- and it was asked for that such a day is left alone
 pub record IsSameThere (asked : DayOptions) (paths : DayPaths) (repacked : Repacked) (past : List Step) : Type 0 where
   pub resume : IsTrue asked.resume
-  pub left : IsLeftThere asked paths repacked past
+  pub left : IsLeftEither asked paths repacked past
 
 -- nothing is left of a day, or a call failed
 abbrev pub IsClearedThere : DayPaths → (old new : List Step) → Type 0

@@ -1,20 +1,20 @@
 //! What an earlier walk left of a day.
 ghost use Rattle.std.specs.Prelude.{◌≡◌, IfOk, IfSome, IsTrue, true};
 ghost use Rattle.msr_tree.specs.Calls.{Goes};
-ghost use Rattle.msr_making.specs.Day.{GotSmaller, IsKept, IsReportKept, IsSame};
-ghost use Rattle.msr_making.specs.Keeping.{AsksForKept, AsksForReport, AsksForText};
+ghost use Rattle.msr_stamp.specs.Stamp.{stamp_text};
+ghost use Rattle.msr_making.specs.Day.{IsKeptEither, IsReportKept, IsSame};
+ghost use Rattle.msr_making.specs.Keeping.{AsksForKept, AsksForReport, AsksForText, IsKeptBy, stamped_by};
 ghost use Rattle.msr_making.specs.Making.{LooksForSame};
 ghost use Rattle.msr_making.specs.Places.{paths_at};
-ghost use Rattle.msr_making.specs.Stamp.{stamp_text};
 
 use crate::answer::Repacked;
 use crate::hold::Hold;
-use crate::looks::{DayLook, is_shared, look_at, look_beside};
+use crate::looks::{DayLook, Sight, is_shared, look_at, look_beside};
 use crate::places::Places;
 use crate::repacking::counts_kept;
-use crate::stamp::{Stamp, gives_text};
 use msr_options::DayOptions;
-use msr_tree::{Facts, Tree, TreeFault};
+use msr_stamp::{Stamp, StampOf, gives_text};
+use msr_tree::{Facts, Kind, Tree, TreeFault};
 use std::alloc::{AllocError, Global};
 
 /// Whether what was found under a name is a stamp, and nothing else.
@@ -23,11 +23,12 @@ fn has_stamp<T: Tree>(
     alloc: Global,
     path: &str,
     facts: &Facts,
+    of: StampOf,
     stamp: Stamp,
 ) -> Result<bool, AllocError>
-    ensures { Goes (T.went tree.old) (T.went tree.new) (AsksForText path.now (stamp_text stamp) result) }
+    ensures { Goes (T.went tree.old) (T.went tree.new) (AsksForText path.now (stamp_text of stamp) result) }
 {
-    let text = stamp.text(alloc)?;
+    let text = stamp.text(alloc, of)?;
     if facts.bytes != text.len() as u64 {
         return Ok(false);
     }
@@ -57,7 +58,18 @@ fn kept_counts<T: Tree>(
     }
 }
 
-/// What is kept of a day, if it is whole, was made with these options, and from the input as it is.
+/// Which file the stamp of a day is of, by what was found of its records.
+fn stamped_by(records: Sight) -> StampOf
+    ensures { result ≡ stamped_by records }
+{
+    match records {
+        Sight::Nothing => StampOf::Records,
+        Sight::Found(_) | Sight::Unknown => StampOf::Input,
+    }
+}
+
+/// What is kept of a day, if it is whole, was made with these options, and from the input as it is; or the input is what was
+/// made.
 pub(crate) fn kept<T: Tree>(
     tree: &mut T,
     alloc: Global,
@@ -65,14 +77,15 @@ pub(crate) fn kept<T: Tree>(
     look: &DayLook,
     asked: &DayOptions,
 ) -> Result<Option<Repacked>, AllocError>
-    ensures told { IfOk result (λ found. IfSome found (IsKept asked.now)) }
+    ensures told { IfOk result (λ found. IfSome found (IsKeptEither asked.now)) }
     ensures goes { Goes (T.went tree.old) (T.went tree.new) (AsksForKept (paths_at places.entry) look.now asked.now result) }
 {
     let Some(facts) = look.regular() else {
         return Ok(None);
     };
+    let of = stamped_by(look.records);
     let stamp = Stamp::of(&facts.input);
-    let is_stamped = has_stamp(tree, alloc, places.stamp, &facts.stamp, stamp)?;
+    let is_stamped = has_stamp(tree, alloc, places.stamp, &facts.stamp, of, stamp)?;
     if !is_stamped {
         return Ok(None);
     }
@@ -81,18 +94,26 @@ pub(crate) fn kept<T: Tree>(
     let Some(repacked) = found else {
         return Ok(None);
     };
-    if !is_kept(asked, repacked, facts.records.bytes) {
+    if !is_kept(asked, repacked, look.records) {
         return Ok(None);
     }
     Ok(Some(repacked))
 }
 
-/// Whether as many bytes of records are kept, and if that is asked for, they are fewer than were read.
-fn is_kept(asked: &DayOptions, repacked: Repacked, bytes: u64) -> bool
-    ensures { result ≡ true → (bytes ≡ repacked.bytes_written) × (IsTrue asked.now.only_smaller → GotSmaller repacked) }
+/// Whether as many bytes of records are kept, and if that is asked for, they are fewer than were read; or they are what was
+/// read.
+fn is_kept(asked: &DayOptions, repacked: Repacked, records: Sight) -> bool
+    ensures { result ≡ true → IsKeptBy asked.now repacked records }
 {
-    bytes == repacked.bytes_written
-        && (!asked.only_smaller || repacked.bytes_written < repacked.bytes_read)
+    match records {
+        Sight::Found(facts) => {
+            facts.kind == Kind::Regular
+                && facts.bytes == repacked.bytes_written
+                && (!asked.only_smaller || repacked.bytes_written < repacked.bytes_read)
+        }
+        Sight::Nothing => repacked.bytes_written == repacked.bytes_read,
+        Sight::Unknown => false,
+    }
 }
 
 /// The same as is kept of a day that nobody has claimed, if that is asked for and no walk has the day or left something.

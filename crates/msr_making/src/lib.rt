@@ -12,7 +12,6 @@ mod parts;
 mod places;
 mod repacking;
 mod shrinking;
-mod stamp;
 mod stamping;
 mod verifying;
 mod writing;

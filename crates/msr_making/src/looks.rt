@@ -59,27 +59,24 @@ pub(crate) struct DayLook {
     pub(crate) stamp: Sight,
 }
 
-/// What a look told of the files of a day that are all regular.
+/// What a look told of a day's own file, its report and its stamp, which are all regular.
 #[derive(Clone, Copy)]
 pub(crate) struct DayFacts {
     pub(crate) input: Facts,
-    pub(crate) records: Facts,
     pub(crate) report: Facts,
     pub(crate) stamp: Facts,
 }
 
 impl DayLook {
-    /// What was told of regular files, if all are.
+    /// What was told of these, if they are.
     pub(crate) fn regular(&self) -> Option<DayFacts>
         ensures { IfSome result (AreRegular self.now) }
     {
         let input = self.input.regular()?;
-        let records = self.records.regular()?;
         let report = self.report.regular()?;
         let stamp = self.stamp.regular()?;
         Some(DayFacts {
             input,
-            records,
             report,
             stamp,
         })

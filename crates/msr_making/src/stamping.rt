@@ -2,33 +2,15 @@
 ghost use Rattle.std.specs.Prelude.{[]};
 ghost use Rattle.msr_tree.specs.Calls.{Goes};
 ghost use Rattle.msr_tree.specs.Folders.{ChangesFiles};
-ghost use Rattle.msr_making.specs.Stamping.{StampsAsked, StampsPart};
+ghost use Rattle.msr_making.specs.Stamping.{StampsAsked};
 
 use crate::answer::Left;
 use crate::looks::{Sight, look_at};
-use crate::parts::begin_part;
-use crate::stamp::Stamp;
-use msr_devices::write_all;
-use msr_naming::{DayFiles, NewName};
-use msr_options::{DayOptions, Side};
+use msr_naming::DayFiles;
+use msr_options::DayOptions;
+use msr_stamp::{Stamp, StampOf, write_stamp};
 use msr_tree::Tree;
 use std::alloc::Global;
-
-/// Writes a stamp beside its name, and tells whether it is on the disk.
-fn write_stamp<T: Tree>(tree: &mut T, alloc: Global, name: &NewName, stamp: Stamp) -> bool
-    ensures { Goes (T.went tree.old) (T.went tree.new) (StampsPart name.now stamp result) }
-{
-    let Ok(text) = stamp.text(alloc) else {
-        return false;
-    };
-    let Ok(mut writer) = begin_part(tree, Side::Report, name) else {
-        return false;
-    };
-    if write_all(&mut writer, text.as_bytes()).is_err() {
-        return false;
-    }
-    tree.finish_stored(name.part.as_str(), writer).is_ok()
-}
 
 /// Writes the stamp of a day whose file is as a look found it, if that is asked for and each folder was stored that was to be;
 /// without a stamp the next walk repacks it again.
@@ -56,10 +38,11 @@ pub(crate) fn stamp_asked<T: Tree>(
     if !is_still(tree, input, stamp) {
         return Left::Nothing;
     }
-    if write_stamp(tree, alloc, &files.stamp, stamp) {
+    let part = files.stamp.part.as_str();
+    if write_stamp(tree, alloc, part, StampOf::Input, stamp) {
         return Left::Stamp;
     }
-    match tree.remove(files.stamp.part.as_str()) {
+    match tree.remove(part) {
         Ok(()) => Left::Nothing,
         Err(_) => Left::Parts,
     }

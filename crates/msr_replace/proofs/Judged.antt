@@ -13,7 +13,7 @@ use Rattle.msr_tree.proofs.Moments.{at_end, joined}
 use Rattle.msr_verify.specs.declared.judging.Finding.{Finding}
 use Rattle.msr_verify.specs.declared.judging.Finding.TheVariants as finding
 use Rattle.msr_verify.specs.declared.judging.VerifyFault.{VerifyFault}
-use Rattle.msr_replace.specs.Answers.{HaveBytes, HaveInt24, IsFoundDay, IsRefusedFor, IsReplaced, IsShownItself, IsToldDay, IsVerifiedDay, Means, Replaces, replaced_of}
+use Rattle.msr_replace.specs.Answers.{Exchanges, HaveBytes, HaveInt24, IsFoundDay, IsRefusedFor, IsReplaced, IsShownItself, IsToldDay, IsVerifiedDay, Means, replaced_of}
 use Rattle.msr_replace.specs.Restored.{refusal_of}
 use Rattle.msr_replace.specs.Judging.{HaveLengths, IsOpenedDay, JudgesReplaceable, JudgesKinds, JudgesMissing, JudgesSeen, JudgesWhole, LackInt24, ShowsItself, TellsKinds, verified_of}
 use Rattle.msr_replace.specs.Kinds.{LacksInt24}
@@ -136,7 +136,7 @@ seen_later names report p q r s looked changes is = record {
 -- The answer in the end.
 module _ (work : DayWork) (names : Names) (report : Path) where
   abbrev R : Result DayAnswer TreeFault → (old new : List Step) → Type 0
-  R result = Replaces work names report result
+  R result = Exchanges work names report result
 
   abbrev Kept : (a b : List ℕ) → List Step → Type 0
   Kept = AreKept names Original Records
@@ -381,19 +381,3 @@ module _ (work : DayWork) (names : Names) (report : Path) where
       (λ p q r a b c d. seen_later names report p q p p looked (changes_none [] p) a) first second in
       told_then {A = Unit {0}} {B = Judged} (λ old new x. IsSeenDay names report old old looked) (JudgesSeen work names report looked) (JudgesReplaceable work names report) tt result one late two
       (λ p q r x c d sees judges. judges_sooner p q c names report work x r (judges (seen_later names report p p q q looked c sees))) both third
-
--- memory is refused before anything is done
-pub replaced_none : (work : DayWork) (names : Names) (report : Path) (one : List Step → Type 0) → Goes one one (Replaces work names report (stopping DayAnswer fault.Memory))
-replaced_none work names report one = record {
-  from = λ new went. (
-    new,
-    went,
-    record {
-      changes = changes_none (all names) new;
-      cause = λ is. cc;
-      safe = λ a b kept. quiet_moments names Original Records [] a b new new tt tt tt kept.keeps (changes_none [] new);
-      alone = alone_moments [] names.original names.day new new tt (changes_none [] new);
-      answers = tt;
-    },
-  );
-}

@@ -1,4 +1,5 @@
 pub mod Counted
+pub mod Exchanged
 pub mod Judged
 pub mod KindLemmas
 pub mod LinesTold
@@ -7,3 +8,4 @@ pub mod Quiet
 pub mod Reading
 pub mod Restored
 pub mod Saying
+pub mod Stamps

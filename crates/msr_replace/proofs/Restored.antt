@@ -1,28 +1,24 @@
 -- What is told of a day whose original was to get its place again.
-use Rattle.std.proofs.Common.{◌≡◌, ℕ, List, [], Some, Err, refl, ap}
+use Rattle.std.proofs.Common.{◌≡◌, ℕ, List, Some, Err, refl, ap}
 use Rattle.msr_tree.specs.Calls.{Goes}
 use Rattle.msr_tree.specs.Steps.{Leaves, Step}
 use Rattle.msr_tree.specs.declared.tree.TreeFault.{TreeFault}
 use Rattle.msr_tree.specs.declared.tree.TreeFault.TheVariants as fault
 use Rattle.msr_tree.proofs.Acting.{giving, goes_as, stopping}
-use Rattle.msr_tree.proofs.Changes.{changes_none}
-use Rattle.msr_exchange.specs.Names.{Names, all}
+use Rattle.msr_exchange.specs.Names.{Names}
 use Rattle.msr_exchange.specs.Promise.{AreKept, HasItsPlace, Restores, Says}
-use Rattle.msr_replace.specs.Restored.{RestoresDay, restored_of}
+use Rattle.msr_replace.specs.Restored.{PutsBackDay, restored_of}
 use Rattle.msr_replace.specs.declared.answers.DayRestored.{DayRestored}
 use Rattle.msr_replace.specs.declared.answers.DayRestored.TheVariants as restored
 use Rattle.msr_exchange.specs.declared.names.Place.TheVariants.{Original, Records}
 use Rattle.msr_exchange.specs.declared.told.Told.{Told}
 use Rattle.msr_exchange.specs.declared.told.Told.TheVariants as told
-use Rattle.msr_exchange.proofs.Alone.{alone_moments}
-use Rattle.msr_exchange.proofs.Back.{waits_moments}
-use Rattle.msr_exchange.proofs.Phases.{quiet_moments}
 
 module _ (names : Names) where
   abbrev Back : (a b : List ℕ) → List Step → Type 0
   Back = AreKept names Records Original
 
-  pub restored_ok : (x : Told) (before after : List Step → Type 0) → Goes before after (Restores names Records Original Back (giving x)) → Goes before after (RestoresDay names (giving (restored_of x)))
+  pub restored_ok : (x : Told) (before after : List Step → Type 0) → Goes before after (Restores names Records Original Back (giving x)) → Goes before after (PutsBackDay names (giving (restored_of x)))
   restored_ok x before after goes = goes_as _ _ before after (λ p q restores. record {
     changes = restores.all_kept.keeps.changes;
     cause = λ is. cc;
@@ -44,7 +40,7 @@ module _ (names : Names) where
       has_back told.Changed b q so is = cc
       has_back (told.Refused why) b q so is = cc
 
-  pub restored_stopped : (why : TreeFault) (before after : List Step → Type 0) → Goes before after (Restores names Records Original Back (stopping Told why)) → Goes before after (RestoresDay names (stopping DayRestored why))
+  pub restored_stopped : (why : TreeFault) (before after : List Step → Type 0) → Goes before after (Restores names Records Original Back (stopping Told why)) → Goes before after (PutsBackDay names (stopping DayRestored why))
   restored_stopped why before after goes = goes_as _ _ before after (λ p q restores. record {
     changes = restores.all_kept.keeps.changes;
     cause = λ is. restores.all_kept.keeps.cause (let so : why ≡ fault.Failed = cc in ap (λ w. Err w) so);
@@ -53,20 +49,3 @@ module _ (names : Names) where
     answers = λ a b kept. tt;
     gives_back = λ b none waits. ((restores.gives_back b none waits).0, tt);
   }) goes
-
-  -- memory is refused before anything is done
-  pub restored_none : (one : List Step → Type 0) → Goes one one (RestoresDay names (stopping DayRestored fault.Memory))
-  restored_none one = record {
-    from = λ new went. (
-      new,
-      went,
-      record {
-        changes = changes_none (all names) new;
-        cause = λ is. cc;
-        safe = λ a b kept. quiet_moments names Records Original [] a b new new tt tt tt kept.keeps (changes_none [] new);
-        alone = alone_moments [] names.records names.day new new tt (changes_none [] new);
-        answers = λ a b kept. tt;
-        gives_back = λ b none waits. (waits_moments names Original [] b new new tt waits (changes_none [] new), tt);
-      },
-    );
-  }

@@ -8,8 +8,10 @@ use Rattle.msr_verify.specs.declared.judging.Finding.{Finding}
 use Rattle.msr_verify.specs.declared.judging.Finding.TheVariants as finding
 use Rattle.msr_verify.specs.declared.judging.VerifyFault.{VerifyFault}
 use Rattle.msr_replace.specs.Kinds.{HoldsInt24, LacksInt24}
-use Rattle.msr_exchange.specs.Names.{Names, all, path_at, path_below}
+use Rattle.msr_stamp.specs.declared.stamp.StampOf.TheVariants as stamped
+use Rattle.msr_exchange.specs.Names.{Names, StampPlaces, all, path_at, path_below}
 use Rattle.msr_replace.specs.Restored.{refusal_of}
+use Rattle.msr_exchange.specs.Stamped.{LeavesStamp, all_and_stamp}
 use Rattle.msr_exchange.specs.Promise.{AreKept, HaveChanged, KeepsBoth, LeavesAlone}
 use Rattle.msr_replace.specs.declared.answers.DayAnswer.{DayAnswer}
 use Rattle.msr_replace.specs.declared.answers.DayAnswer.TheVariants.{Replaced, Same, Young, Larger, Changed, Missing, NotShown, Differs, Refused}
@@ -106,12 +108,21 @@ Means work names report (Refused refusal) old new = IsToldDay work names report 
 
 -- What is promised of a day whose records are to take the place of its file: its names alone change; if both files are
 -- kept when it begins, they are at each moment since; another file in ASIDE is left alone; and the answer is so.
-pub record Replaces (work : DayWork) (names : Names) (report : Path) (result : Result DayAnswer TreeFault) (old new : List Step) : Type 0 where
+pub record Exchanges (work : DayWork) (names : Names) (report : Path) (result : Result DayAnswer TreeFault) (old new : List Step) : Type 0 where
   pub changes : ChangesOnly (all names) old new
   pub cause : IsErrOf result Failed → failures old < failures new
   pub safe : (a b : List ℕ) → AreKept names Original Records a b old → AtEachMoment (KeepsBoth names Original a Records b) old new
   pub alone : LeavesAlone names.original names.day old new
   pub answers : IfOk result (λ answer. Means work names report answer old new)
+
+-- The same, and then its stamp is that of the records, if they are in ROOT and no longer in OUT.
+pub record Replaces (work : DayWork) (names : Names) (report : Path) (stamp : StampPlaces) (result : Result DayAnswer TreeFault) (old new : List Step) : Type 0 where
+  pub changes : ChangesOnly (all_and_stamp names stamp) old new
+  pub cause : IsErrOf result Failed → failures old < failures new
+  pub safe : (a b : List ℕ) → AreKept names Original Records a b old → AtEachMoment (KeepsBoth names Original a Records b) old new
+  pub alone : LeavesAlone names.original names.day old new
+  pub answers : IfOk result (λ answer. Means work names report answer old new)
+  pub stamps : (a b : List ℕ) → AreKept names Original Records a b old → AtEachMoment (LeavesStamp names stamp stamped.Records b old) old new
 
 -- what is told of a day whose files were to change places
 abbrev pub replaced_of : Told → Verified → DayAnswer

@@ -6,6 +6,7 @@ pub mod Kinds
 pub mod Looks
 pub mod Restored
 pub mod Said
+pub mod Stamping
 pub mod Sums
 pub mod Tree
 pub mod Walk

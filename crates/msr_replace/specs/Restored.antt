@@ -3,8 +3,10 @@ use Rattle.std.specs.Prelude.{◌<◌, ◌≡◌, ℕ, List, None, Some, Result,
 use Rattle.msr_tree.specs.Steps.{AtEachMoment, ChangesOnly, Leaves, Step, failures, now}
 use Rattle.msr_tree.specs.declared.tree.TreeFault.{TreeFault}
 use Rattle.msr_tree.specs.declared.tree.TreeFault.TheVariants.{Failed}
-use Rattle.msr_exchange.specs.Names.{Names, all}
+use Rattle.msr_stamp.specs.declared.stamp.StampOf.TheVariants as stamped
+use Rattle.msr_exchange.specs.Names.{Names, StampPlaces, all}
 use Rattle.msr_exchange.specs.Promise.{AreKept, IsUnderEither, KeepsBoth, LeavesAlone}
+use Rattle.msr_exchange.specs.Stamped.{LeavesStamp, all_and_stamp}
 use Rattle.msr_replace.specs.declared.answers.DayRefusal.{DayRefusal}
 use Rattle.msr_replace.specs.declared.answers.DayRefusal.TheVariants as said
 use Rattle.msr_replace.specs.declared.answers.DayRestored.{DayRestored}
@@ -36,7 +38,7 @@ restored_of (told.Refused why) = restored.Refused (refusal_of why)
 
 -- What is promised of a day whose original is to get its place again, as of the way there; and if no file has that place,
 -- the original is left by each crash under one of its two names, at the end under the day's.
-pub record RestoresDay (names : Names) (result : Result DayRestored TreeFault) (old new : List Step) : Type 0 where
+pub record PutsBackDay (names : Names) (result : Result DayRestored TreeFault) (old new : List Step) : Type 0 where
   pub changes : ChangesOnly (all names) old new
   pub cause : IsErrOf result Failed → failures old < failures new
   pub safe : (a b : List ℕ) → AreKept names Records Original a b old → AtEachMoment (KeepsBoth names Records a Original b) old new
@@ -45,3 +47,15 @@ pub record RestoresDay (names : Names) (result : Result DayRestored TreeFault) (
   pub gives_back : (b : List ℕ) → now old names.day ≡ None → Leaves old names.original (Some b)
       → AtEachMoment (IsUnderEither names.day names.original b) old new
       × IfOk result (λ answer. answer ≡ restored.Restored → Leaves new names.day (Some b))
+
+-- The same, and then its stamp is that of the original, if that has its place again.
+pub record RestoresDay (names : Names) (stamp : StampPlaces) (result : Result DayRestored TreeFault) (old new : List Step) : Type 0 where
+  pub changes : ChangesOnly (all_and_stamp names stamp) old new
+  pub cause : IsErrOf result Failed → failures old < failures new
+  pub safe : (a b : List ℕ) → AreKept names Records Original a b old → AtEachMoment (KeepsBoth names Records a Original b) old new
+  pub alone : LeavesAlone names.records names.day old new
+  pub answers : (a b : List ℕ) → AreKept names Records Original a b old → IfOk result (λ answer. answer ≡ restored.Restored → Leaves new names.day (Some b))
+  pub gives_back : (b : List ℕ) → now old names.day ≡ None → Leaves old names.original (Some b)
+      → AtEachMoment (IsUnderEither names.day names.original b) old new
+      × IfOk result (λ answer. answer ≡ restored.Restored → Leaves new names.day (Some b))
+  pub stamps : (a b : List ℕ) → AreKept names Records Original a b old → AtEachMoment (LeavesStamp names stamp stamped.Input b old) old new

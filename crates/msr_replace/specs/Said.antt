@@ -3,7 +3,7 @@ use Rattle.std.specs.Prelude.{◌<◌, ◌≡◌, ◌≢◌, ◌⊎◌, ⊤, Boo
 use Rattle.std.specs.Borrow.{Bor}
 use Rattle.msr_devices.specs.Device.{Device}
 use Rattle.msr_devices.specs.declared.fault.DeviceFault.{DeviceFault}
-use Rattle.msr_exchange.specs.Work.{names_in}
+use Rattle.msr_exchange.specs.Work.{names_in, stamp_in}
 use Rattle.msr_exchange.specs.declared.work.DayWork.{DayWork}
 use Rattle.msr_folders.specs.Days.{IsDay, IsNoDay}
 use Rattle.msr_folders.specs.Entries.{AreEntriesBetween, Entry, Left, Passed, Visit, WithoutList}
@@ -58,14 +58,14 @@ unlisted_of course.Aside = refusal.Listing
 
 -- what became of a day whose records were to take the place of its file
 abbrev pub IsOfReplaced : DayWork → Path → Outcome → (old new : List Step) → Type 0
-IsOfReplaced work path (Day answer) old new = Replaces work (names_in work path) (report_in work path) (Ok answer) old new
-IsOfReplaced work path DayFailed old new = Replaces work (names_in work path) (report_in work path) (Err fault.Failed) old new
+IsOfReplaced work path (Day answer) old new = Replaces work (names_in work path) (report_in work path) (stamp_in work path) (Ok answer) old new
+IsOfReplaced work path DayFailed old new = Replaces work (names_in work path) (report_in work path) (stamp_in work path) (Err fault.Failed) old new
 IsOfReplaced work path outcome old new = ⊥
 
 -- what became of one whose original was to get its place again
 abbrev pub IsOfRestored : DayWork → Path → Outcome → (old new : List Step) → Type 0
-IsOfRestored work path (Undone answer) old new = RestoresDay (names_in work path) (Ok answer) old new
-IsOfRestored work path DayFailed old new = RestoresDay (names_in work path) (Err fault.Failed) old new
+IsOfRestored work path (Undone answer) old new = RestoresDay (names_in work path) (stamp_in work path) (Ok answer) old new
+IsOfRestored work path DayFailed old new = RestoresDay (names_in work path) (stamp_in work path) (Err fault.Failed) old new
 IsOfRestored work path outcome old new = ⊥
 
 -- what is told of a day of the records: that the archive does not have it; or nothing, if it does, or a call failed

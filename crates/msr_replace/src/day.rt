@@ -3,17 +3,18 @@ ghost use Rattle.std.specs.Prelude.{◌≡◌, [], IfOk, string_bytes};
 ghost use Rattle.msr_sds.specs.SdsPath.{ReadsAsDay, SdsPath};
 ghost use Rattle.msr_tree.specs.Acts.{Acts};
 ghost use Rattle.msr_tree.specs.Calls.{Goes};
-ghost use Rattle.msr_replace.specs.Answers.{Replaces, report_in};
-ghost use Rattle.msr_replace.specs.Restored.{RestoresDay};
+ghost use Rattle.msr_replace.specs.Answers.{Exchanges, Replaces, report_in};
+ghost use Rattle.msr_replace.specs.Restored.{PutsBackDay, RestoresDay};
 ghost use Rattle.msr_replace.specs.Judging.{JudgesReplaceable, JudgesKinds, JudgesMissing, JudgesSeen, JudgesWhole, verified_of};
-ghost use Rattle.msr_exchange.specs.Names.{AreNames};
-ghost use Rattle.msr_exchange.specs.Work.{AreThreeFolders, names_in};
+ghost use Rattle.msr_exchange.specs.Names.{AreNames, AreStampNames};
+ghost use Rattle.msr_exchange.specs.Work.{AreThreeFolders, names_in, stamp_in};
 
 use crate::answers::{DayAnswer, DayRestored};
 use crate::looks::{Looked, Sorted, is_young, look_at_day, odd_day, sort};
+use crate::stamping::{stamp_replaced, stamp_restored};
 use crate::told::{replaced_of, restored_of};
 use crate::verifying::{Opened, look_for_int24, shows_itself, verify_files};
-use msr_exchange::{DayNames, DayWork, Verified, replace_day, restore_day};
+use msr_exchange::{DayNames, DayWork, StampNames, Verified, replace_day, restore_day};
 use msr_tree::{Facts, Tree, TreeFault};
 use std::alloc::AllocError;
 
@@ -161,7 +162,7 @@ fn replace_named<T: Tree>(
     report: &str,
 ) -> Result<DayAnswer, TreeFault>
     requires { AreNames names.now }
-    ensures { Goes (T.went tree.old) (T.went tree.new) (Replaces work.now names.now report.now result) }
+    ensures { Goes (T.went tree.old) (T.went tree.new) (Exchanges work.now names.now report.now result) }
 {
     match judge(tree, work, names, path, report)? {
         Judged::Told(answer) => Ok(answer),
@@ -180,6 +181,24 @@ fn report_of(work: &DayWork<'_>, path: &str) -> Result<String, AllocError>
     format!(in work.alloc; "{reports}/{path}.txt")
 }
 
+/// The same, and then the day is stamped.
+fn replace_stamped<T: Tree>(
+    tree: &mut T,
+    work: &DayWork<'_>,
+    names: &DayNames,
+    stamp: &StampNames,
+    path: &str,
+    report: &str,
+) -> Result<DayAnswer, TreeFault>
+    requires names { AreNames names.now }
+    requires stamp { AreStampNames names.now stamp.now }
+    ensures { Goes (T.went tree.old) (T.went tree.new) (Replaces work.now names.now report.now stamp.now result) }
+{
+    let answer = replace_named(tree, work, names, path, report)?;
+    stamp_replaced(tree, work.alloc, names, stamp, answer);
+    Ok(answer)
+}
+
 /// Verifies the day with this path from ROOT, and gives its records the place of its file, which is set aside.
 pub fn replace_path<T: Tree>(
     tree: &mut T,
@@ -189,11 +208,36 @@ pub fn replace_path<T: Tree>(
     requires apart { AreThreeFolders work.now }
     requires day { (day : SdsPath) × ReadsAsDay path.now day }
     ensures { Goes (T.went tree.old) (T.went tree.new)
-        (Replaces work.now (names_in work.now path.now) (report_in work.now path.now) result) }
+        (Replaces work.now (names_in work.now path.now) (report_in work.now path.now) (stamp_in work.now path.now) result) }
 {
     let names = DayNames::new(work, path)?;
     let report = report_of(work, path)?;
-    replace_named(tree, work, &names, path, report.as_str())
+    let stamp = StampNames::new(work, path)?;
+    replace_stamped(tree, work, &names, &stamp, path, report.as_str())
+}
+
+fn restore_named<T: Tree>(tree: &mut T, names: &DayNames) -> Result<DayRestored, TreeFault>
+    requires { AreNames names.now }
+    ensures { Goes (T.went tree.old) (T.went tree.new) (PutsBackDay names.now result) }
+{
+    let told = restore_day(tree, names)?;
+    Ok(restored_of(told))
+}
+
+/// The same, and then the day is stamped.
+fn restore_stamped<T: Tree>(
+    tree: &mut T,
+    work: &DayWork<'_>,
+    names: &DayNames,
+    stamp: &StampNames,
+) -> Result<DayRestored, TreeFault>
+    requires names { AreNames names.now }
+    requires stamp { AreStampNames names.now stamp.now }
+    ensures { Goes (T.went tree.old) (T.went tree.new) (RestoresDay names.now stamp.now result) }
+{
+    let answer = restore_named(tree, names)?;
+    stamp_restored(tree, work.alloc, names, stamp, answer);
+    Ok(answer)
 }
 
 /// Gives the original of the day with this path its place again; its records go back to OUT.
@@ -204,9 +248,9 @@ pub fn restore_path<T: Tree>(
 ) -> Result<DayRestored, TreeFault>
     requires apart { AreThreeFolders work.now }
     requires day { (day : SdsPath) × ReadsAsDay path.now day }
-    ensures { Goes (T.went tree.old) (T.went tree.new) (RestoresDay (names_in work.now path.now) result) }
+    ensures { Goes (T.went tree.old) (T.went tree.new) (RestoresDay (names_in work.now path.now) (stamp_in work.now path.now) result) }
 {
     let names = DayNames::new(work, path)?;
-    let told = restore_day(tree, &names)?;
-    Ok(restored_of(told))
+    let stamp = StampNames::new(work, path)?;
+    restore_stamped(tree, work, &names, &stamp)
 }

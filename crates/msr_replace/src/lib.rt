@@ -8,6 +8,7 @@ mod lines;
 mod looks;
 mod progress;
 mod replacer;
+mod stamping;
 mod tally;
 mod told;
 mod verifying;

@@ -1,11 +1,11 @@
 //! The folders on the way to a folder of days, before and after its days are worked on.
-ghost use Rattle.std.specs.Prelude.{[]};
+ghost use Rattle.std.specs.Prelude.{◌∷◌, []};
 ghost use Rattle.msr_tree.specs.Acts.{Acts};
 ghost use Rattle.msr_tree.specs.Calls.{Goes};
 ghost use Rattle.msr_tree.specs.Steps.{ChangesOnly};
 ghost use Rattle.msr_replace.specs.Looks.{AreOfNames, RefusesByNames};
+ghost use Rattle.msr_exchange.specs.Stamped.{all_parts_in, stamp_part_in};
 ghost use Rattle.msr_exchange.specs.Moves.{Anything};
-ghost use Rattle.msr_exchange.specs.Work.{parts_in};
 
 use crate::answers::DayRefusal;
 use msr_exchange::{DayWork, clear_parts};
@@ -119,6 +119,19 @@ impl Ways {
     }
 }
 
+/// Removes the stamp that a killed run was about to give its name, if that can be done.
+fn clear_stamp<T: Tree>(tree: &mut T, work: &DayWork<'_>, folder: &str)
+    ensures { Goes (T.went tree.old) (T.went tree.new) (ChangesOnly (stamp_part_in work.now folder.now ∷ [])) }
+{
+    let reports = work.reports;
+    match format!(in work.alloc; "{reports}/{folder}/.msrepack-replace.stamp") {
+        Ok(part) => {
+            let _ = tree.remove(part.as_str());
+        }
+        Err(_) => {}
+    }
+}
+
 /// Removes what killed runs left in a folder of days, unless a link is on the way to it. Tells whether originals that ASIDE
 /// has there can get back into ROOT.
 pub(crate) fn begin_folder<T: Tree>(
@@ -126,13 +139,14 @@ pub(crate) fn begin_folder<T: Tree>(
     work: &DayWork<'_>,
     folder: &str,
 ) -> Result<bool, TreeFault>
-    ensures { Goes (T.went tree.old) (T.went tree.new) (ChangesOnly (parts_in work.now folder.now)) }
+    ensures { Goes (T.went tree.old) (T.went tree.new) (ChangesOnly (all_parts_in work.now folder.now)) }
 {
     let ways = Ways::of(tree, work, folder)?;
     if ways.have_links() {
         return Ok(ways.lead_back());
     }
     clear_parts(tree, work, folder)?;
+    clear_stamp(tree, work, folder);
     Ok(ways.lead_back())
 }
 

@@ -1,7 +1,8 @@
 use Rattle.std.proofs.Common.{◌∷◌, []}
 use Rattle.msr_tree.proofs.Acting.{goes_more, then_ok, then_stopped}
 use Rattle.std.proofs.lemmas.Result.{err_from_is_err_and}
-use Rattle.msr_making.specs.Parts.{AreBegun, IsBegun, part_paths}
+use Rattle.msr_stamp.specs.Making.{IsBegun}
+use Rattle.msr_making.specs.Parts.{AreBegun, part_paths}
 use Rattle.msr_making.specs.declared.parts.Parts.{Parts}
 use Rattle.msr_making.proofs.parts.begin.Goals as goal
 

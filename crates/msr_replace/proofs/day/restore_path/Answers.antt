@@ -1,22 +1,25 @@
 use Rattle.std.proofs.lemmas.Result.{err_from_is_err_and}
-use Rattle.msr_exchange.specs.Work.{names_in}
-use Rattle.msr_replace.proofs.Restored.{restored_none, restored_ok, restored_stopped}
+use Rattle.msr_exchange.specs.Work.{names_in, stamp_in}
+use Rattle.msr_exchange.proofs.NameLemmas.{are_stamp_names}
+use Rattle.msr_replace.proofs.Exchanged.{restored_none}
 use Rattle.msr_replace.proofs.day.restore_path.Goals as goal
 
 pub returns-in_err-names : goal.returns-in_err-names
 returns-in_err-names g c =
     let p = err_from_is_err_and c.from_residual.result c.from_residual.ensures.1 in
-    rw (p.1, p.2) (restored_none (names_in c.args.work.now c.args.path.now) _)
+    rw (p.1, p.2) (restored_none (names_in c.args.work.now c.args.path.now) (stamp_in c.args.work.now c.args.path.now) _)
 
-pub returns-in_err-told : goal.returns-in_err-told
-returns-in_err-told g c =
-    let p = err_from_is_err_and c.from_residual-in_err-told.result c.from_residual-in_err-told.ensures.1 in
-    let names = c.in_ok-names.ensures.names in
-    let goes = rw names at c.in_err-told.ensures in
-    rw (p.1, p.2) (restored_stopped (names_in c.args.work.now c.args.path.now) _ _ _ goes)
+pub returns-in_err-stamp : goal.returns-in_err-stamp
+returns-in_err-stamp g c =
+    let p = err_from_is_err_and c.from_residual-in_err-stamp.result c.from_residual-in_err-stamp.ensures.1 in
+    rw (p.1, p.2) (restored_none (names_in c.args.work.now c.args.path.now) (stamp_in c.args.work.now c.args.path.now) _)
+
+pub restore_stamped-requires-stamp : goal.restore_stamped-requires-stamp
+restore_stamped-requires-stamp g c =
+    let work = c.args.work.now in
+    rw (c.in_ok-names.ensures.names, c.in_ok-stamp.ensures) (are_stamp_names work.root.now work.out.now work.aside.now work.reports.now c.args.path.now c.requires.day.0 c.requires.day.1)
 
 pub returns : goal.returns
 returns g c =
-    let names = c.in_ok-names.ensures.names in
-    let goes = rw names at c.in_ok-told.ensures in
-    rw c.restored_of.ensures (restored_ok (names_in c.args.work.now c.args.path.now) c.in_ok-told.told _ _ goes)
+    let one = rw c.in_ok-names.ensures.names at c.restore_stamped.ensures in
+    rw c.in_ok-stamp.ensures at one

@@ -3,7 +3,7 @@ use Rattle.std.proofs.lemmas.Bool.{eqb-true}
 use Rattle.std.proofs.lemmas.List.{nil_from_length}
 use Rattle.std.proofs.lemmas.Bool.Decides.{Decides-eqb}
 use Rattle.std.proofs.lemmas.Slice.Eq.{strip_prefix_is}
-use Rattle.msr_making.proofs.stamp.gives_text.Goals as goal
+use Rattle.msr_stamp.proofs.stamp.gives_text.Goals as goal
 
 pub loop-n-init : goal.loop-n-init
 loop-n-init g c = record { had = λ h. h; count = c.requires }

@@ -1,8 +1,8 @@
-//! What an input was when it was repacked: kept beside its report, so that a later walk can leave the day alone.
+//! What a day's file was when it was repacked, or when its records took its place.
 ghost use Rattle.std.specs.Prelude.{◌≡◌, IfOk, true};
 ghost use Rattle.std.specs.String.{string_bytes};
 ghost use Rattle.msr_devices.specs.Device.{CanCountCall, HasLeft};
-ghost use Rattle.msr_making.specs.Stamp.{stamp_of, stamp_text};
+ghost use Rattle.msr_stamp.specs.Stamp.{stamp_of, stamp_text, stamp_word};
 
 use msr_devices::{Source, read_some};
 use msr_tree::Facts;
@@ -11,17 +11,37 @@ use std::alloc::{AllocError, Global};
 /// How many bytes are read at a time: more than a stamp has, so that one call reads it.
 const ROOM: usize = 128;
 
+/// Which file stood in the archive when the stamp was written.
+#[derive(Clone, Copy, PartialEq, Eq)]
+pub enum StampOf {
+    /// The one that was repacked.
+    Input,
+    /// The records, in its place.
+    Records,
+}
+
+impl StampOf {
+    fn word(self) -> &'static str
+        ensures { result.now ≡ stamp_word self }
+    {
+        match self {
+            StampOf::Input => "input",
+            StampOf::Records => "records",
+        }
+    }
+}
+
 /// The size of a regular file, and the time at which it was last changed.
 #[derive(Clone, Copy, PartialEq, Eq)]
-pub(crate) struct Stamp {
-    pub(crate) bytes: u64,
-    seconds: i64,
-    nanoseconds: i64,
+pub struct Stamp {
+    pub bytes: u64,
+    pub seconds: i64,
+    pub nanoseconds: i64,
 }
 
 impl Stamp {
     /// That of what was found.
-    pub(crate) fn of(facts: &Facts) -> Stamp
+    pub fn of(facts: &Facts) -> Stamp
         ensures { result ≡ stamp_of facts.now }
     {
         Stamp {
@@ -31,18 +51,19 @@ impl Stamp {
         }
     }
 
-    pub(crate) fn text(self, alloc: Global) -> Result<String, AllocError>
-        ensures { IfOk result (λ text. string_bytes text ≡ stamp_text self) }
+    pub fn text(self, alloc: Global, of: StampOf) -> Result<String, AllocError>
+        ensures { IfOk result (λ text. string_bytes text ≡ stamp_text of self) }
     {
+        let word = of.word();
         let bytes = self.bytes;
         let seconds = self.seconds.to_string(alloc)?;
         let nanoseconds = self.nanoseconds.to_string(alloc)?;
-        format!(in alloc; "input {bytes} bytes, changed at {seconds} s {nanoseconds} ns\n")
+        format!(in alloc; "{word} {bytes} bytes, changed at {seconds} s {nanoseconds} ns\n")
     }
 }
 
 /// Whether a source gives this text, and nothing else.
-pub(crate) fn gives_text<S: Source>(source: &mut S, text: &[u8]) -> bool
+pub fn gives_text<S: Source>(source: &mut S, text: &[u8]) -> bool
     requires { CanCountCall (S.device source.old) }
     ensures { result ≡ true → HasLeft (S.device source.old) text.now }
 {

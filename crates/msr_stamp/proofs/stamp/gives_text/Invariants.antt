@@ -1,6 +1,6 @@
 use Rattle.std.proofs.Common.{length}
 use Rattle.msr_devices.specs.Device.{CanCountCall, HasLeft}
-use Rattle.msr_making.proofs.stamp.gives_text.Given as goal
+use Rattle.msr_stamp.proofs.stamp.gives_text.Given as goal
 
 -- if the rest of the text is left, the text was
 abbrev pub invariant-loop-n : goal.invariant-loop-n
