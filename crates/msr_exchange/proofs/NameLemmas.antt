@@ -13,7 +13,7 @@ use Rattle.msr_sds.specs.SdsPath.{AreDigits, HasForm, IsDataType, IsLocation, Re
 use Rattle.msr_sds.proofs.CutLemmas.{from_channel, from_data_type, from_location, from_station, from_year}
 use Rattle.msr_tree.specs.Steps.{folder_above, stands_in}
 use Rattle.msr_tree.proofs.FolderLemmas.{folder_at as folder_at_slash}
-use Rattle.msr_exchange.specs.Names.{AreNames, AreStampNames, Names, OtherDaysAreApart, StampPlaces, beside, folder_at, is_place, is_lasting, names_of_day, path_at, path_below, stamp_of_day}
+use Rattle.msr_exchange.specs.Names.{AreNames, AreStampNames, Names, OtherDaysAreApart, beside, folder_at, is_place, is_lasting, names_of_day, path_at, path_below, stamp_of_day}
 use Rattle.msr_exchange.specs.declared.names.Place.{Place}
 use Rattle.msr_exchange.specs.declared.names.Place.TheVariants.{Day, DayPart, Original, OriginalPart, Records, RecordsPart, Note, NotePart}
 

@@ -21,7 +21,7 @@ use Rattle.msr_stamp.proofs.Begun.{goes_both}
 use Rattle.msr_exchange.specs.Names.{AreStampNames, Names, StampPlaces}
 use Rattle.msr_exchange.specs.Promise.{KeepsBoth}
 use Rattle.msr_exchange.specs.declared.names.Place.TheVariants.{Day, Original, Records}
-use Rattle.msr_exchange.specs.Stamped.{AddsTexts, DropsStamp, FindsStamp, GivesStamp, IsStampOfFound, IsStampText, LeavesStamp, LeavesTexts, NamesStamp, StampsDay, StampsRecords, TellsGone, stamp_names}
+use Rattle.msr_exchange.specs.Stamped.{AddsTexts, DropsStamp, FindsStamp, GivesStamp, IsStampOfFound, LeavesStamp, LeavesTexts, NamesStamp, StampsDay, StampsRecords, TellsGone, stamp_names}
 
 -- what holds at each moment, in other words
 module _ (P Q : List Step → Type 0) (so : (past : List Step) → P past → Q past) where
