@@ -1,5 +1,5 @@
 -- What was made of a day goes.
-use Rattle.std.proofs.Common.{◌≡◌, ◌⊎◌, ◌≤◌, inl, inr, ⊎_elim, Bool, true, false, List, [], ◌∷◌, refl, sym, ◌∙◌, ap, subst, Result, Ok, Err, None, OnOk, IfOk, option_map, arith}
+use Rattle.std.proofs.Common.{◌≡◌, ◌≢◌, ◌⊎◌, ◌≤◌, inl, inr, ⊎_elim, Bool, true, false, List, [], ◌∷◌, refl, sym, ◌∙◌, ap, subst, Result, Ok, Err, None, OnOk, IfOk, option_map, arith}
 use Rattle.std.specs.declared.alloc.AllocError.{AllocError}
 use Rattle.msr_tree.specs.Calls.{DoesStep, Goes}
 use Rattle.msr_tree.specs.Folders.{ChangesFiles}
@@ -18,7 +18,7 @@ use Rattle.msr_making.specs.Clearing.{EndsRefused, FindsNone, GivesUp, beside_pa
 use Rattle.msr_making.specs.Looking.{FindsDay, IsDayLook, IsSightAt, IsUnfound}
 use Rattle.msr_making.specs.Places.{DayPaths, IsUnseen, paths_of}
 use Rattle.msr_options.specs.declared.days.DayOptions.{DayOptions}
-use Rattle.msr_making.specs.Told.{IsClearedThere, IsLeftFor, stays_for}
+use Rattle.msr_making.specs.Told.{AreUntouched, IsClearedThere, IsLeftFor, stays_for}
 use Rattle.msr_making.specs.declared.answer.DayEnd.{DayEnd}
 use Rattle.msr_making.specs.declared.answer.DayFault.{DayFault}
 use Rattle.msr_making.specs.declared.answer.DayFault.TheVariants.{ClaimedByAnother}
@@ -84,9 +84,9 @@ module _ (input : Path) (files : DayFiles) where
   cleared_earlier old mid new few is = ⊎_elim (λ none. inl none) (λ failed. inr (omega arith)) is
 
   -- names beside those of the day change before
-  pub then_gives : (names : List Path) (none : AreDayNames files → AreNone files names) (more : (name : Path) → IsNoneOf name (day_paths files) → IsNoneOf name names) (end : DayEnd) (one mid two : List Step → Type 0)
-      → Goes one mid (λ p q. ChangesFiles names p q) → Goes mid two (GivesUp paths files end) → Goes one two (GivesUp paths files end)
-  then_gives names none more end one mid two first second = goes_both _ _ _ one mid two
+  pub then_gives : (names : List Path) (none : AreDayNames files → AreNone files names) (more : (name : Path) → IsNoneOf name (day_paths files) → IsNoneOf name names) (why : DayFault) (end : DayEnd) (one mid two : List Step → Type 0)
+      → Goes one mid (λ p q. ChangesFiles names p q) → Goes mid two (GivesUp paths files why end) → Goes one two (GivesUp paths files why end)
+  then_gives names none more why end one mid two first second = goes_both _ _ _ one mid two
       (λ p q r x y. record {
         safe = λ stored is_own is_of are has. joined (HasOwn is_own is_of files) p q r (own_each files names (none are) p q x is_own is_of has) (y.safe stored is_own is_of are (own_kept files names (none are) p q x is_own is_of has));
         killed = λ is_own are has. joined (HasReport is_own files) p q r (report_each files names (none are) p is_own has q x) (y.killed is_own are (report_kept files names (none are) p is_own has q x));
@@ -96,27 +96,27 @@ module _ (input : Path) (files : DayFiles) where
         changes = changes_then (day_paths files) p q r (changes_more names (day_paths files) p q more x) y.changes;
       }) first second
     where
-      earlier : (outcome : Result DayOutcome AllocError) (p q r : List Step) → failures p ≤ failures q → IfOk outcome (λ o. (o ≡ Refused ClaimedByAnother) ⊎ (AreDayNames files → IsClearedThere paths q r))
-          → IfOk outcome (λ o. (o ≡ Refused ClaimedByAnother) ⊎ (AreDayNames files → IsClearedThere paths p r))
-      earlier (Ok o) p q r few is = ⊎_elim (λ other. inl other) (λ so. inr (λ are. cleared_earlier p q r few (so are))) is
+      earlier : (outcome : Result DayOutcome AllocError) (p q r : List Step) → failures p ≤ failures q → IfOk outcome (λ o. (o ≡ Refused why) × (AreDayNames files → IsClearedThere paths q r))
+          → IfOk outcome (λ o. (o ≡ Refused why) × (AreDayNames files → IsClearedThere paths p r))
+      earlier (Ok o) p q r few is = (is.0, λ are. cleared_earlier p q r few (is.1 are))
       earlier (Err e) p q r few is = tt
 
   -- nothing more is done
   pub ends_gone : (why : DayFault) (rest : Left) (answer : Bool) (one two : List Step → Type 0) → answer ≡ true → (rest ≡ left.Stamp → ⊥) → Goes one two (FindsNone paths (Ok answer))
-      → Goes one two (GivesUp paths files (record { outcome = Ok (Refused why); left = rest; is_stored = true }))
+      → Goes one two (GivesUp paths files why (record { outcome = Ok (Refused why); left = rest; is_stored = true }))
   ends_gone why rest answer one two so unstamped goes = goes_as _ _ one two
       (λ p q x. record {
         safe = λ stored is_own is_of are has. own_each files [] (none_empty files) p q x.changes is_own is_of has;
         killed = λ is_own are has. report_each files [] (none_empty files) p is_own has q x.changes;
-        cleared = inr (λ are. inl (unseen_later p q x.changes (x.said so)));
+        cleared = (refl, λ are. inl (unseen_later p q x.changes (x.said so)));
         unstamped = unstamped;
         unstored = λ not. absurd cc;
         changes = changes_more [] (day_paths files) p q (λ n none. tt) x.changes;
       }) goes
 
-  pub ends_memory : (result : Result Bool AllocError) (e : AllocError) (one two : List Step → Type 0) → Goes one two (FindsNone paths result)
-      → Goes one two (GivesUp paths files (record { outcome = Err e; left = left.Parts; is_stored = true }))
-  ends_memory result e one two goes = goes_as _ _ one two
+  pub ends_memory : (why : DayFault) (result : Result Bool AllocError) (e : AllocError) (one two : List Step → Type 0) → Goes one two (FindsNone paths result)
+      → Goes one two (GivesUp paths files why (record { outcome = Err e; left = left.Parts; is_stored = true }))
+  ends_memory why result e one two goes = goes_as _ _ one two
       (λ p q x. record {
         safe = λ stored is_own is_of are has. own_each files [] (none_empty files) p q x.changes is_own is_of has;
         killed = λ is_own are has. report_each files [] (none_empty files) p is_own has q x.changes;
@@ -126,18 +126,18 @@ module _ (input : Path) (files : DayFiles) where
         changes = changes_more [] (day_paths files) p q (λ n none. tt) x.changes;
       }) goes
 
-  pub then_cleared : (end : DayEnd) (result : Result Bool AllocError) (one mid two : List Step → Type 0) → Goes one mid (FindsNone paths result) → Goes mid two (GivesUp paths files end) → Goes one two (GivesUp paths files end)
-  then_cleared end result one mid two first second =
-      then_gives [] (λ are. none_empty files) (λ n none. tt) end one mid two (goes_as _ _ one mid (λ p q x. x.changes) first) second
+  pub then_cleared : (why : DayFault) (end : DayEnd) (result : Result Bool AllocError) (one mid two : List Step → Type 0) → Goes one mid (FindsNone paths result) → Goes mid two (GivesUp paths files why end) → Goes one two (GivesUp paths files why end)
+  then_cleared why end result one mid two first second =
+      then_gives [] (λ are. none_empty files) (λ n none. tt) why end one mid two (goes_as _ _ one mid (λ p q x. x.changes) first) second
 
   -- what has the names of the day went
   pub cleared_well : (why : DayFault) (rest : Left) (naming : Naming) (one two : List Step → Type 0) → (rest ≡ left.Stamp → ⊥) → told naming.answer ≡ Ok tt → Goes one two (ClearsDay files naming)
-      → Goes one two (GivesUp paths files (record { outcome = Ok (Refused why); left = rest; is_stored = naming.is_stored }))
+      → Goes one two (GivesUp paths files why (record { outcome = Ok (Refused why); left = rest; is_stored = naming.is_stored }))
   cleared_well why rest naming one two unstamped is goes = goes_as _ _ one two
       (λ p q x. record {
         safe = λ stored is_own is_of are has. x.safe stored is_own is_of are has;
         killed = λ is_own are has. x.killed is_own are has;
-        cleared = inr (λ are. inl (sees p q x are));
+        cleared = (refl, λ are. inl (sees p q x are));
         unstamped = unstamped;
         unstored = x.unstored;
         changes = x.changes;
@@ -147,7 +147,7 @@ module _ (input : Path) (files : DayFiles) where
       sees p q x = subst (λ (a : Result (Unit {0}) TreeFault). OnOk a (AreDayNames files → IsUnseen paths q)) is x.sees
 
   pub cleared_in_part : (why : DayFault) (rest : Left) (naming : Naming) (one mid two : List Step → Type 0) → (rest ≡ left.Stamp → ⊥) → told naming.answer ≡ Err fault.Failed → Goes one mid (ClearsDay files naming)
-      → Goes mid two (λ p q. ChangesFiles [] p q) → Goes one two (GivesUp paths files (record { outcome = Ok (Refused why); left = rest; is_stored = naming.is_stored }))
+      → Goes mid two (λ p q. ChangesFiles [] p q) → Goes one two (GivesUp paths files why (record { outcome = Ok (Refused why); left = rest; is_stored = naming.is_stored }))
   cleared_in_part why rest naming one mid two unstamped is first second = goes_both _ _ _ one mid two
       (λ p q r x y. record {
         safe = λ stored is_own is_of are has.
@@ -156,15 +156,15 @@ module _ (input : Path) (files : DayFiles) where
         killed = λ is_own are has.
             let so = x.killed is_own are has in
             joined (HasReport is_own files) p q r so (report_each files [] (none_empty files) q is_own (at_end (HasReport is_own files) p q so) r y);
-        cleared = inr (λ are. let few = no_fewer [] q r y in let more = x.cause is in inr (omega arith));
+        cleared = (refl, λ are. let few = no_fewer [] q r y in let more = x.cause is in inr (omega arith));
         unstamped = unstamped;
         unstored = λ not. let few = no_fewer [] q r y in let more = x.unstored not in omega arith;
         changes = changes_then (day_paths files) p q r x.changes (changes_more [] (day_paths files) q r (λ n none. tt) y);
       }) first second
 
-  pub cleared_memory : (e : AllocError) (naming : Naming) (one two : List Step → Type 0) → Goes one two (ClearsDay files naming)
-      → Goes one two (GivesUp paths files (record { outcome = Err e; left = left.Parts; is_stored = naming.is_stored }))
-  cleared_memory e naming one two goes = goes_as _ _ one two
+  pub cleared_memory : (why : DayFault) (e : AllocError) (naming : Naming) (one two : List Step → Type 0) → Goes one two (ClearsDay files naming)
+      → Goes one two (GivesUp paths files why (record { outcome = Err e; left = left.Parts; is_stored = naming.is_stored }))
+  cleared_memory why e naming one two goes = goes_as _ _ one two
       (λ p q x. record {
         safe = λ stored is_own is_of are has. x.safe stored is_own is_of are has;
         killed = λ is_own are has. x.killed is_own are has;
@@ -174,9 +174,14 @@ module _ (input : Path) (files : DayFiles) where
         changes = x.changes;
       }) goes
 
+  -- how a day ends that is refused
+  abbrev EndsAs : DayOptions → DayFault → DayOutcome → (old new : List Step) → Type 0
+  EndsAs asked why outcome old new = ((outcome ≡ Refused ClaimedByAnother) × (AreDayNames files → AreUntouched paths old new))
+      ⊎ ((outcome ≡ Refused why) × (AreDayNames files → IsLeftFor (stays_for asked why) why paths old new))
+
   -- what was made of the day goes, or that is to stay
-  pub ends_cleared : (asked : DayOptions) (why : DayFault) (end : DayEnd) (one two : List Step → Type 0) → stays_for asked why ≡ false → Goes one two (GivesUp paths files end) → Goes one two (EndsRefused paths files asked why end)
-  ends_cleared asked why end one two goes_it goes = goes_as _ _ one two
+  pub ends_cleared : (asked : DayOptions) (why : DayFault) (end : DayEnd) (one two : List Step → Type 0) → why ≢ ClaimedByAnother → stays_for asked why ≡ false → Goes one two (GivesUp paths files why end) → Goes one two (EndsRefused paths files asked why end)
+  ends_cleared asked why end one two other goes_it goes = goes_as _ _ one two
       (λ p q x. record {
         safe = x.safe;
         killed = x.killed;
@@ -186,14 +191,12 @@ module _ (input : Path) (files : DayFiles) where
         changes = x.changes;
       }) goes
     where
-      left : (outcome : Result DayOutcome AllocError) (p q : List Step) → IfOk outcome (λ o. (o ≡ Refused ClaimedByAnother) ⊎ (AreDayNames files → IsClearedThere paths p q))
-          → IfOk outcome (λ o. (o ≡ Refused ClaimedByAnother) ⊎ (AreDayNames files → IsLeftFor (stays_for asked why) why paths p q))
-      left (Ok o) p q is = ⊎_elim (λ other. inl other)
-          (λ so. inr (λ are. subst (λ (stays : Bool). IsLeftFor stays why paths p q) (sym goes_it) (cleared_for paths p q why (so are)))) is
+      left : (outcome : Result DayOutcome AllocError) (p q : List Step) → IfOk outcome (λ o. (o ≡ Refused why) × (AreDayNames files → IsClearedThere paths p q)) → IfOk outcome (λ o. EndsAs asked why o p q)
+      left (Ok o) p q is = inr (is.0, λ are. subst (λ (stays : Bool). IsLeftFor stays why paths p q) (sym goes_it) (cleared_for paths p q why other (is.1 are)))
       left (Err e) p q is = tt
 
   ends_still : (asked : DayOptions) (why : DayFault) (outcome : DayOutcome) (rest : Left) (one two : List Step → Type 0) → (rest ≡ left.Stamp → ⊥)
-      → ((p q : List Step) → ChangesFiles (beside_paths files) p q → (outcome ≡ Refused ClaimedByAnother) ⊎ (AreDayNames files → IsLeftFor (stays_for asked why) why paths p q))
+      → ((p q : List Step) → ChangesFiles (beside_paths files) p q → EndsAs asked why outcome p q)
       → Goes one two (λ p q. ChangesFiles (beside_paths files) p q) → Goes one two (EndsRefused paths files asked why (record { outcome = Ok outcome; left = rest; is_stored = true }))
   ends_still asked why outcome rest one two unstamped stays goes = goes_as _ _ one two
       (λ p q x. record {
@@ -207,10 +210,11 @@ module _ (input : Path) (files : DayFiles) where
 
   pub ends_unheld : (asked : DayOptions) (why : DayFault) (rest : Left) (one two : List Step → Type 0) → (rest ≡ left.Stamp → ⊥) → Goes one two (λ p q. ChangesFiles (beside_paths files) p q)
       → Goes one two (EndsRefused paths files asked why (record { outcome = Ok (Refused ClaimedByAnother); left = rest; is_stored = true }))
-  ends_unheld asked why rest one two unstamped goes = ends_still asked why (Refused ClaimedByAnother) rest one two unstamped (λ p q x. inl refl) goes
+  ends_unheld asked why rest one two unstamped goes = ends_still asked why (Refused ClaimedByAnother) rest one two unstamped
+      (λ p q x. inl (refl, λ are. untouched_by input files (beside_paths files) (none_beside files are) p q x)) goes
 
   pub ends_kept : (asked : DayOptions) (why : DayFault) (rest : Left) (one mid two : List Step → Type 0) → stays_for asked why ≡ true → (rest ≡ left.Stamp → ⊥) → Goes one mid (λ p q. ChangesFiles (beside_paths files) p q) → Goes mid two (λ p q. ChangesFiles [] p q)
       → Goes one two (EndsRefused paths files asked why (record { outcome = Ok (Refused why); left = rest; is_stored = true }))
   ends_kept asked why rest one mid two stays unstamped first second = ends_still asked why (Refused why) rest one two unstamped
-      (λ p q x. inr (λ are. subst (λ (stay : Bool). IsLeftFor stay why paths p q) (sym stays) (kept_for paths p q why (untouched_by input files (beside_paths files) (none_beside files are) p q x))))
+      (λ p q x. inr (refl, λ are. subst (λ (stay : Bool). IsLeftFor stay why paths p q) (sym stays) (kept_for paths p q why (untouched_by input files (beside_paths files) (none_beside files are) p q x))))
       (goes_both _ _ _ one mid two (λ p q r x y. changes_then (beside_paths files) p q r x (changes_more [] (beside_paths files) q r (λ n none. tt) y)) first second)

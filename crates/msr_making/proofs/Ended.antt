@@ -12,13 +12,13 @@ use Rattle.msr_naming.proofs.FallingBack.{goes_both}
 use Rattle.msr_naming.specs.Naming.{AreDayNames, day_paths}
 use Rattle.msr_naming.specs.Promise.{HasOwn, HasReport, IsFreeIf}
 use Rattle.msr_naming.specs.declared.files.DayFiles.{DayFiles}
-use Rattle.msr_making.specs.Clearing.{EndsRefused, SaysEnd}
+use Rattle.msr_making.specs.Clearing.{EndsRefused}
 use Rattle.msr_making.specs.Ending.{DoesFound, IsMade, MadeAs, MakesDay, SeeksDay}
 use Rattle.msr_making.specs.Looking.{IsDayLook, IsLookedAt, IsSightAt, IsUnfound}
 use Rattle.msr_making.specs.Making.{DoesDay, IsOwnOfFile}
 use Rattle.msr_making.specs.Places.{AreFileNames, DayPaths, ShowsAllLeft, paths_of}
 use Rattle.msr_making.specs.Stamping.{StampsAsked}
-use Rattle.msr_making.specs.Told.{IsKeptFor, IsLeftFor, IsOutcomeThere, IsRefusedThere, IsUnshrunk, LeavesSamples, stays_for}
+use Rattle.msr_making.specs.Told.{AreSpared, AreUntouched, IsKeptFor, IsLeftFor, IsOutcomeThere, IsRefusedThere, IsUnshrunk, LeavesSamples, stays_for}
 use Rattle.msr_making.specs.declared.answer.DayEnd.{DayEnd}
 use Rattle.msr_making.specs.declared.answer.DayFault.{DayFault}
 use Rattle.msr_making.specs.declared.answer.DayFault.TheVariants.{CannotOpen, Changed, ClaimedByAnother, Differs, Gone, Larger, Listing, Misplaced, NotShown, Shrunk, Tool}
@@ -38,7 +38,7 @@ use Rattle.msr_making.proofs.Cleared.{unseen_by}
 use Rattle.msr_making.proofs.Lefts.{either_before}
 use Rattle.msr_making.proofs.Owns.{free_kept, more_stamp, none_empty, none_stamp, own_each, own_kept, report_each, report_kept}
 use Rattle.msr_making.proofs.Sights.{day_look_later, looks_kept}
-use Rattle.msr_making.proofs.Untouched.{kept_for, left_claimed, left_then, still_there, untouched_then}
+use Rattle.msr_making.proofs.Untouched.{kept_for, left_claimed, left_then, spared_later, spared_then, still_there, untouched_then}
 
 -- a refusal said of a day is so later
 refused_later : (asked : DayOptions) (paths : DayPaths) (why : DayFault) (old mid new : List Step) → failures mid ≤ failures new → IsRefusedThere asked paths why old mid → IsRefusedThere asked paths why old new
@@ -119,24 +119,22 @@ module _ (input : Path) (look : DayLook) (files : DayFiles) (was_left : Bool) (a
         made p q x names looked =
             subst (λ (m : Result Repacked Stop). MadeAs input files asked is_free making.is_stored m p q) is (x.said names looked)
 
-    refused_so : (why : DayFault) (outcome : Result DayOutcome AllocError) (p q r : List Step) → failures p ≤ failures q → failures q ≤ failures r → IfOk outcome (λ o. (o ≡ Refused ClaimedByAnother) ⊎ (o ≡ Refused why))
-        → IfOk outcome (λ o. (o ≡ Refused ClaimedByAnother) ⊎ (AreDayNames files → IsLeftFor (stays_for asked why) why paths q r)) → AreDayNames files
-        → IsRefusedThere asked paths why p q × IsKeptFor why paths p q → IfOk outcome (λ o. IsOutcomeThere asked paths o p r)
-    refused_so why (Ok o) p q r few more says left are is = ⊎_elim other
-        (λ e. ⊎_elim other
-        (λ so. subst (λ (x : DayOutcome). IsOutcomeThere asked paths x p r) (sym e)
-        (refused_later asked paths why p q r more is.0, left_then paths p q r (stays_for asked why) why few is.1 (so are)))
-        left) says
-      where
-        other : o ≡ Refused ClaimedByAnother → IsOutcomeThere asked paths o p r
-        other e = subst (λ (x : DayOutcome). IsOutcomeThere asked paths x p r) (sym e) (tt, left_claimed paths p r asked.keep_old)
-    refused_so why (Err e) p q r few more says left are is = tt
+    refused_so : (why : DayFault) (outcome : Result DayOutcome AllocError) (p q r : List Step) → failures p ≤ failures q → failures q ≤ failures r
+        → IfOk outcome (λ o. ((o ≡ Refused ClaimedByAnother) × (AreDayNames files → AreUntouched paths q r)) ⊎ ((o ≡ Refused why) × (AreDayNames files → IsLeftFor (stays_for asked why) why paths q r))) → AreDayNames files
+        → IsRefusedThere asked paths why p q × IsKeptFor why paths p q × AreSpared paths p q → IfOk outcome (λ o. IsOutcomeThere asked paths o p r)
+    refused_so why (Ok o) p q r few more left are is = ⊎_elim
+        (λ claimed. subst (λ (x : DayOutcome). IsOutcomeThere asked paths x p r) (sym claimed.0)
+        (tt, left_claimed paths p r asked.keep_old (spared_then paths p q r few more is.2 (inl (claimed.1 are)))))
+        (λ so. subst (λ (x : DayOutcome). IsOutcomeThere asked paths x p r) (sym so.0)
+        (refused_later asked paths why p q r more is.0, left_then paths p q r (spared_then paths p q r few more is.2) (stays_for asked why) why few is.1 (so.1 are)))
+        left
+    refused_so why (Err e) p q r few more left are is = tt
 
     -- it is refused
-    pub given_up : (why : DayFault) (end : DayEnd) (is_stored : Bool) (one mid two : List Step → Type 0) → making.result ≡ Err (stop.Refused why) → SaysEnd why end → (is_stored ≡ true → (end.is_stored ≡ true) × (making.is_stored ≡ true)) → (is_stored ≡ false → (end.is_stored ≡ false) ⊎ (making.is_stored ≡ false))
+    pub given_up : (why : DayFault) (end : DayEnd) (is_stored : Bool) (one mid two : List Step → Type 0) → making.result ≡ Err (stop.Refused why) → (is_stored ≡ true → (end.is_stored ≡ true) × (making.is_stored ≡ true)) → (is_stored ≡ false → (end.is_stored ≡ false) ⊎ (making.is_stored ≡ false))
         → Goes one mid (MakesDay input look files is_free asked making) → Goes mid two (EndsRefused paths files asked why end)
         → Goes one two (DoesFound input look files was_left asked (record { outcome = end.outcome; left = end.left; is_stored = is_stored }))
-    given_up why end is_stored one mid two is says both neither first second = goes_both _ _ _ one mid two
+    given_up why end is_stored one mid two is both neither first second = goes_both _ _ _ one mid two
         (λ p q r x y. record {
           safe = λ stored is_own is_of names looked settled own has.
               let so = x.safe (both stored).1 is_own is_of names looked (free_if is_free p free looked.are settled) own has in
@@ -145,7 +143,7 @@ module _ (input : Path) (look : DayLook) (files : DayFiles) (was_left : Bool) (a
               let so = x.killed is_own names looked (free_if is_free p free looked.are settled) own has in
               joined (HasReport is_own files) p q r so (y.killed is_own names.names (at_end (HasReport is_own files) p q so));
           outcome = λ names looked.
-              refused_so why end.outcome p q r (no_fewer (day_paths files) p q x.changes) (no_fewer (day_paths files) q r y.changes) says y.stays names.names
+              refused_so why end.outcome p q r (no_fewer (day_paths files) p q x.changes) (no_fewer (day_paths files) q r y.changes) y.stays names.names
               (subst (λ (m : Result Repacked Stop). MadeAs input files asked is_free making.is_stored m p q) is (x.said names looked));
           stamp = λ waits names looked settled. absurd (y.unstamped waits);
           unstored = λ not.
@@ -180,7 +178,9 @@ module _ (paths : DayPaths) (asked : DayOptions) (old mid new : List Step) (chan
   few = no_fewer [] old mid changes
 
   left_so : (stays : Bool) (why : DayFault) → IsLeftFor stays why paths mid new → IsLeftFor stays why paths old new
-  left_so stays why is = left_then paths old mid new stays why few (kept_for paths old mid why (still_there paths old mid changes)) is
+  left_so stays why is =
+      let still = still_there paths old mid changes in
+      left_then paths old mid new (spared_later paths old mid new few still) stays why few (kept_for paths old mid why still) is
 
   samples_so : (was : ℕ) → LeavesSamples paths was mid → LeavesSamples paths was old
   samples_so was is = record {

@@ -1,5 +1,5 @@
 -- A day is prepared, and made.
-use Rattle.std.proofs.Common.{◌≡◌, ◌<◌, ◌≤◌, inr, ℕ, Bool, true, false, List, [], refl, sym, ◌∙◌, ap, subst, Result, Ok, Err, Some, OnOk, IsErrOf, IsTrue, length, arith}
+use Rattle.std.proofs.Common.{◌≡◌, ◌<◌, ◌≤◌, inl, inr, ℕ, Bool, true, false, List, [], refl, sym, ◌∙◌, ap, subst, Result, Ok, Err, Some, OnOk, IsErrOf, IsTrue, length, arith}
 use Rattle.msr_options.specs.declared.days.DayOptions.{DayOptions}
 use Rattle.msr_options.specs.declared.hint.Unopened.{Unopened}
 use Rattle.msr_tree.specs.Calls.{Goes}
@@ -154,7 +154,9 @@ module _ (input : Path) (look : DayLook) (files : DayFiles) (asked : DayOptions)
     }) goes
       where
         by_stop : (why : Stop) (p q : List Step) → AreFileNames input files → ChangesFiles l p q → PreparedAs input files asked (Err why) p q → MadeAs input files asked is_free true (Err why) p q
-        by_stop (Refused why) p q names changes is = (is, kept_for (paths_of input files) p q why (untouched_by input files l (none_parts files names.names) p q changes))
+        by_stop (Refused why) p q names changes is =
+            let still = untouched_by input files l (none_parts files names.names) p q changes in
+            (is, kept_for (paths_of input files) p q why still, inl still)
         by_stop Memory p q names changes is = tt
 
     module _ (repacked : Repacked) (naming : Naming) (old mid new : List Step) (prepares : PreparesDay input look files asked (Ok repacked) old mid) (names_it : NamesDay files is_free naming mid new) where
@@ -187,7 +189,7 @@ module _ (input : Path) (look : DayLook) (files : DayFiles) (asked : DayOptions)
       made_as (Err fault.Failed) result is sees gives cause names at =
           let few = no_fewer l old mid prepares.changes in
           let more = cause refl in
-          subst (λ (r : Result Repacked Stop). MadeAs input files asked is_free naming.is_stored r old new) (sym is.2) (inr (omega arith), unless_made is.0.side _ is.1)
+          subst (λ (r : Result Repacked Stop). MadeAs input files asked is_free naming.is_stored r old new) (sym is.2) (inr (omega arith), unless_made is.0.side _ is.1, inr (omega arith))
       made_as (Err fault.Memory) result is sees gives cause names at =
           subst (λ (r : Result Repacked Stop). MadeAs input files asked is_free naming.is_stored r old new) (sym is) tt
 

@@ -1,5 +1,5 @@
 -- What is made of a day stays what it is.
-use Rattle.std.proofs.Common.{◌≤◌, inl, inr, ⊎_elim, Bool, true, false, List, [], sym, ◌∙◌, subst, arith}
+use Rattle.std.proofs.Common.{◌≢◌, ◌≤◌, inl, inr, ⊎_elim, Bool, true, false, List, [], refl, sym, ◌∙◌, subst, arith}
 use Rattle.msr_naming.specs.declared.files.DayFiles.{DayFiles}
 use Rattle.msr_options.specs.declared.hint.Side.{Side}
 use Rattle.msr_options.specs.declared.hint.Side.TheVariants.{File, Outputs, Records, Report}
@@ -8,7 +8,7 @@ use Rattle.msr_tree.specs.Steps.{Path, Step, failures}
 use Rattle.msr_tree.proofs.Filing.{now_kept}
 use Rattle.msr_making.specs.Ending.{IsMadeSide}
 use Rattle.msr_making.specs.Places.{DayPaths, paths_of}
-use Rattle.msr_making.specs.Told.{AreUntouched, IsClearedFor, IsClearedThere, IsKeptFor, IsLeftFor, UnlessMade}
+use Rattle.msr_making.specs.Told.{AreSpared, AreUntouched, IsClearedFor, IsClearedThere, IsKeptFor, IsLeftFor, UnlessMade}
 use Rattle.msr_making.specs.declared.answer.DayFault.{DayFault}
 use Rattle.msr_making.specs.declared.answer.DayFault.TheVariants.{CannotOpen, ClaimedByAnother}
 use Rattle.msr_making.proofs.Owns.{AreNone}
@@ -38,20 +38,27 @@ module _ (paths : DayPaths) (old mid new : List Step) where
   unless_then File one two = untouched_then one two
   unless_then Outputs one two = untouched_then one two
 
-  pub kept_then : (why : DayFault) → IsKeptFor why paths old mid → IsKeptFor why paths mid new → IsKeptFor why paths old new
-  kept_then (CannotOpen unopened) one two = unless_then unopened.side one two
-  kept_then ClaimedByAnother one two = tt
-  kept_then why one two = untouched_then one two
+  pub spared_later : failures old ≤ failures mid → AreUntouched paths old mid → AreSpared paths mid new → AreSpared paths old new
+  spared_later few one two = ⊎_elim (λ still. inl (untouched_then one still)) (λ failed. inr (omega arith)) two
 
-  pub cleared_later : (why : DayFault) → failures old ≤ failures mid → IsClearedFor why paths mid new → IsClearedFor why paths old new
-  cleared_later (CannotOpen unopened) few is = tt
-  cleared_later ClaimedByAnother few is = tt
-  cleared_later why few is = ⊎_elim (λ none. inl none) (λ failed. inr (omega arith)) is
+  pub spared_then : failures old ≤ failures mid → failures mid ≤ failures new → AreSpared paths old mid → AreSpared paths mid new → AreSpared paths old new
+  spared_then few more one two = ⊎_elim (λ still. spared_later few still two) (λ failed. inr (omega arith)) one
 
-  -- whether it is to stay or not
-  pub left_then : (stays : Bool) (why : DayFault) → failures old ≤ failures mid → IsKeptFor why paths old mid → IsLeftFor stays why paths mid new → IsLeftFor stays why paths old new
-  left_then true why few one two = kept_then why one two
-  left_then false why few one two = cleared_later why few two
+  module _ (spare : AreSpared paths mid new → AreSpared paths old new) where
+    kept_then : (why : DayFault) → IsKeptFor why paths old mid → IsKeptFor why paths mid new → IsKeptFor why paths old new
+    kept_then (CannotOpen unopened) one two = unless_then unopened.side one two
+    kept_then ClaimedByAnother one two = spare two
+    kept_then why one two = untouched_then one two
+
+    cleared_later : (why : DayFault) → failures old ≤ failures mid → IsClearedFor why paths mid new → IsClearedFor why paths old new
+    cleared_later (CannotOpen unopened) few is = tt
+    cleared_later ClaimedByAnother few is = spare is
+    cleared_later why few is = ⊎_elim (λ none. inl none) (λ failed. inr (omega arith)) is
+
+    -- whether it is to stay or not
+    pub left_then : (stays : Bool) (why : DayFault) → failures old ≤ failures mid → IsKeptFor why paths old mid → IsLeftFor stays why paths mid new → IsLeftFor stays why paths old new
+    left_then true why few one two = kept_then why one two
+    left_then false why few one two = cleared_later why few two
 
 module _ (paths : DayPaths) (old new : List Step) where
   unless : (side : Side) → AreUntouched paths old new → UnlessMade side (AreUntouched paths old new)
@@ -62,18 +69,18 @@ module _ (paths : DayPaths) (old new : List Step) where
 
   pub kept_for : (why : DayFault) → AreUntouched paths old new → IsKeptFor why paths old new
   kept_for (CannotOpen unopened) is = unless unopened.side is
-  kept_for ClaimedByAnother is = tt
+  kept_for ClaimedByAnother is = inl is
   kept_for why is = is
 
-  pub cleared_for : (why : DayFault) → IsClearedThere paths old new → IsClearedFor why paths old new
-  cleared_for (CannotOpen unopened) is = tt
-  cleared_for ClaimedByAnother is = tt
-  cleared_for why is = is
+  pub cleared_for : (why : DayFault) → why ≢ ClaimedByAnother → IsClearedThere paths old new → IsClearedFor why paths old new
+  cleared_for (CannotOpen unopened) other is = tt
+  cleared_for ClaimedByAnother other is = absurd (other refl)
+  cleared_for why other is = is
 
-  -- what another walk has is nobody's to leave
-  pub left_claimed : (stays : Bool) → IsLeftFor stays ClaimedByAnother paths old new
-  left_claimed true = tt
-  left_claimed false = tt
+  -- what another walk has stays
+  pub left_claimed : (stays : Bool) → AreSpared paths old new → IsLeftFor stays ClaimedByAnother paths old new
+  left_claimed true is = is
+  left_claimed false is = is
 
   -- nothing was touched, and nothing is to go
   pub left_untouched : (stays : Bool) (why : DayFault) → AreUntouched paths old new → IsClearedFor why paths old new → IsLeftFor stays why paths old new

@@ -9,7 +9,7 @@ use Rattle.msr_naming.specs.declared.files.DayFiles.{DayFiles}
 use Rattle.msr_options.specs.declared.days.DayOptions.{DayOptions}
 use Rattle.msr_making.specs.Looking.{Asks}
 use Rattle.msr_making.specs.Places.{DayPaths, IsUnseen}
-use Rattle.msr_making.specs.Told.{IsClearedThere, IsLeftFor, stays_for}
+use Rattle.msr_making.specs.Told.{AreUntouched, IsClearedThere, IsLeftFor, stays_for}
 use Rattle.msr_making.specs.declared.answer.DayEnd.{DayEnd}
 use Rattle.msr_making.specs.declared.answer.DayFault.{DayFault}
 use Rattle.msr_making.specs.declared.answer.DayFault.TheVariants.{ClaimedByAnother}
@@ -28,24 +28,25 @@ FindsNone paths result old new = Asks (λ sooner later answer. answer ≡ true �
 abbrev pub SaysEnd : DayFault → DayEnd → Type 0
 SaysEnd why end = IfOk end.outcome (λ outcome. (outcome ≡ Refused ClaimedByAnother) ⊎ (outcome ≡ Refused why))
 
--- What was made of a day goes. If it has its own before, it has it at each moment since.
-pub record GivesUp (paths : DayPaths) (files : DayFiles) (end : DayEnd) (old new : List Step) : Type 0 where
+-- What was made of a day goes that is refused for that. If it has its own before, it has it at each moment since.
+pub record GivesUp (paths : DayPaths) (files : DayFiles) (why : DayFault) (end : DayEnd) (old new : List Step) : Type 0 where
   pub safe : end.is_stored ≡ true → (is_own : (records report : List ℕ) → Bool) (is_of : (stamp records report : List ℕ) → Bool)
       → AreDayNames files → HasOwn is_own is_of files old → AtEachMoment (HasOwn is_own is_of files) old new
   pub killed : (is_own : (records report : List ℕ) → Bool) → AreDayNames files
       → HasReport is_own files old → AtEachMoment (HasReport is_own files) old new
-  pub cleared : IfOk end.outcome (λ outcome. (outcome ≡ Refused ClaimedByAnother) ⊎ (AreDayNames files → IsClearedThere paths old new))
+  pub cleared : IfOk end.outcome (λ outcome. (outcome ≡ Refused why) × (AreDayNames files → IsClearedThere paths old new))
   pub unstamped : end.left ≡ left.Stamp → ⊥
   pub unstored : end.is_stored ≡ false → failures old < failures new
   pub changes : ChangesFiles (day_paths files) old new
 
--- The same of a day that is refused for that, unless what an earlier walk left is to stay.
+-- The same, unless what an earlier walk left is to stay, or another walk has the day.
 pub record EndsRefused (paths : DayPaths) (files : DayFiles) (asked : DayOptions) (why : DayFault) (end : DayEnd) (old new : List Step) : Type 0 where
   pub safe : end.is_stored ≡ true → (is_own : (records report : List ℕ) → Bool) (is_of : (stamp records report : List ℕ) → Bool)
       → AreDayNames files → HasOwn is_own is_of files old → AtEachMoment (HasOwn is_own is_of files) old new
   pub killed : (is_own : (records report : List ℕ) → Bool) → AreDayNames files
       → HasReport is_own files old → AtEachMoment (HasReport is_own files) old new
-  pub stays : IfOk end.outcome (λ outcome. (outcome ≡ Refused ClaimedByAnother) ⊎ (AreDayNames files → IsLeftFor (stays_for asked why) why paths old new))
+  pub stays : IfOk end.outcome (λ outcome. ((outcome ≡ Refused ClaimedByAnother) × (AreDayNames files → AreUntouched paths old new))
+      ⊎ ((outcome ≡ Refused why) × (AreDayNames files → IsLeftFor (stays_for asked why) why paths old new)))
   pub unstamped : end.left ≡ left.Stamp → ⊥
   pub unstored : end.is_stored ≡ false → failures old < failures new
   pub changes : ChangesFiles (day_paths files) old new

@@ -18,7 +18,7 @@ use Rattle.msr_making.specs.Looking.{Asks, IsSightKnown, IsLookedAt, SaysDay}
 use Rattle.msr_making.specs.Making.{AwaitsStamp, IsOwnOfFile}
 use Rattle.msr_making.specs.Parts.{part_paths}
 use Rattle.msr_making.specs.Places.{AreFileNames, DayPaths, ShowsAllLeft, paths_of}
-use Rattle.msr_making.specs.Told.{IsKeptFor, IsOutcomeThere, IsRefusedThere, IsUnshrunk}
+use Rattle.msr_making.specs.Told.{AreSpared, IsKeptFor, IsOutcomeThere, IsRefusedThere, IsUnshrunk}
 use Rattle.msr_making.specs.Writing.{IfSeen, IsFit, IsFitOf, IsWrittenTo}
 use Rattle.msr_making.specs.declared.answer.DayEnd.{DayEnd}
 use Rattle.msr_making.specs.declared.answer.DayFault.TheVariants.{CannotOpen}
@@ -117,7 +117,8 @@ pub record IsMade (input : Path) (files : DayFiles) (asked : DayOptions) (is_fre
 
 abbrev pub MadeAs : Path → DayFiles → DayOptions → (is_free is_stored : Bool) → Result Repacked Stop → (old new : List Step) → Type 0
 MadeAs input files asked is_free is_stored (Ok repacked) old new = IsMade input files asked is_free is_stored repacked old new
-MadeAs input files asked is_free is_stored (Err (Refused why)) old new = IsRefusedThere asked (paths_of input files) why old new × IsKeptFor why (paths_of input files) old new
+MadeAs input files asked is_free is_stored (Err (Refused why)) old new = IsRefusedThere asked (paths_of input files) why old new
+    × IsKeptFor why (paths_of input files) old new × AreSpared (paths_of input files) old new
 MadeAs input files asked is_free is_stored (Err Memory) old new = Unit {0}
 
 pub record MakesDay (input : Path) (look : DayLook) (files : DayFiles) (is_free : Bool) (asked : DayOptions) (making : Making) (old new : List Step) : Type 0 where

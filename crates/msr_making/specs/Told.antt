@@ -156,15 +156,19 @@ IsRefusedThere asked paths ClaimedByAnother old new = Unit {0}
 IsRefusedThere asked paths Gone old new = ⊥
 IsRefusedThere asked paths Listing old new = ⊥
 
--- whether what was made of a day goes if it is refused for that: unless nothing was made, or another walk has it
-abbrev pub IsClearedFor : DayFault → DayPaths → (old new : List Step) → Type 0
-IsClearedFor (CannotOpen unopened) paths old new = Unit {0}
-IsClearedFor ClaimedByAnother paths old new = Unit {0}
-IsClearedFor why paths old new = IsClearedThere paths old new
-
 -- what is made of a day is what it was
 abbrev pub AreUntouched : DayPaths → (old new : List Step) → Type 0
 AreUntouched paths old new = (now new paths.records ≡ now old paths.records) × (now new paths.report ≡ now old paths.report) × (now new paths.stamp ≡ now old paths.stamp)
+
+-- or a call failed
+abbrev pub AreSpared : DayPaths → (old new : List Step) → Type 0
+AreSpared paths old new = AreUntouched paths old new ⊎ (failures old < failures new)
+
+-- whether what was made of a day goes if it is refused for that: unless nothing was made, or another walk has it
+abbrev pub IsClearedFor : DayFault → DayPaths → (old new : List Step) → Type 0
+IsClearedFor (CannotOpen unopened) paths old new = Unit {0}
+IsClearedFor ClaimedByAnother paths old new = AreSpared paths old new
+IsClearedFor why paths old new = IsClearedThere paths old new
 
 -- unless a file that is made could not be, or not get its name
 abbrev pub UnlessMade : Side → Type 0 → Type 0
@@ -172,10 +176,10 @@ UnlessMade Records kept = Unit {0}
 UnlessMade OfReport kept = Unit {0}
 UnlessMade side kept = kept
 
--- whether what was made of a day is what it was if it is refused for that, unless another walk has it
+-- whether what was made of a day is what it was if it is refused for that
 abbrev pub IsKeptFor : DayFault → DayPaths → (old new : List Step) → Type 0
 IsKeptFor (CannotOpen unopened) paths old new = UnlessMade unopened.side (AreUntouched paths old new)
-IsKeptFor ClaimedByAnother paths old new = Unit {0}
+IsKeptFor ClaimedByAnother paths old new = AreSpared paths old new
 IsKeptFor why paths old new = AreUntouched paths old new
 
 -- whether what an earlier walk left of a day stays if it is refused for that

@@ -1,10 +1,11 @@
 //! A day that is refused: what was made of it goes.
-ghost use Rattle.std.specs.Prelude.{◌≡◌, []};
+ghost use Rattle.std.specs.Prelude.{◌≡◌, [], true};
 ghost use Rattle.msr_tree.specs.Calls.{Goes};
 ghost use Rattle.msr_tree.specs.Folders.{ChangesFiles};
 ghost use Rattle.msr_making.specs.Clearing.{EndsRefused, FindsNone, GivesUp, SaysEnd, beside_paths};
 ghost use Rattle.msr_making.specs.Told.{stays_for};
 ghost use Rattle.msr_making.specs.Places.{paths_at, paths_of};
+ghost use Rattle.msr_making.specs.declared.answer.DayFault.TheVariants.{ClaimedByAnother};
 
 use crate::answer::{DayEnd, DayFault, DayOutcome, Left};
 use crate::hold::Hold;
@@ -64,7 +65,7 @@ fn clear_made<T: Tree>(
     why: DayFault,
 ) -> DayEnd
     ensures told { SaysEnd why result }
-    ensures goes { Goes (T.went tree.old) (T.went tree.new) (GivesUp (paths_of input.now files.now) files.now result) }
+    ensures goes { Goes (T.went tree.old) (T.went tree.new) (GivesUp (paths_of input.now files.now) files.now why result) }
 {
     let naming = clear_files(tree, files);
     match naming.answer {
@@ -98,7 +99,7 @@ fn clear_day<T: Tree>(
     why: DayFault,
 ) -> DayEnd
     ensures told { SaysEnd why result }
-    ensures goes { Goes (T.went tree.old) (T.went tree.new) (GivesUp (paths_of input.now files.now) files.now result) }
+    ensures goes { Goes (T.went tree.old) (T.went tree.new) (GivesUp (paths_of input.now files.now) files.now why result) }
 {
     match is_gone(tree, places_of(input, files), was_left) {
         Ok(true) => DayEnd {
@@ -136,6 +137,16 @@ fn stays(asked: &DayOptions, why: DayFault) -> bool
     }
 }
 
+/// Whether another walk has a day that is refused for that.
+fn is_lost<H: Hold>(hold: &H, why: DayFault) -> bool
+    ensures { why ≡ ClaimedByAnother → result ≡ true }
+{
+    match why {
+        DayFault::ClaimedByAnother => true,
+        _ => !hold.is_held(),
+    }
+}
+
 /// A day is refused: what stands beside its names goes, and if it is this walk's still, what has its names, unless that is to
 /// stay.
 pub(crate) fn give_up<T: Tree, H: Hold>(
@@ -151,7 +162,7 @@ pub(crate) fn give_up<T: Tree, H: Hold>(
     ensures goes { Goes (T.went tree.old) (T.went tree.new) (EndsRefused (paths_of input.now files.now) files.now asked.now why result) }
 {
     let is_swept = sweep(tree, files);
-    if !hold.is_held() {
+    if is_lost(hold, why) {
         return DayEnd {
             outcome: Ok(DayOutcome::Refused(DayFault::ClaimedByAnother)),
             left: Left::of_swept(is_swept),

@@ -1,5 +1,5 @@
 -- What becomes of days.
-use Rattle.std.proofs.Common.{◌≡◌, ℕ, refl, sym, subst, Bool, true, false, IfOk, List, [], Option, Some, Result, Ok, Err}
+use Rattle.std.proofs.Common.{◌≡◌, ℕ, inl, refl, sym, subst, Bool, true, false, IfOk, List, [], Option, Some, Result, Ok, Err}
 use Rattle.msr_folders.proofs.WalkedLemmas.{goes_none, goes_so, goes_then}
 use Rattle.msr_kinds.specs.declared.lengths.Length.{Length}
 use Rattle.msr_making.specs.Day.{AsksForAge, IsDayOutcome}
@@ -74,18 +74,18 @@ there_again asked paths (outcomes.Refused (Tool fault)) told old new same is = s
 there_again asked paths (outcomes.Refused Gone) told old new same is = absurd is.0
 there_again asked paths (outcomes.Refused Listing) told old new same is = absurd is.0
 
-pub unclaimed_told : (asked : DayOptions) (paths : DayPaths) (why : DayFault) (old new : List Step) → IsUnclaimed why → IsToldThere asked paths (outcomes.Refused why) old new
-unclaimed_told asked paths (CannotOpen unopened) old new is = left_unmade asked.keep_old paths unopened old new is
-unclaimed_told asked paths ClaimedByAnother old new is = (tt, left_claimed paths old new asked.keep_old)
-unclaimed_told asked paths NotShown old new is = absurd is
-unclaimed_told asked paths Differs old new is = absurd is
-unclaimed_told asked paths Changed old new is = absurd is
-unclaimed_told asked paths (Larger repacked) old new is = absurd is
-unclaimed_told asked paths (Shrunk shrinkage) old new is = absurd is
-unclaimed_told asked paths (Misplaced found) old new is = absurd is
-unclaimed_told asked paths (Tool fault) old new is = absurd is
-unclaimed_told asked paths Gone old new is = absurd is
-unclaimed_told asked paths Listing old new is = absurd is
+pub unclaimed_told : (asked : DayOptions) (paths : DayPaths) (why : DayFault) (old new : List Step) → IsUnclaimed why → AreUntouched paths old new → IsToldThere asked paths (outcomes.Refused why) old new
+unclaimed_told asked paths (CannotOpen unopened) old new is still = left_unmade asked.keep_old paths unopened old new is
+unclaimed_told asked paths ClaimedByAnother old new is still = (tt, left_claimed paths old new asked.keep_old (inl still))
+unclaimed_told asked paths NotShown old new is still = absurd is
+unclaimed_told asked paths Differs old new is still = absurd is
+unclaimed_told asked paths Changed old new is still = absurd is
+unclaimed_told asked paths (Larger repacked) old new is still = absurd is
+unclaimed_told asked paths (Shrunk shrinkage) old new is still = absurd is
+unclaimed_told asked paths (Misplaced found) old new is still = absurd is
+unclaimed_told asked paths (Tool fault) old new is still = absurd is
+unclaimed_told asked paths Gone old new is still = absurd is
+unclaimed_told asked paths Listing old new is still = absurd is
 
 -- what was so between two moments was so between earlier and later ones
 module _ (asked : DayOptions) (names : DayNames) (out reports : Path) (outcome : DayOutcome) where
@@ -129,6 +129,15 @@ module _ {H E : Type 0} (outcome : H → DayOutcome) (names : DayNames) (out rep
     says = λ are. if_ok_as result (λ handled one. told_now asked names out reports (outcome handled) old new
         (there_again asked (paths_of_names names) one.0 (outcome handled) old new one.2
         (subst (λ r. IfOk r (λ told. IsOutcomeThere asked (paths_of_names names) told old new)) one.1 (does.outcome (are.are number))))) same;
+  }) goes
+
+  -- that is not claimed
+  pub handles_unclaimed : (why : DayFault) (result : Result H E) (before after : List Step → Type 0) → IsUnclaimed why → IfOk result (λ handled. outcome handled ≡ outcomes.Refused why)
+      → Goes before after (ClaimsWithin out reports names) → Goes before after (HandlesDay outcome names out reports asked result)
+  handles_unclaimed why result before after unclaimed is goes = goes_so _ _ before after (λ old new went claims. record {
+    works = claims.works;
+    says = λ are. if_ok_as result (λ handled same. told_now asked names out reports (outcome handled) old new
+        (subst (λ o. IsToldThere asked (paths_of_names names) o old new) (sym same) (unclaimed_told asked (paths_of_names names) why old new unclaimed (claims.still are)))) is;
   }) goes
 
   -- of which nothing is said

@@ -12,7 +12,7 @@ pub returns-in-Ok-false-clause-told : goal.returns-in-Ok-false-clause-told
 returns-in-Ok-false-clause-told g c = c.clear_made.ensures.told
 
 pub returns-in-Ok-false-clause-goes : goal.returns-in-Ok-false-clause-goes
-returns-in-Ok-false-clause-goes g c = then_cleared c.args.input.now c.args.files.now c.clear_made.result _ _ _ _ (finds_at _ _ _ _ _ c.places_of.ensures c.is_gone.ensures) c.clear_made.ensures.goes
+returns-in-Ok-false-clause-goes g c = then_cleared c.args.input.now c.args.files.now c.args.why c.clear_made.result _ _ _ _ (finds_at _ _ _ _ _ c.places_of.ensures c.is_gone.ensures) c.clear_made.ensures.goes
 
 pub returns-in-Err-clause-goes : goal.returns-in-Err-clause-goes
-returns-in-Err-clause-goes g c = ends_memory c.args.input.now c.args.files.now _ _ _ _ (finds_at _ _ _ _ _ c.places_of.ensures c.is_gone.ensures)
+returns-in-Err-clause-goes g c = ends_memory c.args.input.now c.args.files.now c.args.why _ _ _ _ (finds_at _ _ _ _ _ c.places_of.ensures c.is_gone.ensures)

@@ -16,4 +16,4 @@ pub returns-in-Failed-clause-goes : goal.returns-in-Failed-clause-goes
 returns-in-Failed-clause-goes g c = cleared_in_part c.args.input.now c.args.files.now c.args.why c.of_swept-in-Failed.result c.clear_files-naming.result _ _ _ c.of_swept-in-Failed.ensures (ap told c.in-Err.is ∙ ap (λ f. Err f) c.in-Failed.is) c.clear_files-naming.ensures c.is_seen.ensures
 
 pub returns-in-Memory-clause-goes : goal.returns-in-Memory-clause-goes
-returns-in-Memory-clause-goes g c = cleared_memory c.args.input.now c.args.files.now _ c.clear_files-naming.result _ _ c.clear_files-naming.ensures
+returns-in-Memory-clause-goes g c = cleared_memory c.args.input.now c.args.files.now c.args.why _ c.clear_files-naming.result _ _ c.clear_files-naming.ensures

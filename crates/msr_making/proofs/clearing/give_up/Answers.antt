@@ -4,11 +4,11 @@ use Rattle.msr_making.proofs.Cleared.{ends_cleared, ends_kept, ends_unheld, then
 use Rattle.msr_making.proofs.Owns.{more_beside, none_beside}
 use Rattle.msr_making.proofs.clearing.give_up.Goals as goal
 
-pub returns-then-not-is_held-clause-told : goal.returns-then-not-is_held-clause-told
-returns-then-not-is_held-clause-told g c = inl refl
+pub returns-then-is_lost-clause-told : goal.returns-then-is_lost-clause-told
+returns-then-is_lost-clause-told g c = inl refl
 
-pub returns-then-not-is_held-clause-goes : goal.returns-then-not-is_held-clause-goes
-returns-then-not-is_held-clause-goes g c = ends_unheld c.args.input.now c.args.files.now c.args.asked.now c.args.why c.of_swept.result _ _ c.of_swept.ensures c.sweep-is_swept.ensures
+pub returns-then-is_lost-clause-goes : goal.returns-then-is_lost-clause-goes
+returns-then-is_lost-clause-goes g c = ends_unheld c.args.input.now c.args.files.now c.args.asked.now c.args.why c.of_swept.result _ _ c.of_swept.ensures c.sweep-is_swept.ensures
 
 pub returns-then-stays-clause-told : goal.returns-then-stays-clause-told
 returns-then-stays-clause-told g c = inr refl
@@ -20,4 +20,5 @@ pub returns-clause-told : goal.returns-clause-told
 returns-clause-told g c = c.clear_day.ensures.told
 
 pub returns-clause-goes : goal.returns-clause-goes
-returns-clause-goes g c = ends_cleared c.args.input.now c.args.files.now c.args.asked.now c.args.why c.clear_day.result _ _ (sym c.stays.ensures ∙ c.if-stays.false) (then_gives c.args.input.now c.args.files.now (beside_paths c.args.files.now) (none_beside c.args.files.now) (more_beside c.args.files.now) c.clear_day.result _ _ _ c.sweep-is_swept.ensures c.clear_day.ensures.goes)
+returns-clause-goes g c = ends_cleared c.args.input.now c.args.files.now c.args.asked.now c.args.why c.clear_day.result _ _
+    (λ is. let lost = c.is_lost.ensures is in let not = c.if-is_lost.false in absurd cc) (sym c.stays.ensures ∙ c.if-stays.false) (then_gives c.args.input.now c.args.files.now (beside_paths c.args.files.now) (none_beside c.args.files.now) (more_beside c.args.files.now) c.args.why c.clear_day.result _ _ _ c.sweep-is_swept.ensures c.clear_day.ensures.goes)

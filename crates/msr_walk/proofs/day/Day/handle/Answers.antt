@@ -1,6 +1,6 @@
 use Rattle.std.proofs.Common.{Ok, Err, ◌∙◌, ap}
 use Rattle.std.proofs.lemmas.Result.{err_from_is_err_and}
-use Rattle.msr_walk.proofs.Days.{claims_looked, claims_then, claims_work, handles_after, handles_found, handles_works, looks_goes, unclaimed_told}
+use Rattle.msr_walk.proofs.Days.{claims_looked, claims_then, claims_work, handles_after, handles_found, handles_unclaimed, handles_works, looks_goes}
 use Rattle.msr_walk.proofs.Working.{goes_works_then}
 use Rattle.msr_walk.proofs.day.Day.handle.Goals as goal
 
@@ -32,5 +32,6 @@ returns-in_ok-refusal_of-in-Err-clause-waits g c = λ out reports within. rw c.o
 
 pub returns-in_ok-refusal_of-in-Err-clause-goes : goal.returns-in_ok-refusal_of-in-Err-clause-goes
 returns-in_ok-refusal_of-in-Err-clause-goes g c = λ out reports within.
-    handles_works (λ handled. handled.outcome) c.args.self.now out reports c.args.work.now.asked (Ok c.of-in-Err.result) _ _
-    (λ old new. rw c.of-in-Err.ensures.outcome (unclaimed_told c.args.work.now.asked _ c.in_ok-refusal_of-in-Err.field-0 old new c.in_ok-refusal_of-in-Err.ensures)) (goes_works_then out reports _ _ _ (looks_goes out reports c.args.self.now c.args.work.now.asked _ _ _ c.same.ensures.goes) (claims_work out reports c.args.self.now _ _ (c.claim.ensures out reports within)))
+    handles_unclaimed (λ handled. handled.outcome) c.args.self.now out reports c.args.work.now.asked c.in_ok-refusal_of-in-Err.field-0 (Ok c.of-in-Err.result) _ _
+    c.in_ok-refusal_of-in-Err.ensures c.of-in-Err.ensures.outcome
+    (claims_then out reports c.args.self.now _ _ _ (claims_looked out reports c.args.self.now c.args.work.now.asked _ _ _ c.same.ensures.goes) (c.claim.ensures out reports within))
