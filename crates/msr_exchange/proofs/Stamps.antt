@@ -3,7 +3,8 @@ use Rattle.std.proofs.Common.{◌≡◌, ◌&&◌, ◌⊎◌, inl, inr, ⊎_elim
 use Rattle.std.specs.Str.{bytes_eq}
 use Rattle.std.proofs.lemmas.Bool.{cases_Bool}
 use Rattle.std.proofs.lemmas.Slice.Eq.{bytes_eq-Decides}
-use Rattle.msr_tree.specs.Calls.{DoesStep, Goes, Looks, Tells}
+use Rattle.msr_devices.specs.Device.{Device}
+use Rattle.msr_tree.specs.Calls.{DoesStep, Goes, Looks, Opens, Tells}
 use Rattle.msr_tree.specs.Steps.{AtEachMoment, ChangesOnly, Failed, File, FolderStored, IsNoneOf, IsReady, Leaves, MayLeave, Path, Removed, Renamed, ShowsAfter, Step, Throughout, now, seen}
 use Rattle.msr_tree.specs.declared.facts.Facts.{Facts}
 use Rattle.msr_tree.specs.declared.tree.TreeFault.{TreeFault}
@@ -250,6 +251,10 @@ module _ (stamp : StampPlaces) where
               (stamps.adds are b (leaves_kept [] names.day (Some b) p q tt tells.changes (placed_leaves a b p keeps (tells.none is))));
         }) first second
 
+-- a stamp is opened to be read
+pub opened_alone : {R : Type 0} (path : Path) (device : R → Device) (result : Result R TreeFault) (one two : List Step → Type 0) → Goes one two (Tells (λ past reader. Opens path past (device reader)) result) → Goes one two (ChangesOnly [])
+opened_alone path device result one two goes = goes_as _ _ one two (λ p q tells. (acts_tells [] (λ past reader. Opens path past (device reader)) result p q tells).changes) goes
+
 -- a look at the file that has the day's place
 pub finds_regular : (name : Path) (facts : Facts) (value : Option Stamp) (one two : List Step → Type 0) → IfSome value (IsStampOfFound facts) → Goes one two (Tells (Looks name) (Ok (Some facts))) → Goes one two (FindsStamp name value)
 finds_regular name facts value one two is goes = goes_as _ _ one two
@@ -289,5 +294,5 @@ tells_gone original records first second there gone one mid two is a b = goes_bo
 pub other_way : (x y : Path) → bytes_eq x y ≡ false → bytes_eq y x ≡ false
 other_way x y not = elim (cases_Bool (bytes_eq y x)) [
   | inl is ↦ let yes = (bytes_eq-Decides x y).1 (sym ((bytes_eq-Decides y x).0 is)) in absurd cc
-  | inr no ↦ no
+  | inr other ↦ other
 ]
