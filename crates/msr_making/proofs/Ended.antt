@@ -1,5 +1,5 @@
 -- How a day ends.
-use Rattle.std.proofs.Common.{◌≡◌, ◌⊎◌, ◌≤◌, ◌&&◌, inl, inr, ⊎_elim, ℕ, Bool, true, false, List, [], ◌∷◌, refl, sym, ◌∙◌, subst, Result, Ok, Err, Some, None, Option, IfOk, IsSome, IsSomeAnd, arith}
+use Rattle.std.proofs.Common.{◌≡◌, ◌⊎◌, ◌≤◌, ◌&&◌, inl, inr, ⊎_elim, ℕ, Bool, true, false, List, [], ◌∷◌, refl, sym, ◌∙◌, subst, Result, Ok, Err, Some, None, Option, IfOk, IsSome, arith}
 use Rattle.std.specs.declared.alloc.AllocError.{AllocError}
 use Rattle.msr_options.specs.declared.days.DayOptions.{DayOptions}
 use Rattle.msr_tree.specs.Calls.{AreOneFile, Goes}

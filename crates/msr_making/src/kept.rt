@@ -1,5 +1,5 @@
 //! What an earlier walk left of a day.
-ghost use Rattle.std.specs.Prelude.{◌≡◌, IfOk, IfSome, IsTrue, true};
+ghost use Rattle.std.specs.Prelude.{◌≡◌, IfOk, IfSome, true};
 ghost use Rattle.msr_tree.specs.Calls.{Goes};
 ghost use Rattle.msr_stamp.specs.Stamp.{stamp_text};
 ghost use Rattle.msr_making.specs.Day.{IsKeptEither, IsReportKept, IsSame};
