@@ -1,4 +1,4 @@
-use Rattle.std.proofs.Common.{◌∙◌, ap, refl, rules, sym, subst, Option}
+use Rattle.std.proofs.Common.{◌∙◌, ap, rules, sym, subst, Option}
 use Rattle.msr_options.specs.declared.names.DayName.{DayName}
 use Rattle.msr_belonging.specs.Belonging.{IsFoundAsAsked, told_segments}
 use Rattle.msr_making.proofs.Fewer.{none_of}

@@ -1,6 +1,3 @@
-use Rattle.std.proofs.Common.{Option, None, Some, subst}
-use Rattle.msr_options.specs.declared.names.DayName.{DayName}
-use Rattle.msr_belonging.specs.Belonging.{IsFoundAsAsked, told_segments}
 use Rattle.msr_making.proofs.Days.{placed_stops}
 use Rattle.msr_making.proofs.repacking.repack_placed.Goals as goal
 
