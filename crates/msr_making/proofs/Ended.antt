@@ -10,7 +10,7 @@ use Rattle.msr_tree.proofs.Moments.{at_end, joined}
 use Rattle.msr_tree.proofs.Filing.{changes_more, changes_then, leaves_kept, no_fewer, now_kept, ready_kept, seen_kept}
 use Rattle.msr_naming.proofs.FallingBack.{goes_both}
 use Rattle.msr_naming.specs.Naming.{AreDayNames, day_paths}
-use Rattle.msr_naming.specs.Promise.{HasOwn, HasReport, IsFreeIf}
+use Rattle.msr_naming.specs.Promise.{HasOwn, HasReport, IsFreeIf, IsUnseenIf}
 use Rattle.msr_naming.specs.declared.files.DayFiles.{DayFiles}
 use Rattle.msr_making.specs.Clearing.{EndsRefused}
 use Rattle.msr_making.specs.Ending.{DoesFound, IsMade, MadeAs, MakesDay, SeeksDay}
@@ -62,6 +62,10 @@ module _ (input : Path) (look : DayLook) (files : DayFiles) (was_left : Bool) (a
   free_if : (is_free : Bool) (past : List Step) → (is_free ≡ true → (was_left ≡ false) × IsUnfound look) → IsDayLook paths look past → ShowsAllLeft was_left input files past → IsFreeIf is_free files past
   free_if is_free past so looked settled is = settled.free (so is).0 (unseen_by paths look past (so is).1 looked)
 
+  -- nor does anybody see anything of it
+  unseen_if : (is_free : Bool) (past : List Step) → (is_free ≡ true → (was_left ≡ false) × IsUnfound look) → IsDayLook paths look past → IsUnseenIf is_free files past
+  unseen_if is_free past so looked is = unseen_by paths look past (so is).1 looked
+
   module _ (is_free : Bool) (free : is_free ≡ true → (was_left ≡ false) × IsUnfound look) (making : Making) where
     -- it is done
     pub done_so : (repacked : Repacked) (rest : Left) (one mid two : List Step → Type 0) → making.result ≡ Ok repacked
@@ -72,8 +76,8 @@ module _ (input : Path) (look : DayLook) (files : DayFiles) (was_left : Bool) (a
           safe = λ stored is_own is_of names looked settled own has.
               let so = x.safe stored is_own is_of names looked (free_if is_free p free looked.are settled) own has in
               joined (HasOwn is_own is_of files) p q r so (own_each files (files.stamp.part ∷ []) (none_stamp files names.names) q r y.changes is_own is_of (at_end (HasOwn is_own is_of files) p q so));
-          killed = λ is_own names looked settled own has.
-              let so = x.killed is_own names looked (free_if is_free p free looked.are settled) own has in
+          killed = λ is_own names looked own has.
+              let so = x.killed is_own names looked (unseen_if is_free p free looked.are) own has in
               joined (HasReport is_own files) p q r so (report_each files (files.stamp.part ∷ []) (none_stamp files names.names) q is_own (at_end (HasReport is_own files) p q so) r y.changes);
           outcome = λ names looked.
               let it = made p q x names looked in
@@ -139,8 +143,8 @@ module _ (input : Path) (look : DayLook) (files : DayFiles) (was_left : Bool) (a
           safe = λ stored is_own is_of names looked settled own has.
               let so = x.safe (both stored).1 is_own is_of names looked (free_if is_free p free looked.are settled) own has in
               joined (HasOwn is_own is_of files) p q r so (y.safe (both stored).0 is_own is_of names.names (at_end (HasOwn is_own is_of files) p q so));
-          killed = λ is_own names looked settled own has.
-              let so = x.killed is_own names looked (free_if is_free p free looked.are settled) own has in
+          killed = λ is_own names looked own has.
+              let so = x.killed is_own names looked (unseen_if is_free p free looked.are) own has in
               joined (HasReport is_own files) p q r so (y.killed is_own names.names (at_end (HasReport is_own files) p q so));
           outcome = λ names looked.
               refused_so why end.outcome p q r (no_fewer (day_paths files) p q x.changes) (no_fewer (day_paths files) q r y.changes) y.stays names.names
@@ -159,7 +163,7 @@ module _ (input : Path) (look : DayLook) (files : DayFiles) (was_left : Bool) (a
     stopped_so e one two goes = goes_as _ _ one two
         (λ p q x. record {
           safe = λ stored is_own is_of names looked settled own has. x.safe stored is_own is_of names looked (free_if is_free p free looked.are settled) own has;
-          killed = λ is_own names looked settled own has. x.killed is_own names looked (free_if is_free p free looked.are settled) own has;
+          killed = λ is_own names looked own has. x.killed is_own names looked (unseen_if is_free p free looked.are) own has;
           outcome = λ names looked. tt;
           stamp = λ waits names looked settled. absurd cc;
           unstored = x.unstored;
@@ -290,7 +294,7 @@ module _ (input : Path) (files : DayFiles) (was_left : Bool) (asked : DayOptions
   day_left outcome one two goes = goes_as _ _ one two
       (λ p q x. record {
         safe = λ stored is_own is_of names settled own has. own_each files [] (none_empty files) p q x.changes is_own is_of has;
-        killed = λ is_own names settled own has. report_each files [] (none_empty files) p is_own has q x.changes;
+        killed = λ is_own names own has. report_each files [] (none_empty files) p is_own has q x.changes;
         outcome = λ names. x.said;
         stamp = λ waits names settled. absurd cc;
         unstored = λ not. absurd cc;
@@ -302,7 +306,7 @@ module _ (input : Path) (files : DayFiles) (was_left : Bool) (asked : DayOptions
   day_stopped e f one two goes = goes_as _ _ one two
       (λ p q x. record {
         safe = λ stored is_own is_of names settled own has. own_each files [] (none_empty files) p q x.changes is_own is_of has;
-        killed = λ is_own names settled own has. report_each files [] (none_empty files) p is_own has q x.changes;
+        killed = λ is_own names own has. report_each files [] (none_empty files) p is_own has q x.changes;
         outcome = λ names. tt;
         stamp = λ waits names settled. absurd cc;
         unstored = λ not. absurd cc;
@@ -338,9 +342,9 @@ module _ (input : Path) (files : DayFiles) (was_left : Bool) (asked : DayOptions
         safe = λ stored is_own is_of names settled own has.
             joined (HasOwn is_own is_of files) p q r (own_each files [] (none_empty files) p q x.changes is_own is_of has)
             (y.safe stored is_own is_of names looked (settled_later p q x.changes settled) (own_later p q x.changes is_own own) (own_kept files [] (none_empty files) p q x.changes is_own is_of has));
-        killed = λ is_own names settled own has.
+        killed = λ is_own names own has.
             joined (HasReport is_own files) p q r (report_each files [] (none_empty files) p is_own has q x.changes)
-            (y.killed is_own names looked (settled_later p q x.changes settled) (own_later p q x.changes is_own own) (report_kept files [] (none_empty files) p is_own has q x.changes));
+            (y.killed is_own names looked (own_later p q x.changes is_own own) (report_kept files [] (none_empty files) p is_own has q x.changes));
         outcome = λ names. outcome_known end.outcome p q r x.changes (y.outcome names looked);
         stamp = λ waits names settled.
             let it = y.stamp waits names looked (settled_later p q x.changes settled) in

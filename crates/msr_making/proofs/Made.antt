@@ -13,7 +13,7 @@ use Rattle.msr_tree.proofs.Filing.{changes_more, changes_then, no_fewer, ready_k
 use Rattle.msr_naming.proofs.FallingBack.{goes_both}
 use Rattle.msr_naming.proofs.Names.{seen_ready}
 use Rattle.msr_naming.specs.Naming.{AreDayNames, day_paths, told}
-use Rattle.msr_naming.specs.Promise.{AreReady, GivesNames, HasOwn, HasReport, HaveOwnParts, IsFreeIf, NamesDay, SeesNames}
+use Rattle.msr_naming.specs.Promise.{AreReady, GivesNames, HasOwn, HasReport, HaveOwnParts, IsFreeIf, IsUnseenIf, NamesDay, SeesNames}
 use Rattle.msr_naming.specs.declared.fallback.Naming.{Naming}
 use Rattle.msr_naming.specs.declared.files.DayFiles.{DayFiles}
 use Rattle.msr_naming.specs.declared.naming.Stopped.{Stopped}
@@ -147,7 +147,7 @@ module _ (input : Path) (look : DayLook) (files : DayFiles) (asked : DayOptions)
         → Goes one two (MakesDay input look files is_free asked (record { result = Err stop; is_stored = true }))
     not_made stop one two goes = goes_as _ _ one two (λ p q prepares. record {
       safe = λ is is_own is_of names at free own has. own_each files l (none_parts files names.names) p q prepares.changes is_own is_of has;
-      killed = λ is_own names at free own has. report_each files l (none_parts files names.names) p is_own has q prepares.changes;
+      killed = λ is_own names at unseen own has. report_each files l (none_parts files names.names) p is_own has q prepares.changes;
       said = λ names at. by_stop stop p q names prepares.changes (prepares.said names at);
       unstored = λ not. absurd cc;
       changes = changes_more l (day_paths files) p q (λ n none. more_parts files n none) prepares.changes;
@@ -167,6 +167,14 @@ module _ (input : Path) (look : DayLook) (files : DayFiles) (asked : DayOptions)
 
       free_mid : AreDayNames files → IsFreeIf is_free files old → IsFreeIf is_free files mid
       free_mid names free is = free_kept files l (none_parts files names) old mid prepares.changes (free is)
+
+      unseen_mid : AreDayNames files → IsUnseenIf is_free files old → IsUnseenIf is_free files mid
+      unseen_mid names unseen is =
+          let none = none_parts files names in (
+            seen_kept l files.records.path old mid none.records prepares.changes ∙ (unseen is).0,
+            seen_kept l files.report.path old mid none.report prepares.changes ∙ (unseen is).1,
+            seen_kept l files.stamp.path old mid none.stamp prepares.changes ∙ (unseen is).2,
+          )
 
       made_as : (answer : Result (Unit {0}) TreeFault) (result : Result Repacked Stop) → NamedAs repacked answer result → OnOk answer (AreDayNames files → SeesNames files mid new)
           → OnOk answer (naming.is_stored ≡ true → AreDayNames files → IsFreeIf is_free files mid → GivesNames files mid new) → (IsErrOf answer fault.Failed → failures mid < failures new)
@@ -199,10 +207,10 @@ module _ (input : Path) (look : DayLook) (files : DayFiles) (asked : DayOptions)
             joined (HasOwn is_own is_of files) old mid new
             (own_each files l (none_parts files names.names) old mid prepares.changes is_own is_of has)
             (names_it.safe stored is_own is_of names.names (own_parts is_own names at own) (free_mid names.names free) (own_kept files l (none_parts files names.names) old mid prepares.changes is_own is_of has));
-        killed = λ is_own names at free own has.
+        killed = λ is_own names at unseen own has.
             joined (HasReport is_own files) old mid new
             (report_each files l (none_parts files names.names) old is_own has mid prepares.changes)
-            (names_it.killed is_own names.names (own_parts is_own names at own) (free_mid names.names free) (report_kept files l (none_parts files names.names) old is_own has mid prepares.changes));
+            (names_it.killed is_own names.names (own_parts is_own names at own) (unseen_mid names.names unseen) (report_kept files l (none_parts files names.names) old is_own has mid prepares.changes));
         said = made_as (told naming.answer) result is names_it.sees names_it.gives names_it.cause;
         unstored = λ not. let few = no_fewer l old mid prepares.changes in let more = names_it.unstored not in omega arith;
         changes = changes_then (day_paths files) old mid new (changes_more l (day_paths files) old mid (λ n none. more_parts files n none) prepares.changes) names_it.changes;

@@ -10,7 +10,7 @@ use Rattle.msr_tree.specs.Steps.{AtEachMoment, Path, Step, failures, seen}
 use Rattle.msr_tree.specs.declared.tree.TreeFault.{TreeFault}
 use Rattle.msr_tree.specs.declared.tree.TreeFault.TheVariants as fault
 use Rattle.msr_naming.specs.Naming.{day_paths, told}
-use Rattle.msr_naming.specs.Promise.{AreNamed, AreReady, HasOwn, HasReport, IsFreeIf}
+use Rattle.msr_naming.specs.Promise.{AreNamed, AreReady, HasOwn, HasReport, IsFreeIf, IsUnseenIf}
 use Rattle.msr_naming.specs.declared.fallback.Naming.{Naming}
 use Rattle.msr_naming.specs.declared.files.DayFiles.{DayFiles}
 use Rattle.msr_making.specs.Day.{IsDayOutcome, IsDone, IsRepackedDay, IsVerifiedBy}
@@ -126,7 +126,7 @@ pub record MakesDay (input : Path) (look : DayLook) (files : DayFiles) (is_free 
       → AreFileNames input files → IsLookedAt (paths_of input files) look old → IsFreeIf is_free files old → IsOwnOfFile input asked.options is_own old
       → HasOwn is_own is_of files old → AtEachMoment (HasOwn is_own is_of files) old new
   pub killed : (is_own : (records report : List ℕ) → Bool)
-      → AreFileNames input files → IsLookedAt (paths_of input files) look old → IsFreeIf is_free files old → IsOwnOfFile input asked.options is_own old
+      → AreFileNames input files → IsLookedAt (paths_of input files) look old → IsUnseenIf is_free files old → IsOwnOfFile input asked.options is_own old
       → HasReport is_own files old → AtEachMoment (HasReport is_own files) old new
   pub said : AreFileNames input files → IsLookedAt (paths_of input files) look old → MadeAs input files asked is_free making.is_stored making.result old new
   pub unstored : making.is_stored ≡ false → failures old < failures new
@@ -138,7 +138,7 @@ pub record DoesFound (input : Path) (look : DayLook) (files : DayFiles) (was_lef
       → AreFileNames input files → IsLookedAt (paths_of input files) look old → ShowsAllLeft was_left input files old → IsOwnOfFile input asked.options is_own old
       → HasOwn is_own is_of files old → AtEachMoment (HasOwn is_own is_of files) old new
   pub killed : (is_own : (records report : List ℕ) → Bool)
-      → AreFileNames input files → IsLookedAt (paths_of input files) look old → ShowsAllLeft was_left input files old → IsOwnOfFile input asked.options is_own old
+      → AreFileNames input files → IsLookedAt (paths_of input files) look old → IsOwnOfFile input asked.options is_own old
       → HasReport is_own files old → AtEachMoment (HasReport is_own files) old new
   pub outcome : AreFileNames input files → IsLookedAt (paths_of input files) look old
       → IfOk end.outcome (λ outcome. IsOutcomeThere asked (paths_of input files) outcome old new)

@@ -45,7 +45,7 @@ pub record DoesDay (input : Path) (files : DayFiles) (was_left : Bool) (asked : 
       → AreFileNames input files → ShowsAllLeft was_left input files old → IsOwnOfFile input asked.options is_own old
       → HasOwn is_own is_of files old → AtEachMoment (HasOwn is_own is_of files) old new
   pub killed : (is_own : (records report : List ℕ) → Bool)
-      → AreFileNames input files → ShowsAllLeft was_left input files old → IsOwnOfFile input asked.options is_own old
+      → AreFileNames input files → IsOwnOfFile input asked.options is_own old
       → HasReport is_own files old → AtEachMoment (HasReport is_own files) old new
   pub outcome : AreFileNames input files → IfOk end.outcome (λ outcome. IsOutcomeThere asked (paths_of input files) outcome old new)
   pub stamp : end.left ≡ left.Stamp → AreFileNames input files → ShowsAllLeft was_left input files old

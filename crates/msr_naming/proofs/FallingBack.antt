@@ -95,7 +95,7 @@ module _ (files : DayFiles) where
       → Performs (map (act_step files) gone_acts) stopped old mid → Performs (map (act_step files) unstored_acts) answer mid new → NamesDay files is_free naming old new
   named_unstored answer is_free naming old mid new not same one two = record {
     safe = λ is. absurd (cc);
-    killed = λ is_own are before free has.
+    killed = λ is_own are before unseen has.
         let first = does_some (HasReport is_own files) (kill.fails is_own files) (map (act_step files) gone_acts) old mid one.some (kill.gone is_own files are old has) in
         joined (HasReport is_own files) old mid new first
         (does_some (HasReport is_own files) (kill.fails is_own files) (map (act_step files) unstored_acts) mid new two.some
@@ -133,7 +133,7 @@ module _ (files : DayFiles) where
       let day = stops_first (map (act_step files) (before_acts ++ Store Report ∷ [])) (map (act_step files) last_acts) fault.Failed old mid some in
       record {
         safe = λ is. absurd (cc);
-        killed = λ is_own are parts free has.
+        killed = λ is_own are parts unseen has.
             let first = (day_killed files stopped old mid day).killed is_own are parts has in
             let last = before_last are parts.records parts.report old before mid falls.done falls.stopped parts.ready in
             let both = sees_last are parts.records parts.report mid last.0 last.1 in
@@ -165,7 +165,7 @@ module _ (files : DayFiles) where
       let keeps = day_keeps files answer old new performs in
       record {
         safe = λ stored is_own is_of are parts free has. keeps.safe is_own is_of are parts has;
-        killed = λ is_own are parts free has. (day_killed files answer old new performs).killed is_own are parts has;
+        killed = λ is_own are parts unseen has. (day_killed files answer old new performs).killed is_own are parts has;
         sees = subst (λ (a : Result (Unit {0}) TreeFault). OnOk a (AreDayNames files → SeesNames files old new)) (sym same)
             (when_ok answer (λ gives. λ are r p ready.
             let named = (gives are).named r p ready in
@@ -184,7 +184,7 @@ module _ (files : DayFiles) where
       let keeps = new_day_keeps files answer old new performs in
       record {
         safe = λ stored is_own is_of are parts free has. keeps.safe is_own is_of are (parts, free refl) has;
-        killed = λ is_own are parts free has. (new_day_killed files answer old new performs).killed is_own are (parts, free refl) has;
+        killed = λ is_own are parts unseen has. (new_day_killed files answer old new performs).killed is_own are (parts, unseen refl) has;
         sees = subst (λ (a : Result (Unit {0}) TreeFault). OnOk a (AreDayNames files → SeesNames files old new)) (sym same)
             (when_ok answer (λ is_all. λ are r p ready.
             let both = sees_anew are r p old ready in

@@ -5,8 +5,8 @@ use Rattle.msr_tree.proofs.Changes.{ready_renamed}
 use Rattle.msr_naming.specs.declared.files.DayFiles.{DayFiles}
 use Rattle.msr_naming.specs.declared.files.Name.TheVariants.{Records, RecordsPart, Report, ReportPart, Stamp}
 use Rattle.msr_naming.specs.Naming.{AreDayNames}
-use Rattle.msr_naming.specs.Promise.{AreReady, HasReport, IsFree}
-use Rattle.msr_naming.proofs.Names.{not_renamed, ready_gone, ready_still, removed_leads, seen_nothing, seen_ready, seen_still}
+use Rattle.msr_naming.specs.Promise.{AreReady, HasReport, SeesNone}
+use Rattle.msr_naming.proofs.Names.{not_renamed, ready_gone, ready_still, removed_leads, seen_ready, seen_still}
 
 module _ (is_own : (records report : List ℕ) → Bool) (files : DayFiles) where
   abbrev K : List Step → Type 0
@@ -75,10 +75,8 @@ module _ (is_own : (records report : List ℕ) → Bool) (files : DayFiles) wher
           let h2 = both (two ∷ l1) r p owns (seen_ready (two ∷ l1) files.records.path r records2) (seen_ready (two ∷ l1) files.report.path p report2) in
           ((has, none l1 unseen1), h2)
 
-      pub naming_new : (old : List Step) → IsFree files old → AreReady files r p old → Throughout K old (Renamed files.records.part files.records.path ∷ Renamed files.report.part files.report.path ∷ [])
-      naming_new old free ready =
-          let is = seen_nothing old files.records.path free.records in
-          named old is ready (none old is)
+      pub naming_new : (old : List Step) → SeesNone files old → AreReady files r p old → Throughout K old (Renamed files.records.part files.records.path ∷ Renamed files.report.part files.report.path ∷ [])
+      naming_new old unseen_all ready = named old unseen_all.0 ready (none old unseen_all.0)
 
       pub naming_unstored : (old : List Step) → AreReady files r p old → K old
           → Throughout K old (Renamed files.records.part files.records.path ∷ Renamed files.report.part files.report.path ∷ Removed files.records.path ∷ Removed files.stamp.path ∷ [])

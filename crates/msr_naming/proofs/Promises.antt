@@ -9,7 +9,7 @@ use Rattle.msr_naming.specs.declared.naming.Act.{Act}
 use Rattle.msr_naming.specs.declared.naming.Act.TheVariants.{Remove, Store, Rename}
 use Rattle.msr_naming.specs.declared.files.Name.TheVariants.{Records, RecordsPart, Report, ReportPart, Stamp}
 use Rattle.msr_naming.specs.Naming.{AreDayNames, Performs, act_step}
-use Rattle.msr_naming.specs.Promise.{AreNamed, AreReady, GivesNames, HasOwn, HasReport, HaveOwnParts, IsFree, KeepsOwn, KeepsIfKilled, NamesStamps, OverNothing}
+use Rattle.msr_naming.specs.Promise.{AreNamed, AreReady, GivesNames, HasOwn, HasReport, HaveOwnParts, IsFree, KeepsOwn, KeepsIfKilled, NamesStamps, OverNothing, OverUnseen}
 use Rattle.msr_naming.proofs.Names.{no_records_left, no_stamp_left, not_renamed, ready_gone, ready_still, removed_settled}
 use Rattle.msr_naming.proofs.Changed.{only_named, only_stamped}
 use Rattle.msr_naming.proofs.Kills as kill
@@ -92,7 +92,7 @@ module _ (files : DayFiles) where
     cause = performs.cause;
   }
 
-  pub new_day_killed : (result : Result (Unit {0}) TreeFault) (old new : List Step) → Performs (map (act_step files) new_acts) result old new → KeepsIfKilled files (OverNothing files) result old new
+  pub new_day_killed : (result : Result (Unit {0}) TreeFault) (old new : List Step) → Performs (map (act_step files) new_acts) result old new → KeepsIfKilled files (OverUnseen files) result old new
   new_day_killed result old new performs = record {
     killed = λ is_own are before has. does_some (HasReport is_own files) (kill.fails is_own files) (map (act_step files) new_acts) old new performs.some
         (kill.naming_new is_own files are before.0.records before.0.report before.0.own old before.1 before.0.ready);

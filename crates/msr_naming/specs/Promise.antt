@@ -53,6 +53,14 @@ pub record GivesNames (files : DayFiles) (old new : List Step) : Type 0 where
 abbrev pub OverNothing : (files : DayFiles) → (is_own : (records report : List ℕ) → Bool) → List Step → Type 0
 OverNothing files is_own past = HaveOwnParts files is_own past × IsFree files past
 
+-- nothing is seen under the names of a day
+abbrev pub SeesNone : DayFiles → List Step → Type 0
+SeesNone files past = (seen past files.records.path ≡ None) × (seen past files.report.path ≡ None) × (seen past files.stamp.path ≡ None)
+
+-- some are, and nothing is seen of the day
+abbrev pub OverUnseen : (files : DayFiles) → (is_own : (records report : List ℕ) → Bool) → List Step → Type 0
+OverUnseen files is_own past = HaveOwnParts files is_own past × SeesNone files past
+
 -- A day that has its own before a call has it at each moment since, also if the power is cut then; if the call succeeds,
 -- this is done; no name that is not of the day leads elsewhere; and a failure is told only if a call has failed.
 pub record KeepsOwn (files : DayFiles) (before : (is_own : (records report : List ℕ) → Bool) → List Step → Type 0) (Done : (old new : List Step) → Type 0)
@@ -115,14 +123,14 @@ pub record NamesStamps (out reports : Path) (days : List DayFiles) (result : Res
 abbrev pub IsFreeIf : Bool → DayFiles → List Step → Type 0
 IsFreeIf is_free files past = is_free ≡ true → IsFree files past
 
+-- where that is told, nothing is seen of the day
+abbrev pub IsUnseenIf : Bool → DayFiles → List Step → Type 0
+IsUnseenIf is_free files past = is_free ≡ true → SeesNone files past
+
 -- what was beside the names of records and report is seen under them
 abbrev pub SeesNames : DayFiles → (old new : List Step) → Type 0
 SeesNames files old new = (records report : List ℕ) → AreReady files records report old
     → (seen new files.records.path ≡ Some records) × (seen new files.report.path ≡ Some report)
-
--- nothing is seen under the names of a day
-abbrev pub SeesNone : DayFiles → List Step → Type 0
-SeesNone files past = (seen past files.records.path ≡ None) × (seen past files.report.path ≡ None) × (seen past files.stamp.path ≡ None)
 
 -- Records and report get their names. If the day has its own before, it has it at each moment since: whatever a crash leaves
 -- then, if each folder was stored; and in any case if the walk is killed then.
@@ -130,7 +138,7 @@ pub record NamesDay (files : DayFiles) (is_free : Bool) (naming : Naming) (old n
   pub safe : naming.is_stored ≡ true → (is_own : (records report : List ℕ) → Bool) (is_of : (stamp records report : List ℕ) → Bool)
       → AreDayNames files → HaveOwnParts files is_own old → IsFreeIf is_free files old
       → HasOwn is_own is_of files old → AtEachMoment (HasOwn is_own is_of files) old new
-  pub killed : (is_own : (records report : List ℕ) → Bool) → AreDayNames files → HaveOwnParts files is_own old → IsFreeIf is_free files old
+  pub killed : (is_own : (records report : List ℕ) → Bool) → AreDayNames files → HaveOwnParts files is_own old → IsUnseenIf is_free files old
       → HasReport is_own files old → AtEachMoment (HasReport is_own files) old new
   pub sees : OnOk (told naming.answer) (AreDayNames files → SeesNames files old new)
   pub gives : OnOk (told naming.answer) (naming.is_stored ≡ true → AreDayNames files → IsFreeIf is_free files old → GivesNames files old new)
