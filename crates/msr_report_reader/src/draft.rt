@@ -1,5 +1,5 @@
 //! A report that is read as its text comes.
-ghost use Rattle.std.specs.Prelude.{◌≡◌, ◌<◌, ◌+◌, ◌*◌, ◌^◌, ◌++◌, ◌∷◌, [], ℕ, List, Bool, All, IfOk, IfErr, IfSome, IsSomeAnd, SomeIff, OnOk, length, codes};
+ghost use Rattle.std.specs.Prelude.{◌≡◌, ◌≢◌, ◌<◌, ◌+◌, ◌*◌, ◌^◌, ◌++◌, ◌∷◌, [], ℕ, List, Bool, All, IfOk, IfErr, IfSome, IsSomeAnd, SomeIff, OnOk, false, length, codes};
 ghost use Rattle.std.specs.Fmt.{decimal};
 ghost use Rattle.msr_report.specs.Proper.{records_in};
 ghost use Rattle.msr_report_reader.specs.Content.{lines_before};
@@ -113,7 +113,9 @@ fn more_separators<'a>(
     ended: bool,
     text: &'a [u8],
 ) -> Result<(bool, &'a [u8]), AllocError>
-    ensures { IfOk result (λ x. AreMore numbers.old.items ended text.now numbers.new.items x.0 x.1.now) }
+    ensures read { IfOk result (λ x. AreMore numbers.old.items ended text.now numbers.new.items x.0 x.1.now) }
+    ensures all { IfOk result (λ x. x.0 ≡ false → (n : ℕ) (last : Bool) (rest : List ℕ) → n < 2 ^ 64
+        → x.1.now ≢ decimal n ++ (stop_byte last ∷ rest)) }
 {
     let mut last = ended;
     let mut rest = text;

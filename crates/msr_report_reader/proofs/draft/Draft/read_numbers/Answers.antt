@@ -31,9 +31,9 @@ returns c = λ expected.
     c.in_ok-push.ensures.items (search rules) c.in-Some.ensures.found in
     let less = after_shorter c.in-Some.n c.in-Some.last c.args.text.now c.in-Some.rest.now c.in-Some.ensures.found in
     let least = more_shorter c.push.new.self.items mid.numbers.items c.in-Some.last c.in_ok-last.last c.in-Some.rest.now
-    c.in_ok-last.rest.now c.in_ok-last.ensures in
+    c.in_ok-last.rest.now c.in_ok-last.ensures.read in
     number_step c.args.self.now mid c.go_on.new.self c.args.first c.args.line c.in_ok-last.last c.args.text.now
     c.in_ok-last.rest.now _ expected refl
     (more_then numbers c.push.new.self.items mid.numbers.items false c.in-Some.last c.in_ok-last.last c.args.text.now
-    c.in-Some.rest.now c.in_ok-last.rest.now one c.in_ok-last.ensures)
+    c.in-Some.rest.now c.in_ok-last.rest.now one c.in_ok-last.ensures.read)
     (omega (arith, less, least)) c.in_ok-go_on.ensures refl
