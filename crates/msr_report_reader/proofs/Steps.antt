@@ -15,7 +15,7 @@ use Rattle.msr_report_reader.specs.Fault.{IsOneLine, IsFaultLine}
 use Rattle.msr_report_reader.specs.LastLine.{IsLast}
 use Rattle.msr_report_reader.specs.Reading.{IsReadFrom}
 use Rattle.msr_report_reader.specs.TextFault.{IsTextFault}
-use Rattle.msr_report_reader.specs.Draft.{IsEnough, IsLineRefused, IsDraftStep, IsConsumed, IsCut, HasRead, ReadTo, ReadSegments, ReadOpening, ReadEnd, numbers_then, stop_byte}
+use Rattle.msr_report_reader.specs.Draft.{AreMore, IsEnough, IsLineRefused, IsDraftStep, IsConsumed, IsCut, HasRead, ReadTo, ReadSegments, ReadOpening, ReadEnd, numbers_then, stop_byte}
 use Rattle.msr_report_reader.specs.declared.fault.ReportFault.{ReportFault}
 use Rattle.msr_report_reader.specs.declared.fault.ReportFault.TheVariants.{Line, Read, Memory}
 use Rattle.msr_report_reader.specs.declared.first.FirstLines.{FirstLines}
@@ -211,36 +211,77 @@ word_step old new first line last text rest n expected goes is count =
           (goes past to.0 (subst (λ (ns : List ℕ). All (λ n. n < 2 ^ 64) ns) (sym to.1) none));
     }
 
-pub number_step : (old mid new : Draft) (first : FirstLines) (line : FirstLine) (number : ℕ) (last : Bool)
-    (text rest : List ℕ) (n : ℕ) → old.expected ≡ Number first line → mid.segments.items ≡ old.segments.items
-    → mid.numbers.items ≡ old.numbers.items ++ number ∷ [] → number < 2 ^ 64
-    → ((past : List ℕ) → ReadOpening first mid.segments.items line past → All (λ n. n < 2 ^ 64) mid.numbers.items
-    → HasRead new (past ++ numbers_then mid.numbers.items last))
-    → text ≡ decimal number ++ (stop_byte last ∷ rest) → n ≡ length text - length rest → IsConsumed old new text n
-number_step old mid new first line number last text rest n expected segments pushed small goes is count =
+-- no more of the separators' line
+pub no_more : (numbers : List ℕ) (last : Bool) (text : List ℕ) → AreMore numbers last text numbers last text
+no_more numbers last text = record {
+  taken = [];
+  is = refl;
+  line = append-nil (numbers_then numbers last);
+  each = λ fits. fits;
+}
+
+-- one more separator
+pub one_read : (old new : List ℕ) (number : ℕ) (last : Bool) (text rest : List ℕ) → new ≡ old ++ number ∷ []
+    → number < 2 ^ 64 → text ≡ decimal number ++ (stop_byte last ∷ rest) → AreMore old false text new last rest
+one_read old new number last text rest pushed small is =
     let taken : List ℕ = decimal number ++ (stop_byte last ∷ []) in
-    let split : text ≡ taken ++ rest = is ∙ sym (append_assoc (decimal number) (stop_byte last ∷ []) rest) in
-    let size : n ≡ length taken = omega (arith, count, ap (λ (l : List ℕ). length l) split, length-append taken rest) in
     record {
       taken = taken;
+      is = is ∙ sym (append_assoc (decimal number) (stop_byte last ∷ []) rest);
+      line = numbers_more [] old 32 taken
+          ∙ ap (λ (l : List ℕ). codes "separators" ++ l) (one_more old number (stop_byte last ∷ []))
+          ∙ ap (λ (ns : List ℕ). numbers_then ns last) (sym pushed);
+      each = λ fits. subst (λ (ns : List ℕ). All (λ n. n < 2 ^ 64) ns) (sym pushed)
+          (All-push (λ m. m < 2 ^ 64) old number fits small);
+    }
+
+-- more of the line, and then still more of it
+pub more_then : (old mid new : List ℕ) (ended between last : Bool) (text next rest : List ℕ)
+    → AreMore old ended text mid between next → AreMore mid between next new last rest
+    → AreMore old ended text new last rest
+more_then old mid new ended between last text next rest more further = record {
+  taken = more.taken ++ further.taken;
+  is = more.is ∙ ap (λ (l : List ℕ). more.taken ++ l) further.is ∙ sym (append_assoc more.taken further.taken rest);
+  line = sym (append_assoc (numbers_then old ended) more.taken further.taken)
+      ∙ ap (λ (l : List ℕ). l ++ further.taken) more.line ∙ further.line;
+  each = λ fits. further.each (more.each fits);
+}
+
+-- the text after a separator is shorter
+pub after_shorter : (number : ℕ) (last : Bool) (text rest : List ℕ) → text ≡ decimal number ++ (stop_byte last ∷ rest)
+    → length rest < length text
+after_shorter number last text rest is =
+    omega (arith, ap (λ (l : List ℕ). length l) is, length-append (decimal number) (stop_byte last ∷ rest))
+
+pub more_shorter : (old new : List ℕ) (ended last : Bool) (text rest : List ℕ) → AreMore old ended text new last rest
+    → length rest ≤ length text
+more_shorter old new ended last text rest more =
+    omega (arith, ap (λ (l : List ℕ). length l) more.is, length-append more.taken rest)
+
+pub number_step : (old mid new : Draft) (first : FirstLines) (line : FirstLine) (last : Bool) (text rest : List ℕ)
+    (n : ℕ) → old.expected ≡ Number first line → mid.segments.items ≡ old.segments.items
+    → AreMore old.numbers.items false text mid.numbers.items last rest → length rest < length text
+    → ((past : List ℕ) → ReadOpening first mid.segments.items line past → All (λ n. n < 2 ^ 64) mid.numbers.items
+    → HasRead new (past ++ numbers_then mid.numbers.items last))
+    → n ≡ length text - length rest → IsConsumed old new text n
+number_step old mid new first line last text rest n expected segments more shorter goes count =
+    let size : n ≡ length more.taken =
+    omega (arith, count, ap (λ (l : List ℕ). length l) more.is, length-append more.taken rest) in
+    record {
+      taken = more.taken;
       rest = rest;
-      is = split;
+      is = more.is;
       count = size;
-      some = omega (arith, size, length-append (decimal number) (stop_byte last ∷ []));
+      some = omega (arith, count, shorter);
       follows = λ past follows.
           let to = read_to old (Number first line) past expected follows in
           let read : ReadOpening first mid.segments.items line to.before =
           subst (λ (ss : List SegmentLine). ReadOpening first ss line to.before) (sym segments) to.read in
-          let fits : All (λ n. n < 2 ^ 64) mid.numbers.items =
-          subst (λ (ns : List ℕ). All (λ n. n < 2 ^ 64) ns) (sym pushed)
-          (All-push (λ m. m < 2 ^ 64) old.numbers.items number to.each small) in
-          let more : HasRead new (to.before ++ numbers_then (old.numbers.items ++ number ∷ []) last) =
-          subst (λ (ns : List ℕ). HasRead new (to.before ++ numbers_then ns last)) pushed (goes to.before read fits) in
-          let shown : past ++ taken ≡ to.before ++ numbers_then (old.numbers.items ++ number ∷ []) last =
-          ap (λ (p : List ℕ). p ++ taken) to.is ∙ numbers_more to.before old.numbers.items 32 taken
-          ∙ ap (λ (l : List ℕ). to.before ++ (codes "separators" ++ l))
-          (one_more old.numbers.items number (stop_byte last ∷ [])) in
-          subst (λ (p : List ℕ). HasRead new p) (sym shown) more;
+          let shown : past ++ more.taken ≡ to.before ++ numbers_then mid.numbers.items last =
+          ap (λ (p : List ℕ). p ++ more.taken) to.is
+          ∙ append_assoc to.before (numbers_then old.numbers.items false) more.taken
+          ∙ ap (λ (l : List ℕ). to.before ++ l) more.line in
+          subst (λ (p : List ℕ). HasRead new p) (sym shown) (goes to.before read (more.each to.each));
     }
 
 -- one more segment was read

@@ -40,6 +40,13 @@ stop_byte last = cond last 10 32
 abbrev pub numbers_then : List ℕ → Bool → List ℕ
 numbers_then numbers last = codes "separators" ++ (flat_map (λ n. 32 ∷ decimal n) numbers ++ (stop_byte last ∷ []))
 
+-- the text before the rest is what makes the separators' line up to the old separators the line up to the new ones
+pub record AreMore (old : List ℕ) (ended : Bool) (text new : List ℕ) (last : Bool) (rest : List ℕ) : Type 0 where
+  pub taken : List ℕ
+  pub is : text ≡ taken ++ rest
+  pub line : numbers_then old ended ++ taken ≡ numbers_then new last
+  pub each : All (λ n. n < 2 ^ 64) old → All (λ n. n < 2 ^ 64) new
+
 -- the lines before the segments and the lines of these segments
 pub record ReadSegments (first : FirstLines) (segments : List SegmentLine) (past : List ℕ) : Type 0 where
   pub is_first : IsFirst (bytes_of first.length) first.tolerance first.counts

@@ -1,9 +1,9 @@
 //! A report that is read as its text comes.
-ghost use Rattle.std.specs.Prelude.{◌≡◌, ◌<◌, ◌+◌, ◌*◌, ◌^◌, ◌++◌, ◌∷◌, [], ℕ, List, Bool, All, IfOk, IfErr, IfSome, IsSomeAnd, SomeIff, OnOk, length, codes};
+ghost use Rattle.std.specs.Prelude.{◌≡◌, ◌≢◌, ◌<◌, ◌+◌, ◌*◌, ◌^◌, ◌++◌, ◌∷◌, [], ℕ, List, Bool, All, IfOk, IfErr, IfSome, IsSomeAnd, SomeIff, OnOk, false, length, codes};
 ghost use Rattle.std.specs.Fmt.{decimal};
 ghost use Rattle.msr_report.specs.Proper.{records_in};
 ghost use Rattle.msr_report_reader.specs.Content.{lines_before};
-ghost use Rattle.msr_report_reader.specs.Draft.{HasRead, IsDraftStep, IsLineRefused, ReadOpening, numbers_then, stop_byte};
+ghost use Rattle.msr_report_reader.specs.Draft.{AreMore, HasRead, IsDraftStep, IsLineRefused, ReadOpening, numbers_then, stop_byte};
 ghost use Rattle.msr_report_reader.specs.LastLine.{IsLast};
 ghost use Rattle.msr_report_reader.specs.Reading.{IsReadFrom};
 ghost use Rattle.msr_report_reader.specs.TextFault.{IsTextFault};
@@ -94,6 +94,7 @@ fn separators_word(text: &[u8]) -> Option<(bool, &[u8])>
 }
 
 /// A separator.
+#[inline(always)]
 fn separator(text: &[u8]) -> Option<(u64, bool, &[u8])>
     ensures found { IfSome result (λ x. text.now ≡ decimal x.0 ++ (stop_byte x.1 ∷ x.2.now)) }
     ensures only { (n : ℕ) (last : Bool) (rest : List ℕ) → n < 2 ^ 64
@@ -103,6 +104,30 @@ fn separator(text: &[u8]) -> Option<(u64, bool, &[u8])>
     let (n, text) = number(text)?;
     let (last, text) = stop(text)?;
     Some((n, last, text))
+}
+
+/// Reads the separators that stand whole at the start of the text, unless the one before them ended the line. Answers
+/// whether the line has ended, and the text after them.
+fn more_separators<'a>(
+    numbers: &mut Vec<u64>,
+    ended: bool,
+    text: &'a [u8],
+) -> Result<(bool, &'a [u8]), AllocError>
+    ensures read { IfOk result (λ x. AreMore numbers.old.items ended text.now numbers.new.items x.0 x.1.now) }
+    ensures all { IfOk result (λ x. x.0 ≡ false → (n : ℕ) (last : Bool) (rest : List ℕ) → n < 2 ^ 64
+        → x.1.now ≢ decimal n ++ (stop_byte last ∷ rest)) }
+{
+    let mut last = ended;
+    let mut rest = text;
+    'separators: while !last {
+        let Some((n, ends, more)) = separator(rest) else {
+            return Ok((last, rest));
+        };
+        numbers.push(n)?;
+        last = ends;
+        rest = more;
+    }
+    Ok((last, rest))
 }
 
 /// How many records the segments have in all, if that fits 64 bits.
@@ -150,7 +175,7 @@ impl Draft {
         1 + lines_before(first.kinds) + 2 * segments.len() as u64
     }
 
-    /// Reads what the text begins with: the lines before the segments, another line, or a word of the separators' line.
+    /// Reads what the text begins with: the lines before the segments, another line, or words of the separators' line.
     pub(crate) fn step(&mut self, text: &[u8]) -> Result<Progress, ReportFault>
         ensures { IsDraftStep self.old self.new text.now result }
     {
@@ -158,7 +183,7 @@ impl Draft {
             Expected::Start => self.read_first(text),
             Expected::Segment(first) => self.read_segment(first, text),
             Expected::Separators(first, line) => self.read_word(first, line, text),
-            Expected::Number(first, line) => self.read_number(first, line, text),
+            Expected::Number(first, line) => self.read_numbers(first, line, text),
             Expected::End(first) => self.read_nothing(first, text),
         }
     }
@@ -209,8 +234,8 @@ impl Draft {
         Ok(Progress::Consumed(text.len() - rest.len()))
     }
 
-    /// Reads a separator.
-    fn read_number(
+    /// Reads the separators that stand whole at the start of the text: a report may have one for each of many records.
+    fn read_numbers(
         &mut self,
         first: FirstLines,
         line: FirstLine,
@@ -222,6 +247,7 @@ impl Draft {
             return refuse(text, may_be_number(text), 1 + self.line_after(first));
         };
         self.numbers.push(n)?;
+        let (last, rest) = more_separators(&mut self.numbers, last, rest)?;
         self.go_on(first, line, last)?;
         Ok(Progress::Consumed(text.len() - rest.len()))
     }

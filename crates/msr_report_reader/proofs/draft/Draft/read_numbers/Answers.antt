@@ -1,11 +1,11 @@
-use Rattle.std.proofs.Common.{refl, rules, arith, List, ◌+◌, ◌*◌, ◌++◌, length}
+use Rattle.std.proofs.Common.{refl, rules, arith, false, ℕ, List, ◌+◌, ◌*◌, ◌++◌, length}
 use Rattle.msr_report.specs.declared.report.SegmentLine.{SegmentLine}
 use Rattle.msr_report_reader.specs.declared.draft.Draft.{Draft}
 use Rattle.msr_report_reader.specs.Content.{lines_before}
 use Rattle.msr_report_reader.specs.declared.draft.Expected.TheVariants.{Number}
 use Rattle.msr_report_reader.proofs.Faults.{at_number, number_fault}
-use Rattle.msr_report_reader.proofs.Steps.{number_step, read_to, refused}
-use Rattle.msr_report_reader.proofs.draft.Draft.read_number.Goals as goal
+use Rattle.msr_report_reader.proofs.Steps.{after_shorter, more_shorter, more_then, number_step, one_read, read_to, refused}
+use Rattle.msr_report_reader.proofs.draft.Draft.read_numbers.Goals as goal
 
 pub returns-in_default : goal.returns-in_default
 returns-in_default c = λ expected.
@@ -20,12 +20,20 @@ returns-in_default c = λ expected.
 
 pub returns : goal.returns
 returns c = λ expected.
+    let numbers : List ℕ = c.args.self.now.numbers.items in
     let mid : Draft = record {
       alloc = c.args.self.now.alloc;
       expected = c.args.self.now.expected;
       segments = c.args.self.now.segments;
-      numbers = c.push.new.self;
+      numbers = c.more_separators.new.numbers;
     } in
-    number_step c.args.self.now mid c.go_on.new.self c.args.first c.args.line c.in-Some.n c.in-Some.last
-    c.args.text.now c.in-Some.rest.now _ expected refl c.in_ok-push.ensures.items (search rules) c.in_ok-go_on.ensures
-    c.in-Some.ensures.found refl
+    let one = one_read numbers c.push.new.self.items c.in-Some.n c.in-Some.last c.args.text.now c.in-Some.rest.now
+    c.in_ok-push.ensures.items (search rules) c.in-Some.ensures.found in
+    let less = after_shorter c.in-Some.n c.in-Some.last c.args.text.now c.in-Some.rest.now c.in-Some.ensures.found in
+    let least = more_shorter c.push.new.self.items mid.numbers.items c.in-Some.last c.in_ok-last.last c.in-Some.rest.now
+    c.in_ok-last.rest.now c.in_ok-last.ensures.read in
+    number_step c.args.self.now mid c.go_on.new.self c.args.first c.args.line c.in_ok-last.last c.args.text.now
+    c.in_ok-last.rest.now _ expected refl
+    (more_then numbers c.push.new.self.items mid.numbers.items false c.in-Some.last c.in_ok-last.last c.args.text.now
+    c.in-Some.rest.now c.in_ok-last.rest.now one c.in_ok-last.ensures.read)
+    (omega (arith, less, least)) c.in_ok-go_on.ensures refl
