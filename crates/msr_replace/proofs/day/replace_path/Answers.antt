@@ -20,8 +20,8 @@ returns-in_err-stamp g c =
     let p = err_from_is_err_and c.from_residual-in_err-stamp.result c.from_residual-in_err-stamp.ensures.1 in
     rw (p.1, p.2) (replaced_none (names_in c.args.work.now c.args.path.now) (stamp_in c.args.work.now c.args.path.now) c.args.work.now (report_in c.args.work.now c.args.path.now) _)
 
-pub replace_stamped-requires-stamp : goal.replace_stamped-requires-stamp
-replace_stamped-requires-stamp g c =
+pub replace_stamped-requires-clause-stamp : goal.replace_stamped-requires-clause-stamp
+replace_stamped-requires-clause-stamp g c =
     let work = c.args.work.now in
     rw (c.in_ok-names.ensures.names, c.in_ok-stamp.ensures) (are_stamp_names work.root.now work.out.now work.aside.now work.reports.now c.args.path.now c.requires.day.0 c.requires.day.1)
 
