@@ -1,5 +1,5 @@
 -- How the stamp of a day is given, and what a crash leaves of it meanwhile.
-use Rattle.std.proofs.Common.{◌≡◌, ◌&&◌, ◌⊎◌, inl, inr, ⊎_elim, ℕ, Bool, true, false, List, [], ◌∷◌, ◌++◌, length, Option, None, Some, IfSome, IsSomeAnd, Result, Ok, Err, option_map, refl, sym, ◌∙◌, ap, subst}
+use Rattle.std.proofs.Common.{◌≡◌, ◌&&◌, inl, inr, ⊎_elim, ℕ, Bool, true, false, List, [], ◌∷◌, ◌++◌, length, Option, None, Some, IfSome, IsSomeAnd, Result, Ok, Err, option_map, refl, sym, ◌∙◌, ap, subst}
 use Rattle.std.specs.Str.{bytes_eq}
 use Rattle.std.proofs.lemmas.Bool.{cases_Bool}
 use Rattle.std.proofs.lemmas.Slice.Eq.{bytes_eq-Decides}
@@ -64,9 +64,9 @@ module _ (name : Path) (Is : (text : List ℕ) → Type 0) where
   does_texts step (Err fault.Memory) p q leaves_it does = subst (λ (l : List Step). AddsTexts name Is p l) (sym does) (nothing_texts p)
   does_texts step (Err fault.Failed) p q leaves_it does =
       let left : AddsTexts name Is p does.0 = ⊎_elim
-          (λ same. subst (λ (l : List Step). AddsTexts name Is p l) (sym same) (nothing_texts p))
-          (λ done. subst (λ (l : List Step). AddsTexts name Is p l) (sym done) (step_texts step p leaves_it))
-          does.1 in
+      (λ same. subst (λ (l : List Step). AddsTexts name Is p l) (sym same) (nothing_texts p))
+      (λ done. subst (λ (l : List Step). AddsTexts name Is p l) (sym done) (step_texts step p leaves_it))
+      does.1 in
       subst (λ (l : List Step). AddsTexts name Is p l) (sym does.2) (texts_then p does.0 (Failed ∷ does.0) left (failed_texts does.0))
 
 -- the name of what is ready

@@ -165,12 +165,7 @@ fn are_gone<T: Tree>(tree: &mut T, names: &DayNames) -> bool
 }
 
 /// The stamp of a day becomes that of the records in ROOT, if ASIDE has its original, and OUT has none.
-pub fn stamp_records<T: Tree>(
-    tree: &mut T,
-    alloc: Global,
-    names: &DayNames,
-    stamp: &StampNames,
-)
+pub fn stamp_records<T: Tree>(tree: &mut T, alloc: Global, names: &DayNames, stamp: &StampNames)
     ensures { Goes (T.went tree.old) (T.went tree.new) (StampsRecords names.now stamp.now) }
 {
     if !are_gone(tree, names) {
