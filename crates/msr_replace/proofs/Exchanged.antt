@@ -1,8 +1,8 @@
 -- A day whose files have changed places is stamped.
-use Rattle.std.proofs.Common.{◌≡◌, inl, inr, ⊎_elim, ℕ, false, List, [], ◌∷◌, Option, Some, Result, Ok, Err, IfOk, refl, sym, ◌∙◌, subst}
+use Rattle.std.proofs.Common.{◌≡◌, inl, inr, ⊎_elim, ℕ, false, List, [], Some, refl, sym, ◌∙◌, subst}
 use Rattle.std.specs.Str.{bytes_eq}
 use Rattle.msr_tree.specs.Calls.{Goes}
-use Rattle.msr_tree.specs.Steps.{AtEachMoment, ChangesOnly, IsNoneOf, Leaves, Path, Step, now, seen}
+use Rattle.msr_tree.specs.Steps.{AtEachMoment, ChangesOnly, IsNoneOf, Leaves, Path, Step, seen}
 use Rattle.msr_tree.specs.declared.tree.TreeFault.{TreeFault}
 use Rattle.msr_tree.specs.declared.tree.TreeFault.TheVariants as fault
 use Rattle.msr_tree.proofs.Acting.{giving, goes_as, stopping}
@@ -11,14 +11,14 @@ use Rattle.msr_tree.proofs.Moments.{at_end, joined}
 use Rattle.msr_stamp.specs.declared.stamp.StampOf.TheVariants as stamped
 use Rattle.msr_stamp.proofs.Begun.{goes_both}
 use Rattle.msr_exchange.specs.Names.{AreStampNames, Names, StampPlaces, all, path_at}
-use Rattle.msr_exchange.specs.Promise.{AreKept, IsUnderEither, KeepsBoth, LeavesAlone}
+use Rattle.msr_exchange.specs.Promise.{IsUnderEither, KeepsBoth, LeavesAlone}
 use Rattle.msr_exchange.specs.declared.names.Place.{Place}
 use Rattle.msr_exchange.specs.declared.names.Place.TheVariants.{Day, DayPart, Original, OriginalPart, Records, RecordsPart, Note, NotePart}
 use Rattle.msr_exchange.specs.declared.work.DayWork.{DayWork}
 use Rattle.msr_exchange.proofs.Alone.{alone_moments}
 use Rattle.msr_exchange.proofs.Back.{waits_moments}
 use Rattle.msr_exchange.proofs.Phases.{quiet_moments}
-use Rattle.msr_replace.specs.Answers.{Exchanges, IsInPlaceOf, Means, Replaces}
+use Rattle.msr_replace.specs.Answers.{Exchanges, Means, Replaces}
 use Rattle.msr_replace.specs.Restored.{PutsBackDay, RestoresDay}
 use Rattle.msr_exchange.specs.Stamped.{LeavesStamp, StampsRecords, all_and_stamp, stamp_names}
 use Rattle.msr_replace.specs.Stamping.{StampsRestored}

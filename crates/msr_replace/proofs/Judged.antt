@@ -1,9 +1,9 @@
 -- What is known of a day while nothing is done, and what is told of it in the end.
-use Rattle.std.proofs.Common.{◌≡◌, ◌≢◌, inl, inr, ⊎_elim, ◌<◌, ◌≤◌, ℕ, Bool, true, false, ◌&&◌, ◌⊎◌, if◌then◌else◌, leb, List, [], ◌∷◌, length, Option, None, Some, IsSome, is_some, IsSomeAnd, IfSome, Result, Ok, Err, IfOk, IsErrOf, option_map, refl, sym, ◌∙◌, ap, subst, arith}
+use Rattle.std.proofs.Common.{◌≡◌, inl, inr, ⊎_elim, ℕ, Bool, true, false, ◌&&◌, ◌⊎◌, if◌then◌else◌, leb, List, [], length, Option, None, Some, IsSomeAnd, IfSome, Result, Ok, Err, IfOk, IsErrOf, option_map, refl, sym, ◌∙◌, ap, subst, arith}
 use Rattle.std.proofs.lemmas.Bool.{leb-true}
 use Rattle.msr_tree.specs.Acts.{Acts}
 use Rattle.msr_tree.specs.Calls.{Goes, Looks}
-use Rattle.msr_tree.specs.Steps.{AtEachMoment, ChangesOnly, File, Leaves, Path, Step, now, seen}
+use Rattle.msr_tree.specs.Steps.{ChangesOnly, File, Path, Step, now, seen}
 use Rattle.msr_tree.specs.declared.facts.Facts.{Facts}
 use Rattle.msr_tree.specs.declared.tree.TreeFault.{TreeFault}
 use Rattle.msr_tree.specs.declared.tree.TreeFault.TheVariants as fault
@@ -13,12 +13,12 @@ use Rattle.msr_tree.proofs.Moments.{at_end, joined}
 use Rattle.msr_verify.specs.declared.judging.Finding.{Finding}
 use Rattle.msr_verify.specs.declared.judging.Finding.TheVariants as finding
 use Rattle.msr_verify.specs.declared.judging.VerifyFault.{VerifyFault}
-use Rattle.msr_replace.specs.Answers.{Exchanges, HaveBytes, HaveInt24, IsFoundDay, IsRefusedFor, IsReplaced, IsShownItself, IsToldDay, IsVerifiedDay, Means, replaced_of}
+use Rattle.msr_replace.specs.Answers.{Exchanges, HaveBytes, HaveInt24, IsFoundDay, IsRefusedFor, IsToldDay, IsVerifiedDay, Means, replaced_of}
 use Rattle.msr_replace.specs.Restored.{refusal_of}
-use Rattle.msr_replace.specs.Judging.{HaveLengths, IsOpenedDay, JudgesReplaceable, JudgesKinds, JudgesMissing, JudgesSeen, JudgesWhole, LackInt24, ShowsItself, TellsKinds, verified_of}
+use Rattle.msr_replace.specs.Judging.{HaveLengths, IsOpenedDay, JudgesReplaceable, JudgesKinds, JudgesMissing, JudgesSeen, JudgesWhole, LackInt24, TellsKinds, verified_of}
 use Rattle.msr_replace.specs.Kinds.{LacksInt24}
-use Rattle.msr_replace.specs.Looks.{AreOfNames, AreWhole, AsksYoung, IsSeenDay, RefusesByNames, SortsAs, is_of_names}
-use Rattle.msr_exchange.specs.Names.{Names, all, path_at}
+use Rattle.msr_replace.specs.Looks.{AreOfNames, AsksYoung, IsSeenDay, RefusesByNames, is_of_names}
+use Rattle.msr_exchange.specs.Names.{Names, all}
 use Rattle.msr_exchange.specs.Promise.{AreKept, KeepsAll, KeepsBoth, Says}
 use Rattle.msr_replace.specs.declared.answers.DayAnswer.{DayAnswer}
 use Rattle.msr_replace.specs.declared.answers.DayAnswer.TheVariants as answer
@@ -27,9 +27,8 @@ use Rattle.msr_replace.specs.declared.answers.DayRefusal.TheVariants as said
 use Rattle.msr_replace.specs.declared.day.Judged.{Judged}
 use Rattle.msr_replace.specs.declared.day.Judged.TheVariants as judged
 use Rattle.msr_replace.specs.declared.looks.Looked.{Looked}
-use Rattle.msr_replace.specs.declared.looks.Sorted.TheVariants as sorted
 use Rattle.msr_exchange.specs.declared.moves.Hindrance.TheVariants as hindrance
-use Rattle.msr_exchange.specs.declared.names.Place.TheVariants.{Day, Original, Records}
+use Rattle.msr_exchange.specs.declared.names.Place.TheVariants.{Original, Records}
 use Rattle.msr_exchange.specs.declared.preparing.Verified.{Verified}
 use Rattle.msr_exchange.specs.declared.told.Refusal.{Refusal}
 use Rattle.msr_exchange.specs.declared.told.Refusal.TheVariants as refusal

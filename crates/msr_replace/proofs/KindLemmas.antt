@@ -1,12 +1,10 @@
 -- Records beside their kinds.
-use Rattle.std.proofs.Common.{◌≡◌, ◌<◌, ℕ, zero, suc, List, [], ◌∷◌, ◌++◌, length, All, refl, sym, ◌∙◌, ap, subst, arith}
-use Rattle.std.proofs.lemmas.List.{append-nil}
+use Rattle.std.proofs.Common.{◌≡◌, zero, suc, List, [], ◌∷◌, ◌++◌, All, ap, subst, arith}
 use Rattle.std.proofs.lemmas.List.Elements.{All-append}
-use Rattle.msr_devices.specs.Device.{Device, HasLeft}
+use Rattle.msr_devices.specs.Device.{Device}
 use Rattle.msr_devices.proofs.Chaining.{left_of}
 use Rattle.msr_input.specs.Input.{BeginsWith}
-use Rattle.msr_input.specs.Rows.{HasReadRows, ReadsNone, RowReading, answer_told, row_told}
-use Rattle.msr_input.specs.declared.row_reader.NextRecord.{NextRecord}
+use Rattle.msr_input.specs.Rows.{HasReadRows, ReadsNone, RowReading}
 use Rattle.msr_rows.specs.declared.row.Record.{Record}
 use Rattle.msr_segments.specs.declared.follow.Step.{Step}
 use Rattle.msr_replace.specs.Kinds.{HasInt24Row, HasOtherKind, HoldsLeft, LacksLeft}

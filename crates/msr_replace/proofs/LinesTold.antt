@@ -1,12 +1,11 @@
 -- Walks put together from the entries that were told.
-use Rattle.std.proofs.Common.{ap, codes, ◌≡◌, ◌↔◌, ℕ, Bool, true, false, List, [], ◌∷◌, ◌++◌, refl, sym, subst, take, drop, Option, None, Some, String, Result, Ok, Err, IfErr, IsErrOf, OnOk}
+use Rattle.std.proofs.Common.{ap, codes, ◌≡◌, ℕ, Bool, true, false, List, [], ◌∷◌, ◌++◌, refl, sym, take, drop, Option, String, Ok, Err}
 use Rattle.std.specs.List.{AllByRecursion}
-use Rattle.std.specs.String.{string_bytes}
-use Rattle.std.proofs.lemmas.List.{append-nil, take-append-drop}
-use Rattle.msr_devices.specs.Device.{Device, HasFailed, Takes}
+use Rattle.std.proofs.lemmas.List.{take-append-drop}
+use Rattle.msr_devices.specs.Device.{Device, Takes}
 use Rattle.msr_devices.specs.declared.fault.DeviceFault.{DeviceFault}
 use Rattle.msr_devices.specs.declared.fault.DeviceFault.TheVariants.{Failed, Memory}
-use Rattle.msr_devices.proofs.Chaining.{takes_append, takes_none, calm_same, steady_sound}
+use Rattle.msr_devices.proofs.Chaining.{takes_append, calm_same}
 use Rattle.msr_folders.specs.Found.{Finds}
 use Rattle.msr_folders.specs.Visits.{IsWalk, StopsAt, StopsPrefix}
 use Rattle.msr_folders.specs.declared.found.WalkFound.{WalkFound}
@@ -14,11 +13,10 @@ use Rattle.msr_folders.proofs.VisitLemmas as visits
 use Rattle.msr_folders.proofs.VisitLemmas.{part_none}
 use Rattle.msr_folders.proofs.WalkLemmas as walks
 use Rattle.msr_report.specs.Writing.{TakesPrefix}
-use Rattle.msr_replace.specs.Entries.{ExchangeEntry, IsExchangeEntry, IsExchangeEntryLine, IsExchangeOf, IsStoppedAt, IsExchangeTally, exchange_count, entry_of, has_failed, is_word}
+use Rattle.msr_replace.specs.Entries.{ExchangeEntry, IsExchangeEntry, IsExchangeEntryLine, IsStoppedAt, IsExchangeTally, exchange_count, has_failed, is_word}
 use Rattle.msr_replace.specs.Lines.{bytes_text}
-use Rattle.msr_replace.specs.Sums.{count_kept, replace_words, sum_text, sums_text, exchange_summary, tally_line, undo_words}
-use Rattle.msr_replace.specs.Walk.{HasCome, Prints, ReplacesDays, StopsTellingExchanges, TellsFound, TellsExchanges}
-use Rattle.msr_replace.specs.declared.lines.Outcome.{Outcome}
+use Rattle.msr_replace.specs.Sums.{count_kept, replace_words, sums_text, exchange_summary, tally_line, undo_words}
+use Rattle.msr_replace.specs.Walk.{HasCome, ReplacesDays, StopsTellingExchanges, TellsFound, TellsExchanges}
 use Rattle.msr_replace.specs.declared.words.Word.{Word}
 use Rattle.msr_replace.specs.declared.progress.Progress.{Progress}
 use Rattle.msr_replace.specs.declared.tally.Tally.{Tally}

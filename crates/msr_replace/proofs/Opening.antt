@@ -1,10 +1,10 @@
 -- Opening the files of a day one after another, and what they show.
-use Rattle.std.proofs.Common.{◌≡◌, ℕ, Bool, true, false, List, [], Option, None, Some, Result, Ok, Err, refl, sym, ◌∙◌, subst}
-use Rattle.msr_devices.specs.Device.{Device, HasLeft}
+use Rattle.std.proofs.Common.{◌≡◌, Bool, true, false, List, [], Option, Some, Result, Ok, Err, sym, ◌∙◌, subst}
+use Rattle.msr_devices.specs.Device.{Device}
 use Rattle.msr_input.specs.declared.fault.ReadFault.{ReadFault}
 use Rattle.msr_tree.specs.Acts.{Acts}
 use Rattle.msr_tree.specs.Calls.{Goes}
-use Rattle.msr_tree.specs.Steps.{ChangesOnly, Path, Step, seen}
+use Rattle.msr_tree.specs.Steps.{ChangesOnly, Path, Step}
 use Rattle.msr_tree.specs.declared.tree.TreeFault.{TreeFault}
 use Rattle.msr_tree.proofs.Acting.{giving, stopped_as, stopping}
 use Rattle.msr_tree.proofs.Changes.{seen_kept}
@@ -12,18 +12,15 @@ use Rattle.msr_verify.specs.Day.{VerifiesDay}
 use Rattle.msr_verify.specs.declared.judging.Finding.{Finding}
 use Rattle.msr_verify.specs.declared.judging.Finding.TheVariants as finding
 use Rattle.msr_verify.specs.declared.judging.VerifyFault.{VerifyFault}
-use Rattle.msr_replace.specs.Answers.{HaveInt24, IsFoundDay, IsRefusedFor}
-use Rattle.msr_replace.specs.Judging.{FindsOpen, IsLeastIf, IsOpenedDay, IsOpenedBeside, IsOpenedBy, IsOwnLeast, LackInt24, LeastOf, ReadsName, ShowsItself, ShowsItselfBy, TellsKinds, kinds_refusal, opened_as_found}
+use Rattle.msr_replace.specs.Answers.{IsFoundDay}
+use Rattle.msr_replace.specs.Judging.{FindsOpen, IsOpenedDay, IsOpenedBeside, IsOwnLeast, ReadsName, TellsKinds, kinds_refusal, opened_as_found}
 use Rattle.msr_replace.specs.Kinds.{HoldsInt24, LacksInt24, TellsInt24}
 use Rattle.msr_exchange.specs.Names.{Names}
-use Rattle.msr_replace.specs.declared.answers.DayAnswer.TheVariants.{Refused}
-use Rattle.msr_replace.specs.declared.answers.DayRefusal.{DayRefusal}
-use Rattle.msr_replace.specs.declared.answers.DayRefusal.TheVariants as said
 use Rattle.msr_replace.specs.declared.verifying.Opened.{Opened}
 use Rattle.msr_replace.specs.declared.verifying.Opened.TheVariants as opened
 use Rattle.msr_exchange.specs.declared.work.DayWork.{DayWork}
 use Rattle.msr_replace.proofs.Judged.{found_sooner, told_after, told_sooner, told_then}
-use Rattle.msr_replace.proofs.Reading.{found_by, left_is, least_by, reads_later, reads_of}
+use Rattle.msr_replace.proofs.Reading.{found_by, left_is, reads_of}
 
 -- a file that is opened under a name
 module _ {R : Type 0} (device : R → Device) (given : Path) where

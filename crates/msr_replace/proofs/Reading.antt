@@ -1,12 +1,12 @@
 -- What is read under the names of a day.
-use Rattle.std.proofs.Common.{◌≡◌, ℕ, List, [], Option, None, Some, Result, Ok, Err, refl, sym, ◌∙◌, ap, subst}
+use Rattle.std.proofs.Common.{◌≡◌, ℕ, List, [], Option, None, Some, Result, Ok, sym, ◌∙◌, subst}
 use Rattle.msr_devices.specs.Device.{Device, HasLeft, unused}
 use Rattle.msr_tree.specs.Acts.{Acts}
 use Rattle.msr_tree.specs.Calls.{Goes, Opens, Tells}
 use Rattle.msr_tree.specs.declared.tree.TreeFault.{TreeFault}
 use Rattle.msr_tree.specs.declared.tree.TreeFault.TheVariants as fault
 use Rattle.msr_tree.proofs.Acting.{acts_tells, giving, goes_as, stopping}
-use Rattle.msr_tree.specs.Steps.{ChangesOnly, Path, Step, seen}
+use Rattle.msr_tree.specs.Steps.{ChangesOnly, Path, Step}
 use Rattle.msr_tree.proofs.Changes.{seen_kept}
 use Rattle.msr_verify.specs.Day.{DayAnswers, IsShownLeast, VerifiesDay}
 use Rattle.msr_verify.specs.declared.judging.Finding.{Finding}

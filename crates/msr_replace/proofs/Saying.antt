@@ -1,29 +1,29 @@
 -- What is said on a walk, visit by visit.
-use Rattle.std.proofs.Common.{◌≡◌, ◌<◌, inl, inr, ℕ, Bool, true, false, List, [], ◌∷◌, ◌++◌, refl, sym, ◌∙◌, ap, subst, append_assoc, arith, Option, None, Some, is_some, String, Result, Ok, Err, IfErr, OnOk}
+use Rattle.std.proofs.Common.{◌≡◌, ◌<◌, inl, inr, ℕ, true, false, List, [], ◌∷◌, ◌++◌, refl, ◌∙◌, ap, subst, arith, Option, None, Some, is_some, String, Result, Ok, Err}
 use Rattle.std.specs.Borrow.{Bor}
 use Rattle.std.specs.List.{AllByRecursion}
 use Rattle.msr_devices.specs.Device.{Device, Takes}
 use Rattle.msr_devices.proofs.Chaining.{takes_append}
 use Rattle.msr_devices.specs.declared.fault.DeviceFault.{DeviceFault}
 use Rattle.msr_exchange.specs.declared.work.DayWork.{DayWork}
-use Rattle.msr_folders.proofs.StoppingLemmas.{later_still, later_then, not_both, until_line, until_more, until_none, until_stopped}
+use Rattle.msr_folders.proofs.StoppingLemmas.{later_still, not_both, until_line, until_more, until_none, until_stopped}
 use Rattle.msr_folders.proofs.VisitLemmas.{these_one}
 use Rattle.msr_folders.proofs.WalkedLemmas.{goes_none, goes_so, goes_then}
 use Rattle.msr_folders.specs.Entries.{AreEntriesBetween, Visit}
-use Rattle.msr_folders.specs.Stopping.{ComesAfter, entries_of}
+use Rattle.msr_folders.specs.Stopping.{ComesAfter}
 use Rattle.msr_folders.specs.Visits.{IsWalk}
-use Rattle.msr_folders.specs.Walks.{TellsVisit, TellsWalk, VisitDoes, VisitLaws}
+use Rattle.msr_folders.specs.Walks.{TellsVisit, TellsWalk}
 use Rattle.msr_folders.specs.declared.found.WalkFound.{WalkFound}
 use Rattle.msr_options.specs.declared.task.Replacing.{Replacing}
 use Rattle.msr_tree.specs.Calls.{Goes, Tells}
-use Rattle.msr_tree.specs.Steps.{ChangesOnly, Failed, Path, Step, Unlisted, failures}
+use Rattle.msr_tree.specs.Steps.{ChangesOnly, Failed, Path, Step, failures}
 use Rattle.msr_tree.specs.declared.tree.TreeFault.{TreeFault}
 use Rattle.msr_tree.specs.declared.tree.TreeFault.TheVariants as fault
 use Rattle.msr_replace.specs.Entries.{ExchangeEntry, IsExchangeEntry, IsExchangeEntryLine, IsExchangeOf, IsExchangeTally, IsStoppedAt, entry_of, has_failed}
-use Rattle.msr_replace.specs.Said.{Does, IsCourse, IsSaid, IsSaidGoing, Said, TellsSaid, only_line, walked}
+use Rattle.msr_replace.specs.Said.{Does, IsSaid, IsSaidGoing, Said, TellsSaid, only_line, walked}
 use Rattle.msr_replace.specs.Sums.{exchange_summary}
 use Rattle.msr_replace.specs.Tree.{IsWorkOf, ReplacesTree, TellsCourses}
-use Rattle.msr_replace.specs.Walk.{HasCome, Prints, StopsTellingExchanges, TellsFound}
+use Rattle.msr_replace.specs.Walk.{HasCome, Prints, TellsFound}
 use Rattle.msr_replace.specs.declared.lines.Outcome.{Outcome}
 use Rattle.msr_replace.specs.declared.progress.Progress.{Progress}
 use Rattle.msr_replace.specs.declared.replacer.Course.{Course}

@@ -1,5 +1,5 @@
 -- A day is stamped, or not, by what is told of it.
-use Rattle.std.proofs.Common.{◌≡◌, ◌≢◌, List, refl}
+use Rattle.std.proofs.Common.{◌≢◌, List, refl}
 use Rattle.msr_tree.specs.Calls.{Goes}
 use Rattle.msr_tree.specs.Steps.{Step}
 use Rattle.msr_tree.proofs.Acting.{goes_as}

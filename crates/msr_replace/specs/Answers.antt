@@ -1,5 +1,5 @@
 -- What is told of a day, and what it says of the files under its names.
-use Rattle.std.specs.Prelude.{◌<◌, ◌≤◌, ◌≡◌, ◌⊎◌, ℕ, Bool, true, List, length, Option, None, Some, Result, Ok, Err, IfOk, IsErrOf, IsSome, ◌++◌, codes}
+use Rattle.std.specs.Prelude.{◌<◌, ◌≤◌, ◌≡◌, ◌⊎◌, ℕ, true, List, length, None, Some, Result, Ok, Err, IfOk, IsErrOf, IsSome, ◌++◌, codes}
 use Rattle.msr_tree.specs.Steps.{AtEachMoment, ChangesOnly, Leaves, Path, Step, failures, now, seen}
 use Rattle.msr_tree.specs.declared.tree.TreeFault.{TreeFault}
 use Rattle.msr_tree.specs.declared.tree.TreeFault.TheVariants.{Failed}
@@ -9,7 +9,7 @@ use Rattle.msr_verify.specs.declared.judging.Finding.TheVariants as finding
 use Rattle.msr_verify.specs.declared.judging.VerifyFault.{VerifyFault}
 use Rattle.msr_replace.specs.Kinds.{HoldsInt24, LacksInt24}
 use Rattle.msr_stamp.specs.declared.stamp.StampOf.TheVariants as stamped
-use Rattle.msr_exchange.specs.Names.{Names, StampPlaces, all, path_at, path_below}
+use Rattle.msr_exchange.specs.Names.{Names, StampPlaces, all, path_below}
 use Rattle.msr_replace.specs.Restored.{refusal_of}
 use Rattle.msr_exchange.specs.Stamped.{LeavesStamp, all_and_stamp}
 use Rattle.msr_exchange.specs.Promise.{AreKept, HaveChanged, KeepsBoth, LeavesAlone}

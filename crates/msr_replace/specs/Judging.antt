@@ -1,5 +1,5 @@
 -- What the bytes under the names of a day show.
-use Rattle.std.specs.Prelude.{◌≡◌, ◌≤◌, ℕ, Bool, true, false, ◌&&◌, List, Option, None, Some, Result, Ok, Err, if◌then◌else◌, leb, length, IsSomeAnd}
+use Rattle.std.specs.Prelude.{◌≡◌, ℕ, Bool, true, false, ◌&&◌, List, Option, None, Some, Result, Ok, Err, if◌then◌else◌, leb, length, IsSomeAnd}
 use Rattle.msr_devices.specs.Device.{Device, HasLeft, unused}
 use Rattle.msr_tree.specs.Calls.{Opens}
 use Rattle.msr_tree.specs.Steps.{Path, Step, now, seen}
@@ -18,12 +18,10 @@ use Rattle.msr_replace.specs.declared.looks.Sorted.TheVariants.{Missing}
 use Rattle.msr_exchange.specs.Names.{Names}
 use Rattle.msr_replace.specs.Kinds.{LacksInt24}
 use Rattle.msr_replace.specs.declared.answers.DayRefusal.{DayRefusal}
-use Rattle.msr_replace.specs.declared.answers.DayAnswer.{DayAnswer}
 use Rattle.msr_replace.specs.declared.answers.DayAnswer.TheVariants.{Larger, NotShown, Differs, Refused}
 use Rattle.msr_replace.specs.declared.answers.DayRefusal.TheVariants.{Fault, Int24, RecordsUnopened}
 use Rattle.msr_replace.specs.declared.day.Judged.{Judged}
 use Rattle.msr_replace.specs.declared.day.Judged.TheVariants as judged
-use Rattle.msr_exchange.specs.declared.preparing.Verified.{Verified}
 use Rattle.msr_replace.specs.declared.verifying.Opened.{Opened}
 use Rattle.msr_replace.specs.declared.verifying.Opened.TheVariants as opened
 use Rattle.msr_exchange.specs.declared.work.DayWork.{DayWork}

@@ -1,5 +1,5 @@
 -- What a walk to its end told of the folders, by what their names lead to.
-use Rattle.std.specs.Prelude.{◌<◌, ◌≡◌, ℕ, Bool, true, false, List, ◌++◌, Option, is_some, String}
+use Rattle.std.specs.Prelude.{◌≡◌, ℕ, Bool, true, false, List, ◌++◌, Option, is_some, String}
 use Rattle.std.specs.Borrow.{Bor}
 use Rattle.msr_devices.specs.Device.{Device, Takes}
 use Rattle.msr_exchange.specs.declared.work.DayWork.{DayWork}

@@ -1,9 +1,3 @@
-use Rattle.std.proofs.lemmas.Result.{err_from_is_err_and}
-use Rattle.std.proofs.Common.{[]}
-use Rattle.msr_tree.proofs.Acting.{stopped_as}
-use Rattle.msr_replace.specs.Judging.{IsOpenedDay, JudgesWhole}
-use Rattle.msr_replace.specs.declared.day.Judged.{Judged}
-use Rattle.msr_replace.specs.declared.verifying.Opened.{Opened}
 use Rattle.msr_replace.proofs.Judged.{whole_told, whole_verified}
 use Rattle.msr_replace.proofs.day.judge_files.Goals as goal
 

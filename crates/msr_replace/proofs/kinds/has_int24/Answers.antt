@@ -1,5 +1,4 @@
-use Rattle.std.proofs.Common.{[], ◌≡◌, true, false, subst, arith}
-use Rattle.msr_input.specs.Rows.{answer_told}
+use Rattle.std.proofs.Common.{[], subst, arith}
 use Rattle.msr_replace.specs.Kinds.{HasInt24Row, HasOtherKind, TellsOfRow}
 use Rattle.msr_replace.proofs.KindLemmas.{holds_one, lacks_all, sees_one}
 use Rattle.msr_replace.proofs.kinds.has_int24.Goals as goal

@@ -6,7 +6,7 @@ use Rattle.msr_replace.specs.Answers.{Replaces, report_in}
 use Rattle.msr_exchange.specs.Stamped.{all_and_stamp}
 use Rattle.msr_replace.specs.Said.{IsOfReplaced}
 use Rattle.msr_replace.specs.declared.lines.Outcome.{Outcome}
-use Rattle.msr_replace.specs.declared.lines.Outcome.TheVariants.{Day, DayFailed, Undone}
+use Rattle.msr_replace.specs.declared.lines.Outcome.TheVariants.{Day, DayFailed}
 use Rattle.msr_replace.proofs.Saying.{does_of, later_changes}
 use Rattle.msr_replace.proofs.visitor.replaced.Goals as goal
 

@@ -6,7 +6,7 @@ use Rattle.msr_replace.specs.Restored.{RestoresDay}
 use Rattle.msr_exchange.specs.Stamped.{all_and_stamp}
 use Rattle.msr_replace.specs.Said.{IsOfRestored}
 use Rattle.msr_replace.specs.declared.lines.Outcome.{Outcome}
-use Rattle.msr_replace.specs.declared.lines.Outcome.TheVariants.{Day, DayFailed, Undone}
+use Rattle.msr_replace.specs.declared.lines.Outcome.TheVariants.{DayFailed, Undone}
 use Rattle.msr_replace.proofs.Saying.{does_of, later_changes}
 use Rattle.msr_replace.proofs.visitor.restored.Goals as goal
 

@@ -1,5 +1,4 @@
 use Rattle.std.proofs.Common.{◌≡◌, inr, Ok, Err, Option, None}
-use Rattle.msr_folders.specs.Paths.{joined}
 use Rattle.msr_tree.specs.Calls.{Tells}
 use Rattle.msr_tree.specs.Listing.{is_there}
 use Rattle.msr_tree.specs.declared.tree.TreeFault.TheVariants as fault

@@ -1,4 +1,4 @@
-use Rattle.std.proofs.Common.{sym, subst, true, false, OnOk}
+use Rattle.std.proofs.Common.{subst, true, false, OnOk}
 use Rattle.msr_folders.proofs.WalkedLemmas.{on_ok_as}
 use Rattle.msr_replace.specs.Tree.{TellsCourses}
 use Rattle.msr_replace.proofs.Saying.{one_course}

@@ -1,6 +1,6 @@
-use Rattle.std.proofs.Common.{[], Some, None, refl}
+use Rattle.std.proofs.Common.{Some, None, refl}
 use Rattle.msr_folders.proofs.WalkedLemmas.{on_ok_as}
-use Rattle.msr_replace.specs.Said.{IsOfOther, other_outcome}
+use Rattle.msr_replace.specs.Said.{other_outcome}
 use Rattle.msr_replace.proofs.Saying.{none_said}
 use Rattle.msr_replace.proofs.replacer.Replacer.tell_other.Goals as goal
 

@@ -1,6 +1,5 @@
-use Rattle.std.proofs.Common.{◌≡◌, ◌∙◌, refl, sym}
+use Rattle.std.proofs.Common.{◌∙◌, refl, sym}
 use Rattle.msr_folders.proofs.WalkedLemmas.{on_ok_as}
-use Rattle.msr_folders.specs.Days.{IsNoDay}
 use Rattle.msr_folders.specs.Entries.{Entry}
 use Rattle.msr_verify.proofs.VisitedLemmas.{no_day}
 use Rattle.msr_replace.specs.Said.{said_of}

@@ -1,7 +1,4 @@
-use Rattle.std.proofs.lemmas.Result.{err_from_is_err_and}
-use Rattle.msr_replace.specs.declared.ways.Way.{Way}
-use Rattle.msr_replace.specs.declared.ways.Ways.{Ways}
-use Rattle.msr_replace.proofs.Quiet.{calm_quiet, calm_stopped, calm_then, calm_told, quiet_then}
+use Rattle.msr_replace.proofs.Quiet.{calm_quiet, quiet_then}
 use Rattle.std.proofs.Common.{[]}
 use Rattle.msr_replace.proofs.ways.Ways.of.Goals as goal
 
