@@ -74,7 +74,9 @@ fn stop(text: &[u8]) -> Option<(bool, &[u8])>
     ensures only { (last : Bool) (rest : List ℕ) → text.now ≡ stop_byte last ∷ rest
         → IsSomeAnd result (λ x. (x.0 ≡ last) × (x.1.now ≡ rest)) }
 {
-    let (first, rest) = text.split_first()?;
+    let Some((first, rest)) = text.split_first() else {
+        return None;
+    };
     if *first == b' ' {
         return Some((false, rest));
     }
@@ -101,8 +103,12 @@ fn separator(text: &[u8]) -> Option<(u64, bool, &[u8])>
         → text.now ≡ decimal n ++ (stop_byte last ∷ rest)
         → IsSomeAnd result (λ x. (x.0 ≡ n) × (x.1 ≡ last) × (x.2.now ≡ rest)) }
 {
-    let (n, text) = number(text)?;
-    let (last, text) = stop(text)?;
+    let Some((n, text)) = number(text) else {
+        return None;
+    };
+    let Some((last, text)) = stop(text) else {
+        return None;
+    };
     Some((n, last, text))
 }
 

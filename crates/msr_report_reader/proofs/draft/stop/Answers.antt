@@ -17,26 +17,26 @@ no_stop false first no_space no_feed is = no_space is
 
 pub returns-then-first-eq32-clause-found : goal.returns-then-first-eq32-clause-found
 returns-then-first-eq32-clause-found c =
-    c.in_ok-first.ensures.cases.0 ∙ ap (λ (b : ℕ). b ∷ c.in_ok-first.rest.now) c.if-first-eq32.true
+    c.in-Some.ensures.cases.0 ∙ ap (λ (b : ℕ). b ∷ c.in-Some.rest.now) c.if-first-eq32.true
 
 pub returns-then-first-eq32-clause-only : goal.returns-then-first-eq32-clause-only
 returns-then-first-eq32-clause-only c last rest is =
-    let both = same_cons c.in_ok-first.first.now (stop_byte last) c.in_ok-first.rest.now rest
-    (sym c.in_ok-first.ensures.cases.0 ∙ is) in
+    let both = same_cons c.in-Some.first.now (stop_byte last) c.in-Some.rest.now rest
+    (sym c.in-Some.ensures.cases.0 ∙ is) in
     (space_goes_on last (sym c.if-first-eq32.true ∙ both.0), both.1)
 
 pub returns-then-first-eq10-clause-found : goal.returns-then-first-eq10-clause-found
 returns-then-first-eq10-clause-found c =
-    c.in_ok-first.ensures.cases.0 ∙ ap (λ (b : ℕ). b ∷ c.in_ok-first.rest.now) c.if-first-eq10.true
+    c.in-Some.ensures.cases.0 ∙ ap (λ (b : ℕ). b ∷ c.in-Some.rest.now) c.if-first-eq10.true
 
 pub returns-then-first-eq10-clause-only : goal.returns-then-first-eq10-clause-only
 returns-then-first-eq10-clause-only c last rest is =
-    let both = same_cons c.in_ok-first.first.now (stop_byte last) c.in_ok-first.rest.now rest
-    (sym c.in_ok-first.ensures.cases.0 ∙ is) in
+    let both = same_cons c.in-Some.first.now (stop_byte last) c.in-Some.rest.now rest
+    (sym c.in-Some.ensures.cases.0 ∙ is) in
     (feed_ends last (sym c.if-first-eq10.true ∙ both.0), both.1)
 
 pub returns-clause-only : goal.returns-clause-only
 returns-clause-only c last rest is =
-    let both = same_cons c.in_ok-first.first.now (stop_byte last) c.in_ok-first.rest.now rest
-    (sym c.in_ok-first.ensures.cases.0 ∙ is) in
-    no_stop last c.in_ok-first.first.now c.if-first-eq32.false c.if-first-eq10.false both.0
+    let both = same_cons c.in-Some.first.now (stop_byte last) c.in-Some.rest.now rest
+    (sym c.in-Some.ensures.cases.0 ∙ is) in
+    no_stop last c.in-Some.first.now c.if-first-eq32.false c.if-first-eq10.false both.0
