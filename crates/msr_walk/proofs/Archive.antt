@@ -3,20 +3,24 @@ use Rattle.std.proofs.Common.{◌≡◌, ℕ, List, ◌++◌, refl, subst}
 use Rattle.msr_devices.specs.Device.{Device, Takes}
 use Rattle.msr_devices.proofs.Chaining.{takes_append}
 use Rattle.std.specs.Borrow.{Bor}
-use Rattle.msr_folders.proofs.WalkedLemmas.{goes_then, tells_now, walk_left}
-use Rattle.msr_folders.proofs.WithinLemmas.{root_same, within_laws, within_then}
+use Rattle.msr_folders.proofs.EntryLemmas.{for_each_as}
+use Rattle.msr_folders.proofs.WalkedLemmas.{goes_so, goes_then, tells_now, walk_left}
+use Rattle.msr_folders.proofs.WithinLemmas.{root_same}
 use Rattle.msr_folders.specs.Entries.{AreEntriesBetween, AreEntriesOf, Visit}
 use Rattle.msr_folders.specs.Visits.{IsWalk}
-use Rattle.msr_folders.specs.Walks.{TellsWalk as TellsVisits}
+use Rattle.msr_folders.specs.Walks.{IsSaidBetween, TellsWalk as TellsVisits}
+use Rattle.msr_options.specs.Tasks.{StandApart}
 use Rattle.msr_options.specs.declared.task.Archiving.{Archiving}
-use Rattle.msr_folders.specs.Within.{ChangesWithin, IsSeparate}
-use Rattle.msr_options.specs.declared.task.Folders.{Folders}
+use Rattle.msr_folders.specs.Within.{ChangesWithin}
 use Rattle.msr_tree.specs.Calls.{Goes}
 use Rattle.msr_tree.specs.Steps.{Path, Step}
+use Rattle.msr_walk.proofs.Aside.{separate}
 use Rattle.msr_walk.proofs.EntriesTold.{none_among}
 use Rattle.msr_outcomes.specs.Entries.{Entry, IsTally}
 use Rattle.msr_outcomes.specs.Known.{IsEntry}
 use Rattle.msr_outcomes.specs.Lines.{IsEntryLine}
+use Rattle.msr_walk.specs.Kills.{ChangesDays}
+use Rattle.msr_walk.specs.Laws.{days_laws, days_then}
 use Rattle.msr_walk.specs.Told.{IsToldOfVisit, TellsOutcomesOf, WalksTree, WorksFor}
 use Rattle.msr_walk.specs.Walk.{StopsTellingOutcomes, TellsWalk}
 use Rattle.msr_outcomes.specs.Summary.{summary}
@@ -47,31 +51,47 @@ tree_ends tally archive before after out0 out1 out of0 of walked told prints end
       goes = told.goes;
     }
 
+-- what is said of visits in other words
+walk_as : {L T : Type 0} (Tells : List L → (out0 out : Device) → (tally0 tally : T) → Type 0) (Says : (old new : List Step) → Visit → List L → Type 0)
+    (One Two : (old new : List Step) → Type 0) (Listless : Type 0) (root : Path) (Are : (old new : List Step) → List Visit → Type 0) (before after : List Step → Type 0) (out0 out : Device) (tally0 tally : T)
+    → ((old new : List Step) → One old new → Two old new) → TellsVisits Tells Says One Listless root Are before after out0 out tally0 tally
+    → TellsVisits Tells Says Two Listless root Are before after out0 out tally0 tally
+walk_as Tells Says One Two Listless root Are before after out0 out tally0 tally so walk = record {
+  visits = walk.visits;
+  lines = walk.lines;
+  told = walk.told;
+  goes = goes_so _ _ before after (λ old new went is. record {
+    are = is.are;
+    says = for_each_as (IsSaidBetween Says One old new) (IsSaidBetween Says Two old new) walk.visits walk.lines
+        (λ visit lines said. record { from = said.from; to = said.to; before = so old said.from said.before; says = said.says; after = so said.to new said.after }) is.says;
+    does = so old new is.does;
+    unlisted = is.unlisted;
+  }) walk.goes;
+}
+
 -- the visits were told, and then what waited was settled
-pub told_and_left : {P : Type 0} (tally : P → Tally) (archive : Archiving)
-    → IsSeparate archive.folders.root.now archive.folders.out.now archive.folders.reports.now
+pub told_and_left : {P : Type 0} (tally : P → Tally) (archive : Archiving) → StandApart archive.folders
     → (below : List (Bor Path)) (before mid after : List Step → Type 0) (out0 out : Device) (of0 of1 of : P) → below ≡ archive.below.items → tally of ≡ tally of1
     → TellsVisits (TellsOutcomesOf tally archive) (IsToldOfVisit archive.folders.root.now archive.folders.out.now archive.folders.reports.now archive)
-    (ChangesWithin archive.folders.out.now archive.folders.reports.now) (Unit {0}) archive.folders.root.now
-    (λ past new. AreEntriesBetween (ChangesWithin archive.folders.out.now archive.folders.reports.now) past new archive.folders.root.now below) before mid out0 out of0 of1
-    → Goes mid after (WorksFor archive.folders) → TellsArchive tally archive before after out0 out of0 of
+    (ChangesDays archive) (Unit {0}) archive.folders.root.now
+    (λ past new. AreEntriesBetween (ChangesDays archive) past new archive.folders.root.now below) before mid out0 out of0 of1
+    → Goes mid after (WorksFor archive) → TellsArchive tally archive before after out0 out of0 of
 told_and_left tally archive apart below before mid after out0 out of0 of1 of is same told goes =
     let root : Path = archive.folders.root.now in
     let outf : Path = archive.folders.out.now in
     let reports : Path = archive.folders.reports.now in
     let says : (old new : List Step) → Visit → List Entry → Type 0 = IsToldOfVisit root outf reports archive in
-    let does : (old new : List Step) → Type 0 = ChangesWithin outf reports in
-    subst (λ b. TellsVisits (TellsOutcomesOf tally archive) says does (Unit {0}) root (λ past new. AreEntriesOf past root b) before after out0 out of0 of) is
-    (walk_left {V = Unit {0}} (λ v. TellsOutcomesOf tally archive) (λ v. StopsTellingOutcomes archive) (λ v. says) (λ v. does) (λ v. Unit {0})
-    (within_laws {V = Unit {0}} (λ v. IsEntry archive) (λ v. IsEntryLine archive) (λ entries counted. IsTally entries (tally counted))
-    (λ v. outf) (λ v. reports))
+    subst (λ b. TellsVisits (TellsOutcomesOf tally archive) says (ChangesWithin outf reports) (Unit {0}) root (λ past new. AreEntriesOf past root b) before after out0 out of0 of) is
+    (walk_as (TellsOutcomesOf tally archive) says (ChangesDays archive) (ChangesWithin outf reports) (Unit {0}) root (λ past new. AreEntriesOf past root below) before after out0 out of0 of
+    (λ old new changes. changes.within)
+    (walk_left {V = Unit {0}} (λ v. TellsOutcomesOf tally archive) (λ v. StopsTellingOutcomes archive) (λ v. says) (λ v. ChangesDays archive) (λ v. Unit {0})
+    (days_laws {V = Unit {0}} (λ v. IsEntry archive) (λ v. IsEntryLine archive) (λ entries counted. IsTally entries (tally counted)) (λ v. archive) (λ v. separate archive.folders apart))
     tt root (λ past new. AreEntriesOf past root below) before mid after out0 out of0 of1 of (λ old middle new visits are. are)
-    (tells_now (TellsOutcomesOf tally archive) says does (Unit {0}) root below before mid out0 out of0 of1
-    (λ old new changes. root_same outf reports root apart old new changes) told)
-    (λ at. none_among tally archive at of1 of same) goes)
+    (tells_now (TellsOutcomesOf tally archive) says (ChangesDays archive) (Unit {0}) root below before mid out0 out of0 of1
+    (λ old new changes. root_same outf reports root (separate archive.folders apart) old new changes.within) told)
+    (λ at. none_among tally archive at of1 of same) goes))
 
-pub changes_and_left : (folders : Folders) (before mid after : List Step → Type 0)
-    → Goes before mid (ChangesWithin folders.out.now folders.reports.now) → Goes mid after (WorksFor folders)
-    → Goes before after (ChangesWithin folders.out.now folders.reports.now)
-changes_and_left folders before mid after one two = goes_then _ _ _ before mid after
-    (λ old middle new first second. within_then folders.out.now folders.reports.now old middle new first second.does) one two
+pub changes_and_left : (archive : Archiving) → StandApart archive.folders → (before mid after : List Step → Type 0)
+    → Goes before mid (ChangesDays archive) → Goes mid after (WorksFor archive) → Goes before after (ChangesDays archive)
+changes_and_left archive apart before mid after one two = goes_then _ _ _ before mid after
+    (λ old middle new first second. days_then archive (separate archive.folders apart) old middle new first second.does) one two

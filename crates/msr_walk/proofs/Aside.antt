@@ -1,9 +1,11 @@
 -- Folders that stand apart, and the names within them.
 use Rattle.std.proofs.Common.{◌≡◌, inl, inr, ⊎_elim, ℕ, [], ◌∷◌, ◌++◌, refl, sym, ◌∙◌, ap, subst, append_assoc}
-use Rattle.msr_options.specs.Tasks.{Overlap}
+use Rattle.msr_options.specs.Tasks.{Overlap, StandApart}
+use Rattle.msr_options.specs.declared.task.Folders.{Folders}
 use Rattle.msr_tree.specs.Steps.{Path}
 use Rattle.msr_folders.specs.Entries.{StandsWithin}
 use Rattle.msr_folders.specs.Paths.{ended, joined}
+use Rattle.msr_folders.specs.Within.{IsSeparate}
 
 overlap_more : (x : ℕ) (a b : Path) → Overlap a b → Overlap (x ∷ a) (x ∷ b)
 overlap_more x a b over = ⊎_elim
@@ -48,11 +50,12 @@ overlaps_within root out place one other = ⊎_elim
     other)
     one
 
--- the paths of what is made of a day
-pub within_joined : (folder path : Path) → StandsWithin folder (joined folder path)
-within_joined [] path = inl refl
-within_joined (f ∷ folder) [] = inl refl
-within_joined (f ∷ folder) (p ∷ path) = inr (p ∷ path, refl)
+-- folders that stand apart
+pub separate : (folders : Folders) → StandApart folders → IsSeparate folders.root.now folders.out.now folders.reports.now
+separate folders apart = record {
+  from_one = λ place within is. apart.out (overlaps_within folders.root.now folders.out.now place within is);
+  from_two = λ place within is. apart.reports (overlaps_within folders.root.now folders.reports.now place within is);
+}
 
 -- with an ending
 pub within_ended : (folder path ending : Path) (p : ℕ) (rest : Path) → path ≡ p ∷ rest → StandsWithin folder (ended (joined folder path) ending)

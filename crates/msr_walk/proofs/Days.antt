@@ -1,12 +1,15 @@
 -- What becomes of days.
-use Rattle.std.proofs.Common.{◌≡◌, ℕ, inl, refl, sym, subst, Bool, true, false, IfOk, List, [], Option, Some, Result, Ok, Err}
+use Rattle.std.proofs.Common.{◌≡◌, ◌≢◌, inl, inr, ℕ, refl, ap, sym, ◌∙◌, subst, append_assoc, Bool, true, false, IfOk, List, [], ◌∷◌, ◌++◌, Option, Some, Result, Ok, Err}
+use Rattle.std.proofs.lemmas.Bool.{cases_Bool}
+use Rattle.std.proofs.lemmas.Slice.Eq.{bytes_eq-Decides}
+use Rattle.std.specs.Str.{bytes_eq}
 use Rattle.msr_folders.proofs.WalkedLemmas.{goes_none, goes_so, goes_then}
 use Rattle.msr_kinds.specs.declared.lengths.Length.{Length}
 use Rattle.msr_making.specs.Day.{AsksForAge, IsDayOutcome}
-use Rattle.msr_making.specs.Making.{DoesDay, LooksForSame}
+use Rattle.msr_making.specs.Making.{DoesDay, IsOwnOfFile, LooksForSame}
 use Rattle.msr_tree.specs.Folders.{ChangesFiles}
-use Rattle.msr_making.proofs.Untouched.{left_claimed, left_untouched, still_there, untouched_by, untouched_then}
-use Rattle.msr_making.proofs.Owns.{more_beside, none_beside}
+use Rattle.msr_making.proofs.Untouched.{left_claimed, left_untouched, still_there, untouched_then}
+use Rattle.msr_making.proofs.Owns.{AreNone, more_beside, none_beside}
 use Rattle.msr_making.specs.Clearing.{beside_paths}
 use Rattle.msr_making.specs.Told.{AreUntouched, IsLeftFor, IsOutcomeThere, UnlessMade}
 use Rattle.msr_making.specs.declared.answer.DayEnd.{DayEnd}
@@ -17,9 +20,15 @@ use Rattle.msr_making.specs.declared.answer.DayOutcome.TheVariants as outcomes
 use Rattle.msr_making.specs.Places.{DayPaths}
 use Rattle.msr_making.specs.declared.answer.Repacked.{Repacked}
 use Rattle.msr_naming.specs.Naming.{day_paths}
+use Rattle.msr_naming.specs.Promise.{HasReport}
 use Rattle.msr_naming.specs.declared.files.DayFiles.{DayFiles}
 use Rattle.msr_belonging.specs.Names.{day_name}
+use Rattle.msr_folders.specs.Days.{IsDay}
+use Rattle.msr_options.specs.Choice.{Choice}
 use Rattle.msr_options.specs.Days.{in_length, with_name}
+use Rattle.msr_options.specs.Tasks.{StandApart}
+use Rattle.msr_options.specs.declared.names.DayName.{DayName}
+use Rattle.msr_options.specs.declared.task.Archiving.{Archiving}
 use Rattle.std.specs.declared.alloc.AllocError.{AllocError}
 use Rattle.msr_options.specs.declared.days.DayOptions.{DayOptions}
 use Rattle.msr_options.specs.declared.hint.Side.{Side}
@@ -27,24 +36,103 @@ use Rattle.msr_options.specs.declared.hint.Side.TheVariants.{Records}
 use Rattle.msr_options.specs.declared.hint.Unopened.{Unopened}
 use Rattle.msr_folders.proofs.WithinLemmas.{within_none, within_then}
 use Rattle.msr_folders.specs.Within.{ChangesWithin}
+use Rattle.msr_tree.proofs.Changes.{same_now}
+use Rattle.msr_tree.proofs.Folders.{leaves_none, leaves_then}
+use Rattle.msr_tree.proofs.Moments.{at_end, joined}
 use Rattle.msr_tree.specs.Calls.{Goes}
-use Rattle.msr_tree.specs.Steps.{Path, Step}
-use Rattle.msr_walk.proofs.Working.{none_of_day, works_none, works_only, works_then}
+use Rattle.msr_tree.specs.Steps.{AtEachMoment, IsNoneOf, Path, Spares, Step, now}
+use Rattle.msr_walk.proofs.DayApart.{day_apart, others_apart}
+use Rattle.msr_walk.proofs.DayPaths.{day_within}
+use Rattle.msr_walk.proofs.Kept.{each_so}
+use Rattle.msr_walk.proofs.Working.{looks_work, none_of_day, works_then}
 use Rattle.msr_outcomes.specs.Entries.{IsDayOf, IsOutcomeOf}
-use Rattle.msr_walk.specs.Files.{AreNamesOfDay, DayNames, files_of, paths_of_names}
-use Rattle.msr_walk.specs.Handling.{AreNamesWithin, AreWithin, IsSameBut, IsUnclaimed}
+use Rattle.msr_walk.specs.Files.{AreNamesOfDay, DayNames, HaveNames, files_of, paths_of_names}
+use Rattle.msr_walk.specs.Handling.{AreNamesWithin, ChangesNames, IsSameBut, IsUnclaimed}
+use Rattle.msr_walk.specs.Kills.{KeepsReport, day_names_in}
+use Rattle.msr_walk.specs.Laws.{seen_as, spared}
 use Rattle.msr_outcomes.specs.Outcomes.{IsOutcomeOfDay, of_day}
-use Rattle.msr_walk.specs.Told.{ClaimsWithin, HandlesDay, HaveNames, IsDayTold, IsToldThere, SweepsWithin, TellsDay, ToldBetween, WorksWithin}
+use Rattle.msr_walk.specs.Told.{HandlesDay, IsDayTold, IsToldThere, TellsDay, ToldBetween, WorksFor}
 use Rattle.msr_outcomes.specs.declared.outcome.Outcome.{Outcome}
 use Rattle.msr_outcomes.specs.declared.outcome.Outcome.TheVariants.{Refused, Young}
 
--- who looks changes nothing
-pub looks_work : (out reports : Path) (names : DayNames) (asked : DayOptions) (result : Result (Option Repacked) AllocError) (old new : List Step)
-    → LooksForSame (paths_of_names names) asked result old new → WorksWithin out reports old new
-looks_work out reports names asked result old new looks = works_only out reports [] old new (λ name lacks none. tt) looks.changes.changes looks.changes.folders
+spares_both : (name : Path) (one two : List Step) → Spares name one → Spares name two → Spares name (two ++ one)
+spares_both name one [] a b = a
+spares_both name one (step ∷ two) a b = (spares_both name one two a b.0, b.1)
 
-pub length_works : (out reports : Path) (old new : List Step) → ChangesFiles [] old new → WorksWithin out reports old new
-length_works out reports old new leaves = works_only out reports [] old new (λ name lacks none. tt) leaves.changes leaves.folders
+-- names of a day that change
+module _ (some : DayFiles → List Path) (names : DayNames) where
+  names_none : (past : List Step) → ChangesNames some names past past
+  names_none past = record { made = []; since = refl; spares = λ name none. tt; leaves = leaves_none past }
+
+  names_then : (old mid new : List Step) → ChangesNames some names old mid → ChangesNames some names mid new → ChangesNames some names old new
+  names_then old mid new one two = record {
+    made = two.made ++ one.made;
+    since = two.since ∙ (ap (λ l. two.made ++ l) one.since ∙ sym (append_assoc two.made one.made old));
+    spares = λ name none. spares_both name one.made two.made (one.spares name none) (two.spares name none);
+    leaves = leaves_then old mid new one.leaves two.leaves;
+  }
+
+  -- under the number of one claim
+  names_by : (number : ℕ) (old new : List Step) → ChangesFiles (some (files_of names number)) old new → ChangesNames some names old new
+  names_by number old new changes = record {
+    made = changes.changes.made;
+    since = changes.changes.since;
+    spares = λ name none. changes.changes.spares name (none number);
+    leaves = changes.folders;
+  }
+
+  names_still : (old new : List Step) → ChangesFiles [] old new → ChangesNames some names old new
+  names_still old new changes = record {
+    made = changes.changes.made;
+    since = changes.changes.since;
+    spares = λ name none. changes.changes.spares name tt;
+    leaves = changes.folders;
+  }
+
+  -- another name leads to what it led to
+  names_same : (name : Path) (old new : List Step) → ((number : ℕ) → IsNoneOf name (some (files_of names number))) → ChangesNames some names old new → now new name ≡ now old name
+  names_same name old new none changes = ap (λ l. now l name) changes.since ∙ same_now name old changes.made (changes.spares name none)
+
+  names_within : (out reports : Path) → ((files : DayFiles) (name : Path) → IsNoneOf name (day_paths files) → IsNoneOf name (some files)) → AreNamesWithin out reports names
+      → (old new : List Step) → ChangesNames some names old new → ChangesWithin out reports old new
+  names_within out reports fewer within old new changes = record {
+    made = changes.made;
+    since = changes.since;
+    spares = λ name lacks none. changes.spares name (λ number. fewer (files_of names number) name (none_of_day out reports (files_of names number) name (within.are number) lacks none));
+    folders = changes.leaves.folders;
+  }
+
+-- names beside those of a day
+module _ (names : DayNames) where
+  beside_of_day : (old new : List Step) → ChangesNames beside_paths names old new → ChangesNames day_paths names old new
+  beside_of_day old new changes = record {
+    made = changes.made;
+    since = changes.since;
+    spares = λ name none. changes.spares name (λ number. more_beside (files_of names number) name (none number));
+    leaves = changes.leaves;
+  }
+
+  module _ (are : AreNamesOfDay names) where
+    abbrev aside : (number : ℕ) → AreNone (files_of names number) (beside_paths (files_of names number))
+    aside number = none_beside (files_of names number) (are.are number).names
+
+    beside_still : (old new : List Step) → ChangesNames beside_paths names old new → AreUntouched (paths_of_names names) old new
+    beside_still old new changes = (
+      names_same beside_paths names names.records old new (λ number. (aside number).records) changes,
+      names_same beside_paths names names.report old new (λ number. (aside number).report) changes,
+      names_same beside_paths names names.stamp old new (λ number. (aside number).stamp) changes,
+    )
+
+    beside_killed : (old new : List Step) → ChangesNames beside_paths names old new → (number : ℕ) (is_own : (records report : List ℕ) → Bool)
+        → HasReport is_own (files_of names number) old → AtEachMoment (HasReport is_own (files_of names number)) old new
+    beside_killed old new changes number is_own has =
+        spared is_own (files_of names number) old new changes.made changes.since (changes.spares names.records (λ n. (aside n).records)) (changes.spares names.report (λ n. (aside n).report)) has
+
+    beside_own : (choice : Choice) (is_own : (records report : List ℕ) → Bool) (old new : List Step) → ChangesNames beside_paths names old new
+        → IsOwnOfFile names.input choice is_own old → IsOwnOfFile names.input choice is_own new
+    beside_own choice is_own old new changes own bytes records text report has reported =
+        let same = seen_as names.input old new (names_same beside_paths names names.input old new (λ number. more_beside (files_of names number) names.input (are.are number).own) changes) in
+        own bytes records text report (sym same ∙ has) reported
 
 -- with another reason
 left_again : (stays : Bool) (paths : DayPaths) (one other : Unopened) (old new : List Step) → other.side ≡ one.side → IsLeftFor stays (CannotOpen one) paths old new → IsLeftFor stays (CannotOpen other) paths old new
@@ -122,31 +210,25 @@ module _ {H E : Type 0} (outcome : H → DayOutcome) (names : DayNames) (out rep
   abbrev pub EndsAs : DayEnd → Result H E → Type 0
   EndsAs end result = IfOk result (λ handled. (ended : DayOutcome) × (end.outcome ≡ Ok ended) × IsSameBut ended (outcome handled))
 
-  pub handles_done : (number : ℕ) (was_left : Bool) (end : DayEnd) (result : Result H E) (before after : List Step → Type 0) → AreNamesWithin out reports names
+  pub handles_done : (number : ℕ) (was_left : Bool) (end : DayEnd) (result : Result H E) (before after : List Step → Type 0)
       → EndsAs end result → Goes before after (DoesDay names.input (files_of names number) was_left asked end) → Goes before after (HandlesDay outcome names out reports asked result)
-  handles_done number was_left end result before after within same goes = goes_so _ _ before after (λ old new went does. record {
-    works = works_only out reports (day_paths (files_of names number)) old new (λ name lacks none. none_of_day out reports (files_of names number) name (within.are number) lacks none) does.changes.changes does.changes.folders;
+  handles_done number was_left end result before after same goes = goes_so _ _ before after (λ old new went does. record {
+    changes = names_by day_paths names number old new does.changes;
+    killed = λ are other is_own own has. each_so (HasReport is_own (files_of names number)) (HasReport is_own (files_of names other)) (λ past kept. record { report = kept.report })
+        old new (does.killed is_own (are.are number) own (record { report = has.report }));
     says = λ are. if_ok_as result (λ handled one. told_now asked names out reports (outcome handled) old new
         (there_again asked (paths_of_names names) one.0 (outcome handled) old new one.2
         (subst (λ r. IfOk r (λ told. IsOutcomeThere asked (paths_of_names names) told old new)) one.1 (does.outcome (are.are number))))) same;
   }) goes
 
-  -- that is not claimed
-  pub handles_unclaimed : (why : DayFault) (result : Result H E) (before after : List Step → Type 0) → IsUnclaimed why → IfOk result (λ handled. outcome handled ≡ outcomes.Refused why)
-      → Goes before after (ClaimsWithin out reports names) → Goes before after (HandlesDay outcome names out reports asked result)
-  handles_unclaimed why result before after unclaimed is goes = goes_so _ _ before after (λ old new went claims. record {
-    works = claims.works;
-    says = λ are. if_ok_as result (λ handled same. told_now asked names out reports (outcome handled) old new
-        (subst (λ o. IsToldThere asked (paths_of_names names) o old new) (sym same) (unclaimed_told asked (paths_of_names names) why old new unclaimed (claims.still are)))) is;
-  }) goes
-
-  -- of which nothing is said
-  pub handles_works : (result : Result H E) (before after : List Step → Type 0)
-      → ((old new : List Step) → IfOk result (λ handled. IsToldThere asked (paths_of_names names) (outcome handled) old new))
-      → Goes before after (WorksWithin out reports) → Goes before after (HandlesDay outcome names out reports asked result)
-  handles_works result before after so goes = goes_so _ _ before after (λ old new went works. record {
-    works = works;
-    says = λ are. if_ok_as result (λ handled there. told_now asked names out reports (outcome handled) old new there) (so old new);
+  -- of which nothing is touched
+  pub handles_beside : (result : Result H E) (before after : List Step → Type 0)
+      → ((old new : List Step) → AreUntouched (paths_of_names names) old new → IfOk result (λ handled. IsToldThere asked (paths_of_names names) (outcome handled) old new))
+      → Goes before after (ChangesNames beside_paths names) → Goes before after (HandlesDay outcome names out reports asked result)
+  handles_beside result before after so goes = goes_so _ _ before after (λ old new went changes. record {
+    changes = beside_of_day names old new changes;
+    killed = λ are number is_own own has. beside_killed names are old new changes number is_own has;
+    says = λ are. if_ok_as result (λ handled there. told_now asked names out reports (outcome handled) old new there) (so old new (beside_still names are old new changes));
   }) goes
 
   -- that was left as it is
@@ -154,7 +236,8 @@ module _ {H E : Type 0} (outcome : H → DayOutcome) (names : DayNames) (out rep
       → IfOk result (λ handled. outcome handled ≡ outcomes.Same repacked)
       → Goes before after (LooksForSame (paths_of_names names) asked (Ok (Some repacked))) → Goes before after (HandlesDay outcome names out reports asked result)
   handles_same repacked result before after is goes = goes_so _ _ before after (λ old new went looks. record {
-    works = looks_work out reports names asked (Ok (Some repacked)) old new looks;
+    changes = names_still day_paths names old new looks.changes;
+    killed = λ are number is_own own has. beside_killed names are old new (names_still beside_paths names old new looks.changes) number is_own has;
     says = λ are. if_ok_as result (λ handled same. told_now asked names out reports (outcome handled) old new
         (subst (λ o. IsToldThere asked (paths_of_names names) o old new) (sym same) (looks.same, still_there (paths_of_names names) old new looks.changes))) is;
   }) goes
@@ -166,11 +249,16 @@ module _ {H E : Type 0} (outcome : H → DayOutcome) (names : DayNames) (out rep
       handles_same repacked result before after is (subst (λ r. Goes before after (LooksForSame (paths_of_names names) asked r)) found goes)
 
   -- after something else was done
-  pub handles_after : (result : Result H E) (before mid after : List Step → Type 0) → Goes before mid (ClaimsWithin out reports names)
+  pub handles_after : (result : Result H E) (before mid after : List Step → Type 0) → AreNamesWithin out reports names → Goes before mid (ChangesNames beside_paths names)
       → Goes mid after (HandlesDay outcome names out reports asked result) → Goes before after (HandlesDay outcome names out reports asked result)
-  handles_after result before mid after one two = goes_then _ _ _ before mid after (λ old middle new first second. record {
-    works = works_then out reports old middle new first.works second.works;
-    says = λ are. if_ok_as result (λ handled told. told_from asked names out reports (outcome handled) old middle new first.works.does (first.still are) told) (second.says are);
+  handles_after result before mid after within one two = goes_then _ _ _ before mid after (λ old middle new first second. record {
+    changes = names_then day_paths names old middle new (beside_of_day names old middle first) second.changes;
+    killed = λ are number is_own own has.
+        let K : List Step → Type 0 = HasReport is_own (files_of names number) in
+        let sooner = beside_killed names are old middle first number is_own has in
+        joined K old middle new sooner (second.killed are number is_own (beside_own names are asked.options is_own old middle first own) (at_end K old middle sooner));
+    says = λ are. if_ok_as result (λ handled told. told_from asked names out reports (outcome handled) old middle new
+        (names_within beside_paths names out reports more_beside within old middle first) (beside_still names are old middle first) told) (second.says are);
   }) one two
 
 -- of a day of which nothing is touched
@@ -183,14 +271,15 @@ untouched days unopened = record {
   is = tt;
 }
 
-pub untouched_there : (days : DayOptions) (names : DayNames) (out reports : Path) (unopened : Unopened) (past : List Step) → IsDayTold days names out reports (Refused (CannotOpen unopened)) past past
-untouched_there days names out reports unopened past = record {
+untouched_there : (days : DayOptions) (names : DayNames) (out reports : Path) (unopened : Unopened) (old new : List Step) → ChangesFiles [] old new
+    → IsDayTold days names out reports (Refused (CannotOpen unopened)) old new
+untouched_there days names out reports unopened old new leaves = record {
   asked = in_length days.options.record_length days;
   for_day = record { record_length = days.options.record_length; is = refl; own = λ same. refl };
   of = outcomes.Refused (CannotOpen unopened);
   same = refl;
-  there = λ are. told_now (in_length days.options.record_length days) names out reports (outcomes.Refused (CannotOpen unopened)) past past
-      (left_untouched (paths_of_names names) past past days.keep_old (CannotOpen unopened) (refl, refl, refl) tt);
+  there = λ are. told_now (in_length days.options.record_length days) names out reports (outcomes.Refused (CannotOpen unopened)) old new
+      (left_untouched (paths_of_names names) old new days.keep_old (CannotOpen unopened) (still_there (paths_of_names names) old new leaves) tt);
 }
 
 -- of a day that is young
@@ -233,39 +322,70 @@ outcome_of asked path channel outcome day is = subst (λ o. IsOutcomeOf asked pa
     by (outcomes.Refused Gone) same so = absurd so
     by (outcomes.Refused Listing) same so = absurd so
 
--- what is told of it
-pub day_told : {H E L F : Type 0} (outcome : H → DayOutcome) (told : L → Outcome) (days : DayOptions) (names : DayNames) (out reports : Path) (record_length : Length)
-    (result : Result H E) (answer : Result L F) (before mid after : List Step → Type 0) → (days.same_length ≡ false → record_length ≡ days.options.record_length)
-    → IfOk answer (λ t. (h : H) × (result ≡ Ok h) × (told t ≡ of_day (outcome h))) → (HaveNames out reports → AreNamesOfDay names)
-    → Goes before mid (ChangesFiles []) → Goes mid after (HandlesDay outcome names out reports (in_length record_length days) result)
-    → Goes before after (TellsDay told days names out reports answer)
-day_told outcome told days names out reports record_length result answer before mid after own is named one two = goes_then _ _ _ before mid after (λ old middle new first second.
-    let works = length_works out reports old middle first in
-    record {
-      works = works_then out reports old middle new works second.works;
-      says = if_ok_as answer (λ t have. record {
-        asked = in_length record_length days;
-        for_day = record { record_length = record_length; is = refl; own = own };
-        of = outcome have.0;
-        same = have.2;
-        there = λ have-names. told_from (in_length record_length days) names out reports (outcome have.0) old middle new works.does (still_there (paths_of_names names) old middle first)
-            (subst (λ r. IfOk r (λ handled. ToldBetween (in_length record_length days) names out reports (outcome handled) middle new)) have.1 (second.says (named have-names)));
-      }) is;
-    }) one two
+-- a day of an archive
+module _ (archive : Archiving) (apart : StandApart archive.folders) (path : Path) (day : IsDay path) where
+  abbrev its_names : DayNames
+  its_names = day_names_in archive path
 
--- whatever is told of it
-pub tells_works : {H E : Type 0} (outcome : H → Outcome) (days : DayOptions) (names : DayNames) (out reports : Path) (result : Result H E) (before after : List Step → Type 0)
-    → Goes before after (TellsDay outcome days names out reports result) → Goes before after (WorksWithin out reports)
-tells_works outcome days names out reports result before after goes = goes_so _ _ before after (λ old new went told. told.works) goes
+  abbrev outf : Path
+  outf = archive.folders.out.now
 
-pub handles_work : {H E : Type 0} (outcome : H → DayOutcome) (names : DayNames) (out reports : Path) (asked : DayOptions) (result : Result H E) (before after : List Step → Type 0)
-    → Goes before after (HandlesDay outcome names out reports asked result) → Goes before after (WorksWithin out reports)
-handles_work outcome names out reports asked result before after goes = goes_so _ _ before after (λ old new went handles. handles.works) goes
+  abbrev reports : Path
+  reports = archive.folders.reports.now
 
-pub does_work : (names : DayNames) (out reports : Path) (asked : DayOptions) (number : ℕ) (was_left : Bool) (end : DayEnd) (before after : List Step → Type 0) → AreNamesWithin out reports names
-    → Goes before after (DoesDay names.input (files_of names number) was_left asked end) → Goes before after (WorksWithin out reports)
-does_work names out reports asked number was_left end before after within goes = goes_so _ _ before after (λ old new went does.
-    works_only out reports (day_paths (files_of names number)) old new (λ name lacks none. none_of_day out reports (files_of names number) name (within.are number) lacks none) does.changes.changes does.changes.folders) goes
+  keeps_other : HaveNames outf reports → (other : Path) → IsDay other → path ≢ other → (old new : List Step) → ChangesNames day_paths its_names old new → KeepsReport archive.days (day_names_in archive other) old new
+  keeps_other have other another unlike old new changes = record {
+    each = λ number is_own own has.
+        let none = others_apart archive.folders path other apart have day another unlike in
+        spared is_own (files_of (day_names_in archive other) number) old new changes.made changes.since
+        (changes.spares (day_names_in archive other).records (λ n. (none n).0)) (changes.spares (day_names_in archive other).report (λ n. (none n).1)) has;
+  }
+
+  -- what is done of one day keeps the reports of all
+  module _ {H E : Type 0} (outcome : H → DayOutcome) (name : DayName) (record_length : Length) (own_length : archive.days.same_length ≡ false → record_length ≡ archive.days.options.record_length) where
+    keeps_own : (result : Result H E) → HaveNames outf reports → (old new : List Step) → HandlesDay outcome its_names outf reports (in_length record_length (with_name name archive.days)) result old new
+        → KeepsReport archive.days its_names old new
+    keeps_own result have old new handles = record {
+      each = λ number is_own own has. handles.killed (day_apart archive.folders path apart have day) number is_own
+          (own.own (in_length record_length archive.days) (record { record_length = record_length; is = refl; own = own_length })) has;
+    }
+
+    day_works : (result : Result H E) (old new : List Step) → HandlesDay outcome its_names outf reports (in_length record_length (with_name name archive.days)) result old new → WorksFor archive old new
+    day_works result old new handles = record {
+      does = record {
+        within = names_within day_paths its_names outf reports (λ files other none. none) (day_within archive.folders.root.now outf reports path day) old new handles.changes;
+        reports = record {
+          each = λ have other another. elim (cases_Bool (bytes_eq path other)) [
+            | inl same ↦ subst (λ p. KeepsReport archive.days (day_names_in archive p) old new) ((bytes_eq-Decides path other).0 same) (keeps_own result have old new handles)
+            | inr differ ↦ keeps_other have other another (λ same. let yes = (bytes_eq-Decides path other).1 same in absurd cc) old new handles.changes
+          ];
+        };
+      };
+      lists_none = λ none. handles.changes.leaves.unlisted;
+    }
+
+    pub day_goes : (result : Result H E) (before after : List Step → Type 0) → Goes before after (HandlesDay outcome its_names outf reports (in_length record_length (with_name name archive.days)) result)
+        → Goes before after (WorksFor archive)
+    day_goes result before after goes = goes_so _ _ before after (λ old new went handles. day_works result old new handles) goes
+
+    -- what is told of it
+    pub day_told : {L F : Type 0} (told : L → Outcome) (result : Result H E) (answer : Result L F) (before mid after : List Step → Type 0)
+        → IfOk answer (λ t. (h : H) × (result ≡ Ok h) × (told t ≡ of_day (outcome h)))
+        → Goes before mid (ChangesFiles []) → Goes mid after (HandlesDay outcome its_names outf reports (in_length record_length (with_name name archive.days)) result)
+        → Goes before after (TellsDay told archive (with_name name archive.days) path answer)
+    day_told told result answer before mid after is one two = goes_then _ _ _ before mid after (λ old middle new first second.
+        let works = looks_work archive old middle first in
+        record {
+          works = works_then archive apart old middle new works (day_works result middle new second);
+          says = if_ok_as answer (λ t have. record {
+            asked = in_length record_length (with_name name archive.days);
+            for_day = record { record_length = record_length; is = refl; own = own_length };
+            of = outcome have.0;
+            same = have.2;
+            there = λ some. told_from (in_length record_length (with_name name archive.days)) its_names outf reports (outcome have.0) old middle new works.does.within (still_there (paths_of_names its_names) old middle first)
+                (subst (λ r. IfOk r (λ handled. ToldBetween (in_length record_length (with_name name archive.days)) its_names outf reports (outcome handled) middle new)) have.1 (second.says (day_apart archive.folders path apart some day)));
+          }) is;
+        }) one two
 
 -- by files that have these names
 pub does_named : (names : DayNames) (files : DayFiles) (asked : DayOptions) (input : Path) (number : ℕ) (was_left : Bool) (end : DayEnd) (before after : List Step → Type 0)
@@ -275,49 +395,50 @@ does_named names files asked input number was_left end before after at are goes 
     subst (λ i. Goes before after (DoesDay i (files_of names number) was_left asked end)) at
     (subst (λ f. Goes before after (DoesDay input f was_left asked end)) are goes)
 
-pub looks_goes : (out reports : Path) (names : DayNames) (asked : DayOptions) (result : Result (Option Repacked) AllocError) (before after : List Step → Type 0)
-    → Goes before after (LooksForSame (paths_of_names names) asked result) → Goes before after (WorksWithin out reports)
-looks_goes out reports names asked result before after goes = goes_so _ _ before after (λ old new went looks. looks_work out reports names asked result old new looks) goes
+module _ (archive : Archiving) (days : DayOptions) (path : Path) where
+  -- whatever is told of a day
+  pub tells_works : {H E : Type 0} (outcome : H → Outcome) (result : Result H E) (before after : List Step → Type 0)
+      → Goes before after (TellsDay outcome archive days path result) → Goes before after (WorksFor archive)
+  tells_works outcome result before after goes = goes_so _ _ before after (λ old new went told. told.works) goes
 
-pub length_goes : (out reports : Path) (before after : List Step → Type 0) → Goes before after (ChangesFiles []) → Goes before after (WorksWithin out reports)
-length_goes out reports before after goes = goes_so _ _ before after (λ old new went leaves. length_works out reports old new leaves) goes
+  -- of a day of which no more is told than what was done
+  pub tells_nothing : {H E : Type 0} (outcome : H → Outcome) (why : E) (before after : List Step → Type 0)
+      → Goes before after (WorksFor archive) → Goes before after (TellsDay outcome archive days path (Err why))
+  tells_nothing outcome why before after goes = goes_so _ _ before after (λ old new went works. record { works = works; says = tt }) goes
 
--- of a day of which no more is told than what was done
-pub tells_nothing : {H E : Type 0} (outcome : H → Outcome) (days : DayOptions) (names : DayNames) (out reports : Path) (why : E) (before after : List Step → Type 0)
-    → Goes before after (WorksWithin out reports) → Goes before after (TellsDay outcome days names out reports (Err why))
-tells_nothing outcome days names out reports why before after goes = goes_so _ _ before after (λ old new went works. record { works = works; says = tt }) goes
+  -- nor is it touched
+  pub tells_untouched : {H E : Type 0} (outcome : H → Outcome) (handled : H) (unopened : Unopened) (before after : List Step → Type 0)
+      → outcome handled ≡ Refused (CannotOpen unopened) → Goes before after (ChangesFiles []) → Goes before after (TellsDay {E = E} outcome archive days path (Ok handled))
+  tells_untouched outcome handled unopened before after is goes = goes_so _ _ before after (λ old new went leaves. record {
+    works = looks_work archive old new leaves;
+    says = subst (λ o. IsDayTold days (day_names_in archive path) archive.folders.out.now archive.folders.reports.now o old new) (sym is)
+        (untouched_there days (day_names_in archive path) archive.folders.out.now archive.folders.reports.now unopened old new leaves);
+  }) goes
 
--- nor is it touched
-pub tells_untouched : {H E : Type 0} (outcome : H → Outcome) (handled : H) (days : DayOptions) (names : DayNames) (out reports : Path) (unopened : Unopened) (before : List Step → Type 0)
-    → outcome handled ≡ Refused (CannotOpen unopened) → Goes before before (TellsDay {E = E} outcome days names out reports (Ok handled))
-tells_untouched outcome handled days names out reports unopened before is = goes_none _ before (λ past. record {
-  works = works_none out reports past;
-  says = subst (λ o. IsDayTold days names out reports o past past) (sym is) (untouched_there days names out reports unopened past);
-})
+  -- that is young
+  pub tells_young : {H E : Type 0} (outcome : H → Outcome) (handled : H) (before after : List Step → Type 0)
+      → AsksForAge days → outcome handled ≡ Young → Goes before after (ChangesFiles []) → Goes before after (TellsDay {E = E} outcome archive days path (Ok handled))
+  tells_young outcome handled before after asks is goes = goes_so _ _ before after (λ old new went leaves. record {
+    works = looks_work archive old new leaves;
+    says = subst (λ o. IsDayTold days (day_names_in archive path) archive.folders.out.now archive.folders.reports.now o old new) (sym is)
+        (young_there days (day_names_in archive path) archive.folders.out.now archive.folders.reports.now old new asks leaves);
+  }) goes
 
--- that is young
-pub tells_young : {H E : Type 0} (outcome : H → Outcome) (handled : H) (days : DayOptions) (names : DayNames) (out reports : Path) (before after : List Step → Type 0)
-    → AsksForAge days → outcome handled ≡ Young → Goes before after (ChangesFiles []) → Goes before after (TellsDay {E = E} outcome days names out reports (Ok handled))
-tells_young outcome handled days names out reports before after asks is goes = goes_so _ _ before after (λ old new went leaves. record {
-  works = length_works out reports old new leaves;
-  says = subst (λ o. IsDayTold days names out reports o old new) (sym is) (young_there days names out reports old new asks leaves);
-}) goes
-
--- once somebody has looked
-pub tells_after : {H E : Type 0} (outcome : H → Outcome) (days : DayOptions) (names : DayNames) (out reports : Path) (result : Result H E) (before mid after : List Step → Type 0)
-    → Goes before mid (ChangesFiles []) → Goes mid after (TellsDay outcome days names out reports result) → Goes before after (TellsDay outcome days names out reports result)
-tells_after outcome days names out reports result before mid after one two = goes_then _ _ _ before mid after (λ old middle new first second.
-    let works = length_works out reports old middle first in
-    record {
-      works = works_then out reports old middle new works second.works;
-      says = if_ok_as result (λ t is. record {
-        asked = is.asked;
-        for_day = is.for_day;
-        of = is.of;
-        same = is.same;
-        there = λ are. told_from is.asked names out reports is.of old middle new works.does (still_there (paths_of_names names) old middle first) (is.there are);
-      }) second.says;
-    }) one two
+  -- once somebody has looked
+  pub tells_after : {H E : Type 0} (apart : StandApart archive.folders) (outcome : H → Outcome) (result : Result H E) (before mid after : List Step → Type 0)
+      → Goes before mid (ChangesFiles []) → Goes mid after (TellsDay outcome archive days path result) → Goes before after (TellsDay outcome archive days path result)
+  tells_after apart outcome result before mid after one two = goes_then _ _ _ before mid after (λ old middle new first second.
+      let works = looks_work archive old middle first in
+      record {
+        works = works_then archive apart old middle new works second.works;
+        says = if_ok_as result (λ t is. record {
+          asked = is.asked;
+          for_day = is.for_day;
+          of = is.of;
+          same = is.same;
+          there = λ are. told_from is.asked (day_names_in archive path) archive.folders.out.now archive.folders.reports.now is.of old middle new works.does.within (still_there (paths_of_names (day_names_in archive path)) old middle first) (is.there are);
+        }) second.says;
+      }) one two
 
 -- by other names for the same
 pub handles_named : {H E : Type 0} (outcome : H → DayOutcome) (names others : DayNames) (out reports : Path) (asked given : DayOptions) (result : Result H E) (before after : List Step → Type 0)
@@ -326,36 +447,19 @@ handles_named outcome names others out reports asked given result before after i
     subst (λ n. Goes before after (HandlesDay outcome n out reports asked result)) is (subst (λ a. Goes before after (HandlesDay outcome others out reports a result)) same goes)
 
 -- Of a day that is asked for.
-module _ (out reports : Path) (names : DayNames) where
-  pub claims_none : (before : List Step → Type 0) → Goes before before (ClaimsWithin out reports names)
-  claims_none before = goes_none _ before (λ past. record { works = works_none out reports past; still = λ are. (refl, refl, refl) })
+module _ (names : DayNames) where
+  pub claims_none : (before : List Step → Type 0) → Goes before before (ChangesNames beside_paths names)
+  claims_none before = goes_none _ before (names_none beside_paths names)
 
-  pub claims_then : (before mid after : List Step → Type 0) → Goes before mid (ClaimsWithin out reports names) → Goes mid after (ClaimsWithin out reports names) → Goes before after (ClaimsWithin out reports names)
-  claims_then before mid after one two = goes_then _ _ _ before mid after (λ old middle new first second. record {
-    works = works_then out reports old middle new first.works second.works;
-    still = λ are. untouched_then (paths_of_names names) old middle new (first.still are) (second.still are);
-  }) one two
+  pub claims_then : (before mid after : List Step → Type 0) → Goes before mid (ChangesNames beside_paths names) → Goes mid after (ChangesNames beside_paths names) → Goes before after (ChangesNames beside_paths names)
+  claims_then before mid after one two = goes_then _ _ _ before mid after (names_then beside_paths names) one two
 
-  pub claims_swept : (number : ℕ) (files : DayFiles) (before after : List Step → Type 0) → files ≡ files_of names number → Goes before after (SweepsWithin out reports files) → Goes before after (ClaimsWithin out reports names)
-  claims_swept number files before after is goes = goes_so _ _ before after (λ old new went swept. record {
-    works = swept.works;
-    still = λ are. swept.still names.input (are.are number).names;
-  }) (subst (λ f. Goes before after (SweepsWithin out reports f)) is goes)
+  -- what stands beside its names goes
+  pub claims_swept : (number : ℕ) (files : DayFiles) (before after : List Step → Type 0) → files ≡ files_of names number → Goes before after (ChangesFiles (beside_paths files)) → Goes before after (ChangesNames beside_paths names)
+  claims_swept number files before after is goes = goes_so _ _ before after (λ old new went changes. names_by beside_paths names number old new changes)
+      (subst (λ f. Goes before after (ChangesFiles (beside_paths f))) is goes)
 
-  -- or looked at
+  -- or it is looked at
   pub claims_looked : (asked : DayOptions) (result : Result (Option Repacked) AllocError) (before after : List Step → Type 0)
-      → Goes before after (LooksForSame (paths_of_names names) asked result) → Goes before after (ClaimsWithin out reports names)
-  claims_looked asked result before after goes = goes_so _ _ before after (λ old new went looks. record {
-    works = looks_work out reports names asked result old new looks;
-    still = λ are. still_there (paths_of_names names) old new looks.changes;
-  }) goes
-
-  pub claims_work : (before after : List Step → Type 0) → Goes before after (ClaimsWithin out reports names) → Goes before after (WorksWithin out reports)
-  claims_work before after goes = goes_so _ _ before after (λ old new went claims. claims.works) goes
-
--- What stands beside the names of a day goes.
-pub sweeps_within : (out reports : Path) (files : DayFiles) (before after : List Step → Type 0) → AreWithin out reports files → Goes before after (ChangesFiles (beside_paths files)) → Goes before after (SweepsWithin out reports files)
-sweeps_within out reports files before after within goes = goes_so _ _ before after (λ old new went changes. record {
-  works = works_only out reports (beside_paths files) old new (λ name lacks none. more_beside files name (none_of_day out reports files name within lacks none)) changes.changes changes.folders;
-  still = λ input are. untouched_by input files (beside_paths files) (none_beside files are) old new changes;
-}) goes
+      → Goes before after (LooksForSame (paths_of_names names) asked result) → Goes before after (ChangesNames beside_paths names)
+  claims_looked asked result before after goes = goes_so _ _ before after (λ old new went looks. names_still beside_paths names old new looks.changes) goes

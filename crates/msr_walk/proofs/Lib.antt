@@ -2,7 +2,9 @@ pub mod Archive
 pub mod Aside
 pub mod DayPaths
 pub mod Days
+pub mod Endings
 pub mod EntriesTold
+pub mod Kept
 pub mod Working
 pub mod Visited
 pub mod DayApart

@@ -11,7 +11,7 @@ use Rattle.msr_options.specs.declared.task.Archiving.{Archiving}
 use Rattle.msr_sds.specs.SdsPath.{HasDate, IsWaveform, ReadsAs, SdsPath}
 use Rattle.msr_sds.specs.declared.SdsFault.{SdsFault}
 use Rattle.msr_sds.specs.declared.SdsFault.TheVariants.{BadDay, NotSds, NotWaveform}
-use Rattle.msr_folders.specs.Within.{ChangesWithin}
+use Rattle.msr_options.specs.Tasks.{StandApart}
 use Rattle.msr_tree.specs.Calls.{Goes}
 use Rattle.msr_tree.specs.Steps.{Path, Step}
 use Rattle.msr_tree.specs.declared.kind.FileKind.{FileKind}
@@ -22,9 +22,9 @@ use Rattle.msr_walk.proofs.Days.{told_until}
 use Rattle.msr_walk.proofs.Working.{works_none, works_then}
 use Rattle.msr_outcomes.specs.Entries.{Entry}
 use Rattle.msr_outcomes.specs.Known.{known_as}
-use Rattle.msr_walk.specs.Files.{day_names}
+use Rattle.msr_walk.specs.Kills.{ChangesDays, day_names_in}
 use Rattle.msr_folders.specs.Paths.{told_folder}
-use Rattle.msr_walk.specs.Told.{IsToldOfVisit, TellsDay, TellsOutcomesOf, WorksWithin}
+use Rattle.msr_walk.specs.Told.{IsToldOfVisit, TellsDay, TellsOutcomesOf, WorksFor}
 use Rattle.msr_outcomes.specs.declared.outcome.Outcome.{Outcome}
 use Rattle.msr_outcomes.specs.declared.outcome.Outcome.TheVariants.{Refused, Skipped}
 use Rattle.msr_outcomes.specs.declared.tally.Tally.{Tally}
@@ -32,22 +32,31 @@ use Rattle.msr_outcomes.specs.declared.tally.Tally.{Tally}
 abbrev unlisted_entry : Known → Path → Entry
 unlisted_entry known path = record { path = path; channel = []; outcome = known_as known path (Refused Listing) }
 
-module _ {P : Type 0} (tally : P → Tally) (asked : Archiving) (root outf reports : Path) where
+module _ {P : Type 0} (tally : P → Tally) (asked : Archiving) where
+  abbrev root : Path
+  root = asked.folders.root.now
+
+  abbrev outf : Path
+  outf = asked.folders.out.now
+
+  abbrev reports : Path
+  reports = asked.folders.reports.now
+
   abbrev pub TellsOf : Visit → (before after : List Step → Type 0) (out0 out : Device) (of0 of : P) → Type 0
-  TellsOf = TellsVisit (TellsOutcomesOf tally asked) (IsToldOfVisit root outf reports asked) (ChangesWithin outf reports) (Unit {0})
+  TellsOf = TellsVisit (TellsOutcomesOf tally asked) (IsToldOfVisit root outf reports asked) (ChangesDays asked) (Unit {0})
 
   -- a day
   pub visited_day : {H E : Type 0} (outcome : H → Outcome) (handled : H) (path channel : Path) (kind : FileKind) (before mid after : List Step → Type 0) (out0 out : Device) (of0 of : P)
-      → kind ≢ Gone → (day : IsDay path)
-      → Goes before mid (TellsDay {E = E} outcome (with_name (day_name day.0) asked.days) (day_names root outf reports path) outf reports (Ok handled))
-      → Goes mid after (WorksWithin outf reports)
+      → StandApart asked.folders → kind ≢ Gone → (day : IsDay path)
+      → Goes before mid (TellsDay {E = E} outcome asked (with_name (day_name day.0) asked.days) path (Ok handled))
+      → Goes mid after (WorksFor asked)
       → TellsOutcomesOf tally asked (record { path = path; channel = channel; outcome = known_as asked.known path (outcome handled) } ∷ []) out0 out of0 of
       → TellsOf (Found path kind) before after out0 out of0 of
-  visited_day outcome handled path channel kind before mid after out0 out of0 of there day one two told = record {
+  visited_day outcome handled path channel kind before mid after out0 out of0 of apart there day one two told = record {
     lines = record { path = path; channel = channel; outcome = known_as asked.known path (outcome handled) } ∷ [];
     told = told;
     goes = goes_then _ _ _ before mid after (λ old middle new first second. record {
-      done = works_then outf reports old middle new first.works second;
+      done = works_then asked apart old middle new first.works second;
       says = (
         channel,
         outcome handled,
@@ -62,7 +71,7 @@ module _ {P : Type 0} (tally : P → Tally) (asked : Archiving) (root outf repor
               for_day = first.says.for_day;
               of = first.says.of;
               same = first.says.same;
-              there = λ are. told_until first.says.asked (day_names root outf reports path) outf reports first.says.of old middle new (first.says.there are) second.does;
+              there = λ are. told_until first.says.asked (day_names_in asked path) outf reports first.says.of old middle new (first.says.there are) second.does.within;
             },
           );
           other = λ some none. absurd (none day);
@@ -78,7 +87,7 @@ module _ {P : Type 0} (tally : P → Tally) (asked : Archiving) (root outf repor
   told_still visit entry before out0 out of0 of so told = record {
     lines = entry ∷ [];
     told = told;
-    goes = goes_none _ before (λ past. record { done = works_none outf reports past; says = so past });
+    goes = goes_none _ before (λ past. record { done = works_none asked past; says = so past });
   }
 
   -- what is no day
@@ -107,7 +116,7 @@ module _ {P : Type 0} (tally : P → Tally) (asked : Archiving) (root outf repor
       (λ past. ap (λ p. unlisted_entry asked.known p ∷ []) is) told
 
   -- a folder whose days were visited
-  pub visited_left : (folder : Path) (before after : List Step → Type 0) (out : Device) (of0 of : P) → Goes before after (WorksWithin outf reports)
+  pub visited_left : (folder : Path) (before after : List Step → Type 0) (out : Device) (of0 of : P) → Goes before after (WorksFor asked)
       → TellsOutcomesOf tally asked [] out out of0 of → TellsOf (Left folder) before after out out of0 of
   visited_left folder before after out of0 of goes told = record {
     lines = [];

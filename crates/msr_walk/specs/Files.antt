@@ -1,12 +1,12 @@
 -- The names of files.
-use Rattle.std.specs.Prelude.{ℕ, List, ◌++◌, codes}
+use Rattle.std.specs.Prelude.{◌≢◌, ℕ, List, [], ◌∷◌, ◌++◌, codes}
 use Rattle.std.specs.Fmt.{decimal}
 use Rattle.msr_folders.specs.Entries.{StandsWithin}
 use Rattle.msr_folders.specs.Paths.{ended, joined}
 use Rattle.msr_making.specs.Places.{AreFileNames, DayPaths}
 use Rattle.msr_naming.specs.Files.{FileNames}
 use Rattle.msr_naming.specs.declared.files.DayFiles.{DayFiles}
-use Rattle.msr_tree.specs.Steps.{Path}
+use Rattle.msr_tree.specs.Steps.{IsNoneOf, Path}
 
 -- the names of a new file that is written under the one with the ending
 abbrev pub file_beside : (path ending : List ℕ) → FileNames
@@ -50,7 +50,13 @@ paths_of_names names = record { input = names.input; records = names.records; re
 pub record AreNamesOfDay (names : DayNames) : Type 0 where
   pub are : (number : ℕ) → AreFileNames names.input (files_of names number)
 
--- a stamp and what stands beside its name are within the folder of the reports
+-- The folders of records and reports have names. Below an empty one no path stands.
+pub record HaveNames (out reports : Path) : Type 0 where
+  pub out_some : out ≢ []
+  pub reports_some : reports ≢ []
+
+-- A stamp and what stands beside its name are within the folder of the reports, and if that has a name, none is a report.
 pub record IsStampWithin (reports : Path) (files : DayFiles) : Type 0 where
   pub path : StandsWithin reports files.stamp.path
   pub part : StandsWithin reports files.stamp.part
+  pub apart : reports ≢ [] → (day : Path) → IsNoneOf (ended (joined reports day) (codes ".txt")) (files.stamp.path ∷ files.stamp.part ∷ [])

@@ -1,5 +1,5 @@
 -- What is done with a day that may be another's.
-use Rattle.std.specs.Prelude.{◌≡◌, ℕ, List, Option, IfSome}
+use Rattle.std.specs.Prelude.{◌≡◌, ℕ, List, ◌++◌, Option, IfSome}
 use Rattle.std.specs.List.{AllByRecursion}
 use Rattle.msr_folders.specs.Entries.{StandsWithin}
 use Rattle.msr_making.specs.declared.answer.DayFault.{DayFault}
@@ -11,7 +11,8 @@ use Rattle.msr_naming.specs.declared.files.DayFiles.{DayFiles}
 use Rattle.msr_options.specs.declared.hint.Side.TheVariants.{Records}
 use Rattle.msr_options.specs.declared.hint.Unopened.{Unopened}
 use Rattle.msr_folders.specs.Walks.{HoldsAt}
-use Rattle.msr_tree.specs.Steps.{Path, Step}
+use Rattle.msr_tree.specs.Folders.{LeavesFolders}
+use Rattle.msr_tree.specs.Steps.{IsNoneOf, Path, Spares, Step}
 use Rattle.msr_walk.specs.Files.{DayNames, IsStampWithin, files_of}
 
 -- The names of a day's files, and those beside them, are within the folders of records and reports.
@@ -25,6 +26,13 @@ pub record AreWithin (out reports : Path) (files : DayFiles) : Type 0 where
 -- the same, whatever number the claim has
 pub record AreNamesWithin (out reports : Path) (names : DayNames) : Type 0 where
   pub are : (number : ℕ) → AreWithin out reports (files_of names number)
+
+-- Of the names of a day, whatever number the claim has, only these lead elsewhere, and no folder is made.
+pub record ChangesNames (some : DayFiles → List Path) (names : DayNames) (old new : List Step) : Type 0 where
+  pub made : List Step
+  pub since : new ≡ made ++ old
+  pub spares : (name : Path) → ((number : ℕ) → IsNoneOf name (some (files_of names number))) → Spares name made
+  pub leaves : LeavesFolders old new
 
 -- an outcome but for why something could not be opened
 abbrev pub IsSameBut : (outcome told : DayOutcome) → Type 0

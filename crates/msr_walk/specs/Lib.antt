@@ -1,4 +1,6 @@
 pub mod Files
 pub mod Handling
+pub mod Kills
+pub mod Laws
 pub mod Told
 pub mod Walk

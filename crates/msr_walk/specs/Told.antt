@@ -1,5 +1,5 @@
 -- What a walk tells of an archive, by what its names lead to, and what it changes, while nobody else changes them.
-use Rattle.std.specs.Prelude.{◌≡◌, ◌≢◌, ℕ, List, [], ◌∷◌, IfOk, Result}
+use Rattle.std.specs.Prelude.{◌≡◌, ◌≢◌, ℕ, Bool, List, [], ◌∷◌, IfOk, Result}
 use Rattle.msr_devices.specs.Device.{Device, Takes}
 use Rattle.msr_folders.specs.Days.{IsDay, IsNoDay}
 use Rattle.msr_folders.specs.Entries.{AreEntriesOf, Entry as Found, Left, Passed, StandsWithin, Visit, WithoutList}
@@ -7,9 +7,10 @@ use Rattle.msr_folders.specs.Paths.{told_folder}
 use Rattle.msr_folders.specs.Visits.{IsWalk, TellsThese}
 use Rattle.msr_folders.specs.Walks.{IsWalked, VisitDoes}
 use Rattle.msr_folders.specs.Within.{ChangesWithin}
-use Rattle.msr_making.specs.Places.{DayPaths, paths_of}
-use Rattle.msr_naming.specs.Naming.{AreDayNames}
-use Rattle.msr_naming.specs.declared.files.DayFiles.{DayFiles}
+use Rattle.msr_making.specs.Making.{IsOwnOfFile}
+use Rattle.msr_making.specs.Places.{DayPaths}
+use Rattle.msr_naming.specs.Naming.{day_paths}
+use Rattle.msr_naming.specs.Promise.{HasReport}
 use Rattle.msr_making.specs.Told.{AreUntouched, IsLeftFor, IsOutcomeThere, stays_for}
 use Rattle.msr_making.specs.declared.answer.DayFault.TheVariants.{CannotOpen, Gone as WasGone, Listing}
 use Rattle.msr_making.specs.declared.answer.DayOutcome.{DayOutcome}
@@ -18,7 +19,6 @@ use Rattle.msr_belonging.specs.Names.{day_name}
 use Rattle.msr_options.specs.Days.{with_name}
 use Rattle.msr_options.specs.declared.days.DayOptions.{DayOptions}
 use Rattle.msr_options.specs.declared.task.Archiving.{Archiving}
-use Rattle.msr_options.specs.declared.task.Folders.{Folders}
 use Rattle.msr_sds.specs.SdsPath.{ReadsAsDay, SdsPath}
 use Rattle.msr_sds.specs.declared.SdsFault.{SdsFault}
 use Rattle.msr_tree.specs.Calls.{Goes}
@@ -27,7 +27,9 @@ use Rattle.msr_tree.specs.declared.kind.FileKind.{FileKind}
 use Rattle.msr_tree.specs.declared.kind.FileKind.TheVariants.{Gone}
 use Rattle.msr_outcomes.specs.Entries.{Entry, IsTally}
 use Rattle.msr_outcomes.specs.Known.{IsEntry, known_as}
-use Rattle.msr_walk.specs.Files.{AreNamesOfDay, DayNames, day_names, paths_of_names}
+use Rattle.msr_walk.specs.Files.{AreNamesOfDay, DayNames, HaveNames, day_names, files_of, paths_of_names}
+use Rattle.msr_walk.specs.Handling.{ChangesNames}
+use Rattle.msr_walk.specs.Kills.{ChangesDays, day_names_in}
 use Rattle.msr_outcomes.specs.Lines.{IsEntryLine}
 use Rattle.msr_outcomes.specs.Outcomes.{IsForDay, of_day}
 use Rattle.msr_outcomes.specs.Summary.{summary}
@@ -43,22 +45,9 @@ abbrev pub IsToldThere : DayOptions → DayPaths → DayOutcome → (old new : L
 IsToldThere asked paths (outcomes.Refused (CannotOpen unopened)) old new = IsLeftFor (stays_for asked (CannotOpen unopened)) (CannotOpen unopened) paths old new
 IsToldThere asked paths outcome old new = IsOutcomeThere asked paths outcome old new
 
--- What is done of an archive: only what stands within two folders is changed, and no folder is listed.
-abbrev pub WorksWithin : (out reports : Path) → (old new : List Step) → Type 0
-WorksWithin out reports = VisitDoes (ChangesWithin out reports) (Unit {0})
-
-abbrev pub WorksFor : Folders → (old new : List Step) → Type 0
-WorksFor folders = WorksWithin folders.out.now folders.reports.now
-
--- What a killed walk left of a day is cleared, and nothing of what has the day's names.
-pub record SweepsWithin (out reports : Path) (files : DayFiles) (old new : List Step) : Type 0 where
-  pub works : WorksWithin out reports old new
-  pub still : (input : Path) → AreDayNames files → AreUntouched (paths_of input files) old new
-
--- The same of a day that is asked for.
-pub record ClaimsWithin (out reports : Path) (names : DayNames) (old new : List Step) : Type 0 where
-  pub works : WorksWithin out reports old new
-  pub still : AreNamesOfDay names → AreUntouched (paths_of_names names) old new
+-- what is done of an archive; no folder is listed
+abbrev pub WorksFor : Archiving → (old new : List Step) → Type 0
+WorksFor archive = VisitDoes (ChangesDays archive) (Unit {0})
 
 -- An outcome was so of a day between two moments. Before, nothing was touched of what is made of it.
 pub record ToldBetween (asked : DayOptions) (names : DayNames) (out reports : Path) (outcome : DayOutcome) (old new : List Step) : Type 0 where
@@ -69,16 +58,14 @@ pub record ToldBetween (asked : DayOptions) (names : DayNames) (out reports : Pa
   pub there : IsToldThere asked (paths_of_names names) outcome from to
   pub after : ChangesWithin out reports to new
 
--- A day of which this is asked was done, or left as it is, or refused.
+-- A day of which this is asked was done, or left as it is, or refused. If its records have their own report before, they have it
+-- at each moment since.
 pub record HandlesDay {H E : Type 0} (outcome : H → DayOutcome) (names : DayNames) (out reports : Path) (asked : DayOptions)
     (result : Result H E) (old new : List Step) : Type 0 where
-  pub works : WorksWithin out reports old new
+  pub changes : ChangesNames day_paths names old new
+  pub killed : AreNamesOfDay names → (number : ℕ) (is_own : (records report : List ℕ) → Bool) → IsOwnOfFile names.input asked.options is_own old
+      → HasReport is_own (files_of names number) old → AtEachMoment (HasReport is_own (files_of names number)) old new
   pub says : AreNamesOfDay names → IfOk result (λ handled. ToldBetween asked names out reports (outcome handled) old new)
-
--- The folders of records and reports have names. Below an empty one no path stands.
-pub record HaveNames (out reports : Path) : Type 0 where
-  pub out_some : out ≢ []
-  pub reports_some : reports ≢ []
 
 -- The outcome of a day of an archive of whose days this is asked is told, where it is so.
 pub record IsDayTold (days : DayOptions) (names : DayNames) (out reports : Path) (outcome : Outcome) (old new : List Step) : Type 0 where
@@ -89,10 +76,10 @@ pub record IsDayTold (days : DayOptions) (names : DayNames) (out reports : Path)
   pub there : HaveNames out reports → ToldBetween asked names out reports of old new
 
 -- A day was handled, and this is told of it.
-pub record TellsDay {H E : Type 0} (outcome : H → Outcome) (days : DayOptions) (names : DayNames) (out reports : Path)
+pub record TellsDay {H E : Type 0} (outcome : H → Outcome) (archive : Archiving) (days : DayOptions) (path : Path)
     (result : Result H E) (old new : List Step) : Type 0 where
-  pub works : WorksWithin out reports old new
-  pub says : IfOk result (λ told. IsDayTold days names out reports (outcome told) old new)
+  pub works : WorksFor archive old new
+  pub says : IfOk result (λ told. IsDayTold days (day_names_in archive path) archive.folders.out.now archive.folders.reports.now (outcome told) old new)
 
 -- What is told of an entry: that it is gone, what became of it if it is a day, and else why it is none. What is asked of a day
 -- may be that its segments are those of its path.

@@ -34,7 +34,7 @@ fn release<T: Tree, C: Claims>(
     is_stamped: bool,
 )
     requires { IsWaitingAt (T.went tree.old) walker.now.archive.now.folders.reports.now day.now }
-    ensures { Goes (T.went tree.old) (T.went tree.new) (WorksFor walker.now.archive.now.folders) }
+    ensures { Goes (T.went tree.old) (T.went tree.new) (WorksFor walker.now.archive.now) }
 {
     if is_stamped {
         walker.claims.release(&day.claim);
@@ -53,7 +53,7 @@ fn release_all<T: Tree, C: Claims>(
     are_stamped: bool,
 )
     requires { AreWaitingAt (T.went tree.old) walker.now.archive.now.folders.reports.now days.now }
-    ensures { Goes (T.went tree.old) (T.went tree.new) (WorksFor walker.now.archive.now.folders) }
+    ensures { Goes (T.went tree.old) (T.went tree.new) (WorksFor walker.now.archive.now) }
 {
     for day in days {
         release(tree, walker, day, are_stamped);
@@ -70,7 +70,7 @@ fn keep_ours<T: Tree, C: Claims>(
     requires day { IsWaitingAt (T.went tree.old) walker.now.archive.now.folders.reports.now day }
     requires days { AreWaitingAt (T.went tree.old) walker.now.archive.now.folders.reports.now ours.old.items }
     ensures days { AreWaitingAt (T.went tree.new) walker.now.archive.now.folders.reports.now ours.new.items }
-    ensures works { Goes (T.went tree.old) (T.went tree.new) (WorksFor walker.now.archive.now.folders) }
+    ensures works { Goes (T.went tree.old) (T.went tree.new) (WorksFor walker.now.archive.now) }
 {
     if !walker.claims.is_ours(&day.claim) {
         tree.remove(day.files.stamp.part.as_str()).ok();
@@ -90,7 +90,7 @@ fn all_ours<T: Tree, C: Claims>(
 ) -> Vec<Waiting<C::Claim>>
     requires { AreWaitingAt (T.went tree.old) walker.now.archive.now.folders.reports.now days.items }
     ensures kept { AreWaitingAt (T.went tree.new) walker.now.archive.now.folders.reports.now result.items }
-    ensures works { Goes (T.went tree.old) (T.went tree.new) (WorksFor walker.now.archive.now.folders) }
+    ensures works { Goes (T.went tree.old) (T.went tree.new) (WorksFor walker.now.archive.now) }
 {
     let mut ours = Vec::new(walker.alloc);
     while let Some(day) = days.pop() {
@@ -132,7 +132,7 @@ impl<K: Drop> Batch<K> {
     ) -> bool
         requires { AreWaitingAt (T.went tree.old) walker.now.archive.now.folders.reports.now self.old.days.items }
         ensures days { AreWaitingAt (T.went tree.new) walker.now.archive.now.folders.reports.now self.new.days.items }
-        ensures works { Goes (T.went tree.old) (T.went tree.new) (WorksFor walker.now.archive.now.folders) }
+        ensures works { Goes (T.went tree.old) (T.went tree.new) (WorksFor walker.now.archive.now) }
     {
         if self.folder.as_str() == folder {
             return true;
@@ -145,7 +145,7 @@ impl<K: Drop> Batch<K> {
     fn settle_full<T: Tree, C: Claims<Claim = K>>(&mut self, tree: &mut T, walker: &Walker<'_, C>)
         requires { AreWaitingAt (T.went tree.old) walker.now.archive.now.folders.reports.now self.old.days.items }
         ensures days { AreWaitingAt (T.went tree.new) walker.now.archive.now.folders.reports.now self.new.days.items }
-        ensures works { Goes (T.went tree.old) (T.went tree.new) (WorksFor walker.now.archive.now.folders) }
+        ensures works { Goes (T.went tree.old) (T.went tree.new) (WorksFor walker.now.archive.now) }
     {
         if self.days.len() < DAYS {
             return;
@@ -164,7 +164,7 @@ impl<K: Drop> Batch<K> {
         requires days { AreWaitingAt (T.went tree.old) walker.now.archive.now.folders.reports.now self.old.days.items }
         requires day { IsWaitingAt (T.went tree.old) walker.now.archive.now.folders.reports.now day }
         ensures days { AreWaitingAt (T.went tree.new) walker.now.archive.now.folders.reports.now self.new.days.items }
-        ensures works { Goes (T.went tree.old) (T.went tree.new) (WorksFor walker.now.archive.now.folders) }
+        ensures works { Goes (T.went tree.old) (T.went tree.new) (WorksFor walker.now.archive.now) }
     {
         if !self.turn_to(tree, walker, folder_of(path)) {
             release(tree, walker, &day, false);
@@ -184,7 +184,7 @@ impl<K: Drop> Batch<K> {
     )
         requires { AreWaitingAt (T.went tree.old) walker.now.archive.now.folders.reports.now self.old.days.items }
         ensures days { AreWaitingAt (T.went tree.new) walker.now.archive.now.folders.reports.now self.new.days.items }
-        ensures works { Goes (T.went tree.old) (T.went tree.new) (WorksFor walker.now.archive.now.folders) }
+        ensures works { Goes (T.went tree.old) (T.went tree.new) (WorksFor walker.now.archive.now) }
     {
         if self.days.is_empty() {
             return;
@@ -204,7 +204,7 @@ impl<K: Drop> Batch<K> {
     ) -> Result<(), TreeFault>
         requires { AreWaitingAt (T.went tree.old) walker.now.archive.now.folders.reports.now ours.now }
         ensures days { self.new.days ≡ self.old.days }
-        ensures works { Goes (T.went tree.old) (T.went tree.new) (WorksFor walker.now.archive.now.folders) }
+        ensures works { Goes (T.went tree.old) (T.went tree.new) (WorksFor walker.now.archive.now) }
     {
         self.store_names(walker)?;
         let (alloc, folders) = (walker.alloc, walker.archive.folders);

@@ -1,13 +1,15 @@
 //! One day file: whose it is, and what is done with it.
 ghost use Rattle.std.specs.Prelude.{◌≡◌, IfOk, IfSome, None};
+ghost use Rattle.msr_making.specs.Clearing.{beside_paths};
 ghost use Rattle.msr_making.specs.Day.{IsDayOutcome, IsSame};
 ghost use Rattle.msr_making.specs.Making.{LooksForSame};
 ghost use Rattle.msr_making.specs.Places.{paths_at};
 ghost use Rattle.msr_tree.specs.Calls.{Goes};
+ghost use Rattle.msr_tree.specs.Folders.{ChangesFiles};
 ghost use Rattle.msr_tree.specs.Steps.{Path};
 ghost use Rattle.msr_walk.specs.Files.{day_names, file_beside, files_of, paths_of_names};
-ghost use Rattle.msr_walk.specs.Handling.{AreNamesWithin, AreWithin, IsSameBut, IsUnclaimed, WaitsWithin};
-ghost use Rattle.msr_walk.specs.Told.{ClaimsWithin, HandlesDay, SweepsWithin};
+ghost use Rattle.msr_walk.specs.Handling.{AreNamesWithin, ChangesNames, IsSameBut, IsUnclaimed, WaitsWithin};
+ghost use Rattle.msr_walk.specs.Told.{HandlesDay};
 
 use crate::claims::{Asked, ClaimFault, Claims};
 use msr_folders::{ended, folder_of, join};
@@ -157,7 +159,7 @@ fn new_name(alloc: Global, path: &str, ending: &str) -> Result<NewName, AllocErr
 
 /// Removes what stands beside the names of a day, and tells whether nothing is there any more.
 fn sweep<T: Tree>(tree: &mut T, files: &DayFiles) -> bool
-    ensures { (out reports : Path) → AreWithin out reports files.now → Goes (T.went tree.old) (T.went tree.new) (SweepsWithin out reports files.now) }
+    ensures { Goes (T.went tree.old) (T.went tree.new) (ChangesFiles (beside_paths files.now)) }
 {
     let records = tree.remove(files.records.part.as_str()).is_ok();
     let report = tree.remove(files.report.part.as_str()).is_ok();
@@ -254,7 +256,7 @@ impl Day {
         work: &Work<'_, C>,
         left: C::Left,
     ) -> Result<(), ClaimFault>
-        ensures { (out reports : Path) → AreNamesWithin out reports self.now → Goes (T.went tree.old) (T.went tree.new) (ClaimsWithin out reports self.now) }
+        ensures { Goes (T.went tree.old) (T.went tree.new) (ChangesNames beside_paths self.now) }
     {
         let Some(number) = work.claims.left_number(&left) else {
             return Ok(());
@@ -275,7 +277,7 @@ impl Day {
         tree: &mut T,
         work: &Work<'_, C>,
     ) -> Result<Tried<C::Claim>, ClaimFault>
-        ensures { (out reports : Path) → AreNamesWithin out reports self.now → Goes (T.went tree.old) (T.went tree.new) (ClaimsWithin out reports self.now) }
+        ensures { Goes (T.went tree.old) (T.went tree.new) (ChangesNames beside_paths self.now) }
     {
         match work.claims.ask(work.alloc, self.claim.as_str())? {
             Asked::Ours(claim) => Ok(Tried::Ours(claim)),
@@ -293,7 +295,7 @@ impl Day {
         tree: &mut T,
         work: &Work<'_, C>,
     ) -> Result<Claimed<C::Claim>, ClaimFault>
-        ensures { (out reports : Path) → AreNamesWithin out reports self.now → Goes (T.went tree.old) (T.went tree.new) (ClaimsWithin out reports self.now) }
+        ensures { Goes (T.went tree.old) (T.went tree.new) (ChangesNames beside_paths self.now) }
     {
         let mut was_left = false;
         for _ in 0..TRIES {

@@ -3,7 +3,6 @@ ghost use Rattle.std.specs.Prelude.{◌≡◌, ◌≢◌, ◌↔◌, ◌∷◌, 
 ghost use Rattle.msr_devices.specs.Device.{CanCountCall, HasFailed};
 ghost use Rattle.msr_sds.specs.SdsPath.{HasForm, ReadsAsDay};
 ghost use Rattle.msr_folders.specs.Entries.{AreEntriesOf, Entry as Found};
-ghost use Rattle.msr_folders.proofs.WithinLemmas.{within_laws};
 ghost use Rattle.msr_folders.specs.Within.{ChangesWithin};
 ghost use Rattle.msr_folders.specs.Walks.{TellsVisit, TellsWalk as TellsVisits};
 ghost use Rattle.msr_options.specs.Tasks.{StandApart};
@@ -15,8 +14,9 @@ ghost use Rattle.msr_tree.specs.declared.kind.FileKind.{FileKind};
 ghost use Rattle.msr_tree.specs.declared.kind.FileKind.TheVariants.{Gone};
 ghost use Rattle.msr_outcomes.specs.Entries.{Entry, IsOutcomeOf, IsTally};
 ghost use Rattle.msr_outcomes.specs.Known.{IsEntry, known_as};
-ghost use Rattle.msr_walk.specs.Files.{day_names};
 ghost use Rattle.msr_walk.specs.Handling.{AllWaitWithin, AreWaitingAt, WaitsWithin};
+ghost use Rattle.msr_walk.specs.Kills.{ChangesDays, KeepsReports};
+ghost use Rattle.msr_walk.specs.Laws.{days_laws};
 ghost use Rattle.msr_outcomes.specs.Lines.{IsEntryLine};
 ghost use Rattle.msr_outcomes.specs.Outcomes.{IsOutcomeOfDay};
 ghost use Rattle.msr_belonging.specs.Names.{day_name};
@@ -89,7 +89,7 @@ impl<K: Drop> Progress<K> {
         requires day { WaitsWithin walker.now.archive.now.folders.reports.now waiting }
         ensures tally { self.new.tally ≡ self.old.tally }
         ensures days { AreWaitingAt (T.went tree.new) walker.now.archive.now.folders.reports.now self.new.batch.days.items }
-        ensures works { Goes (T.went tree.old) (T.went tree.new) (WorksFor walker.now.archive.now.folders) }
+        ensures works { Goes (T.went tree.old) (T.went tree.new) (WorksFor walker.now.archive.now) }
     {
         if let Some(day) = waiting {
             self.batch.add(tree, walker, path, day);
@@ -162,8 +162,7 @@ impl<'a, C: Claims> Walker<'a, C> {
         requires { ReadsAsDay path.now name.now }
         ensures told { IfOk result (λ told. IsOutcomeOfDay (with_name (day_name name.now) self.now.archive.now.days) told.outcome) }
         ensures waits { IfOk result (λ told. WaitsWithin self.now.archive.now.folders.reports.now told.waiting) }
-        ensures goes { Goes (T.went tree.old) (T.went tree.new) (TellsDay (λ told. told.outcome) (with_name (day_name name.now) self.now.archive.now.days)
-            (day_names self.now.archive.now.folders.root.now self.now.archive.now.folders.out.now self.now.archive.now.folders.reports.now path.now) self.now.archive.now.folders.out.now self.now.archive.now.folders.reports.now result) }
+        ensures goes { Goes (T.went tree.old) (T.went tree.new) (TellsDay (λ told. told.outcome) self.now.archive.now (with_name (day_name name.now) self.now.archive.now.days) path.now result) }
     {
         if self.is_young(tree, path)? {
             return Ok(Told {
@@ -207,10 +206,10 @@ impl<'a, C: Claims> Walker<'a, C> {
         requires count { CanCountCall (O.device out.old) }
         requires days { AreWaitingAt (T.went tree.old) self.now.archive.now.folders.reports.now progress.old.batch.days.items }
         ensures told { (kind : FileKind) → kind ≢ Gone → OnOk result (TellsVisit (TellsOutcomesOf (λ of. of.tally) self.now.archive.now)
-            (IsToldOfVisit self.now.archive.now.folders.root.now self.now.archive.now.folders.out.now self.now.archive.now.folders.reports.now self.now.archive.now) (ChangesWithin self.now.archive.now.folders.out.now self.now.archive.now.folders.reports.now) (Unit {0}) (Found path.now kind)
+            (IsToldOfVisit self.now.archive.now.folders.root.now self.now.archive.now.folders.out.now self.now.archive.now.folders.reports.now self.now.archive.now) (ChangesDays self.now.archive.now) (Unit {0}) (Found path.now kind)
             (T.went tree.old) (T.went tree.new) (O.device out.old) (O.device out.new) progress.old progress.new) }
         ensures stops { IfErr result (StopsTellingOutcomes self.now.archive.now (O.device out.old) (O.device out.new)) }
-        ensures works { Goes (T.went tree.old) (T.went tree.new) (WorksFor self.now.archive.now.folders) }
+        ensures works { Goes (T.went tree.old) (T.went tree.new) (WorksFor self.now.archive.now) }
         ensures days { AreWaitingAt (T.went tree.new) self.now.archive.now.folders.reports.now progress.new.batch.days.items }
     {
         let channel = channel_text(self.alloc, name)?;
@@ -240,10 +239,10 @@ impl<'a, C: Claims> Walker<'a, C> {
         requires count { CanCountCall (O.device out.old) }
         requires days { AreWaitingAt (T.went tree.old) self.now.archive.now.folders.reports.now progress.old.batch.days.items }
         ensures told { (kind : FileKind) → kind ≢ Gone → OnOk result (TellsVisit (TellsOutcomesOf (λ of. of.tally) self.now.archive.now)
-            (IsToldOfVisit self.now.archive.now.folders.root.now self.now.archive.now.folders.out.now self.now.archive.now.folders.reports.now self.now.archive.now) (ChangesWithin self.now.archive.now.folders.out.now self.now.archive.now.folders.reports.now) (Unit {0}) (Found path.now kind)
+            (IsToldOfVisit self.now.archive.now.folders.root.now self.now.archive.now.folders.out.now self.now.archive.now.folders.reports.now self.now.archive.now) (ChangesDays self.now.archive.now) (Unit {0}) (Found path.now kind)
             (T.went tree.old) (T.went tree.new) (O.device out.old) (O.device out.new) progress.old progress.new) }
         ensures stops { IfErr result (StopsTellingOutcomes self.now.archive.now (O.device out.old) (O.device out.new)) }
-        ensures works { Goes (T.went tree.old) (T.went tree.new) (WorksFor self.now.archive.now.folders) }
+        ensures works { Goes (T.went tree.old) (T.went tree.new) (WorksFor self.now.archive.now) }
         ensures days { AreWaitingAt (T.went tree.new) self.now.archive.now.folders.reports.now progress.new.batch.days.items }
     {
         match SdsName::parse(path) {
@@ -265,7 +264,7 @@ impl<'a, C: Claims> Walker<'a, C> {
             (λ past new. AreEntriesOf past self.now.archive.now.folders.root.now self.now.archive.now.below.items)
             (T.went tree.old) (T.went tree.new) (O.device out.old) (O.device out.new) progress.old progress.new) }
         ensures stops { IfErr result (StopsTellingOutcomes self.now.archive.now (O.device out.old) (O.device out.new)) }
-        ensures does { Goes (T.went tree.old) (T.went tree.new) (ChangesWithin self.now.archive.now.folders.out.now self.now.archive.now.folders.reports.now) }
+        ensures does { Goes (T.went tree.old) (T.went tree.new) (ChangesDays self.now.archive.now) }
     {
         let archive = self.archive;
         let walk = EntryWalk {
@@ -294,7 +293,7 @@ impl<'a, C: Claims> EntryVisitor for Walker<'a, C> {
 
     ghost says = { λ walker. IsToldOfVisit walker.archive.now.folders.root.now walker.archive.now.folders.out.now walker.archive.now.folders.reports.now walker.archive.now };
 
-    ghost does = { λ walker. ChangesWithin walker.archive.now.folders.out.now walker.archive.now.folders.reports.now };
+    ghost does = { λ walker. ChangesDays walker.archive.now };
 
     ghost holds = { λ walker progress past. AllWaitWithin walker.archive.now.folders.reports.now progress.batch.days.items };
 
@@ -302,9 +301,8 @@ impl<'a, C: Claims> EntryVisitor for Walker<'a, C> {
 
     ghost root = { λ walker. walker.archive.now.folders.root.now };
 
-    ghost laws = { within_laws (λ walker. IsEntry walker.archive.now) (λ walker. IsEntryLine walker.archive.now)
-        (λ entries of. IsTally entries of.tally) (λ walker. walker.archive.now.folders.out.now)
-        (λ walker. walker.archive.now.folders.reports.now) };
+    ghost laws = { days_laws (λ walker. IsEntry walker.archive.now) (λ walker. IsEntryLine walker.archive.now)
+        (λ entries of. IsTally entries of.tally) (λ walker. walker.archive.now) (λ walker. walker.separate) };
 
     ghost listed = { record { stays = λ walker progress past place held. held } };
 
@@ -400,6 +398,9 @@ pub fn walk<'a, T: Tree, C: Claims, O: Sink>(
 
     // At each moment the archive is as it was.
     ensures root { Goes (T.went tree.old) (T.went tree.new) (StaysWithin archive.now.folders.root.now) }
+
+    // At each moment, also if it is killed then, the records of each day have their own report, if they had it before.
+    ensures killed { Goes (T.went tree.old) (T.went tree.new) (KeepsReports archive.now) }
 {
     let mut progress = Progress::new(alloc);
     let walker = Walker {

@@ -11,4 +11,4 @@ decreases-loop-day g l = vec_len l.days
 abbrev pub invariant-loop-day : goal.invariant-loop-day
 invariant-loop-day g l = AreWaitingAt (g.T.Tree.went l.tree) l.fn.walker.archive.now.folders.reports.now l.days.items
     × AreWaitingAt (g.T.Tree.went l.tree) l.fn.walker.archive.now.folders.reports.now l.ours.items
-    × Goes (g.T.Tree.went l.fn.tree) (g.T.Tree.went l.tree) (WorksFor l.fn.walker.archive.now.folders)
+    × Goes (g.T.Tree.went l.fn.tree) (g.T.Tree.went l.tree) (WorksFor l.fn.walker.archive.now)

@@ -4,7 +4,8 @@ use Rattle.msr_devices.proofs.Chaining.{calm_calm}
 use Rattle.msr_tool.proofs.StoppedRepacks.{ok_tells}
 use Rattle.msr_walk.proofs.Archive.{tree_ends}
 use Rattle.msr_walk.proofs.EntriesTold.{stop_tells, stops_entries, stops_summary, tells_end, told_among, walk_ends, walk_stops}
-use Rattle.msr_walk.proofs.Working.{goes_stays, separate}
+use Rattle.msr_walk.proofs.Aside.{separate}
+use Rattle.msr_walk.proofs.Working.{goes_keeps, goes_stays}
 use Rattle.msr_walk.specs.Walk.{TellsOutcomes}
 use Rattle.msr_walk.proofs.folders.walk.Goals as goal
 
@@ -26,9 +27,10 @@ returns-in_err-visit-clause-write g c =
     rw (p.1, p.2) (stop_tells _ _ _ c.in_err-visit.field-0.0 c.in_err-visit.ensures.stops)
 
 pub returns-in_err-visit-clause-root : goal.returns-in_err-visit-clause-root
-returns-in_err-visit-clause-root g c =
-    let folders = c.args.archive.now.folders in
-    goes_stays folders.root.now folders.out.now folders.reports.now (separate folders c.requires.apart) _ _ c.in_err-visit.ensures.does
+returns-in_err-visit-clause-root g c = goes_stays c.args.archive.now c.requires.apart _ _ c.in_err-visit.ensures.does
+
+pub returns-in_err-visit-clause-killed : goal.returns-in_err-visit-clause-killed
+returns-in_err-visit-clause-killed g c = goes_keeps c.args.archive.now _ _ c.in_err-visit.ensures.does
 
 pub returns-in_err-write_summary-clause-answer : goal.returns-in_err-write_summary-clause-answer
 returns-in_err-write_summary-clause-answer g c =
@@ -49,9 +51,10 @@ returns-in_err-write_summary-clause-write g c =
     rw (p.1, p.2) (stop_tells _ _ _ fault (stops_summary _ _ _ _ _ _ fault told front))
 
 pub returns-in_err-write_summary-clause-root : goal.returns-in_err-write_summary-clause-root
-returns-in_err-write_summary-clause-root g c =
-    let folders = c.args.archive.now.folders in
-    goes_stays folders.root.now folders.out.now folders.reports.now (separate folders c.requires.apart) _ _ c.in_ok-visit.ensures.does
+returns-in_err-write_summary-clause-root g c = goes_stays c.args.archive.now c.requires.apart _ _ c.in_ok-visit.ensures.does
+
+pub returns-in_err-write_summary-clause-killed : goal.returns-in_err-write_summary-clause-killed
+returns-in_err-write_summary-clause-killed g c = goes_keeps c.args.archive.now _ _ c.in_ok-visit.ensures.does
 
 pub returns-clause-answer : goal.returns-clause-answer
 returns-clause-answer g c =
@@ -73,6 +76,7 @@ returns-clause-tree g c =
     (record { end = tells_end _ _ _ counts (rw c.saturating_add-made.ensures at (rw c.saturating_add-days.ensures at (rw c.saturating_add-days-2.ensures at c.of.ensures))); first = counts.unopened })
 
 pub returns-clause-root : goal.returns-clause-root
-returns-clause-root g c =
-    let folders = c.args.archive.now.folders in
-    goes_stays folders.root.now folders.out.now folders.reports.now (separate folders c.requires.apart) _ _ c.in_ok-visit.ensures.does
+returns-clause-root g c = goes_stays c.args.archive.now c.requires.apart _ _ c.in_ok-visit.ensures.does
+
+pub returns-clause-killed : goal.returns-clause-killed
+returns-clause-killed g c = goes_keeps c.args.archive.now _ _ c.in_ok-visit.ensures.does

@@ -3,7 +3,7 @@ use Rattle.msr_walk.proofs.Working.{goes_works_none, goes_works_then, wait_after
 use Rattle.msr_walk.proofs.batch.Batch.settle.Goals as goal
 
 pub returns-then-is_empty-clause-works : goal.returns-then-is_empty-clause-works
-returns-then-is_empty-clause-works g c = goes_works_none c.args.walker.now.archive.now.folders.out.now c.args.walker.now.archive.now.folders.reports.now _
+returns-then-is_empty-clause-works g c = goes_works_none c.args.walker.now.archive.now _
 
 pub all_ours-ours-requires : goal.all_ours-ours-requires
 all_ours-ours-requires g c = wait_as c.args.walker.now.archive.now.folders.out.now c.args.walker.now.archive.now.folders.reports.now c.args.self.now.days.items _ _ (ap (λ v. v.items) c.replace-days.ensures.value) c.requires
@@ -22,4 +22,4 @@ returns-clause-days g c =
 
 pub returns-clause-works : goal.returns-clause-works
 returns-clause-works g c =
-    goes_works_then c.args.walker.now.archive.now.folders.out.now c.args.walker.now.archive.now.folders.reports.now _ _ _ c.all_ours-ours.ensures.works (goes_works_then c.args.walker.now.archive.now.folders.out.now c.args.walker.now.archive.now.folders.reports.now _ _ _ c.name_all.ensures.works c.release_all.ensures)
+    goes_works_then c.args.walker.now.archive.now c.args.walker.now.apart _ _ _ c.all_ours-ours.ensures.works (goes_works_then c.args.walker.now.archive.now c.args.walker.now.apart _ _ _ c.name_all.ensures.works c.release_all.ensures)

@@ -1,10 +1,8 @@
+use Rattle.msr_making.specs.Clearing.{beside_paths}
 use Rattle.msr_tree.specs.Calls.{Goes}
-use Rattle.msr_tree.specs.Steps.{Path}
-use Rattle.msr_walk.specs.Handling.{AreNamesWithin}
-use Rattle.msr_walk.specs.Told.{ClaimsWithin}
+use Rattle.msr_walk.specs.Handling.{ChangesNames}
 use Rattle.msr_walk.proofs.day.Day.claim.Given as goal
 
--- only what stands within the two folders was changed, and nothing of what has the day's names
+-- only names beside those of the day lead elsewhere
 abbrev pub invariant-loop : goal.invariant-loop
-invariant-loop g l = (out reports : Path) → AreNamesWithin out reports l.self
-    → Goes (g.T.Tree.went l.fn.tree) (g.T.Tree.went l.tree) (ClaimsWithin out reports l.self)
+invariant-loop g l = Goes (g.T.Tree.went l.fn.tree) (g.T.Tree.went l.tree) (ChangesNames beside_paths l.self)

@@ -2,10 +2,10 @@ use Rattle.msr_walk.proofs.Days.{claims_none}
 use Rattle.msr_walk.proofs.day.Day.try_claim.Goals as goal
 
 pub returns-in_err-claim : goal.returns-in_err-claim
-returns-in_err-claim g c = λ out reports within. claims_none out reports c.args.self.now _
+returns-in_err-claim g c = claims_none c.args.self.now _
 
 pub returns-in-Ours : goal.returns-in-Ours
-returns-in-Ours g c = λ out reports within. claims_none out reports c.args.self.now _
+returns-in-Ours g c = claims_none c.args.self.now _
 
 pub returns-in-Again : goal.returns-in-Again
-returns-in-Again g c = λ out reports within. claims_none out reports c.args.self.now _
+returns-in-Again g c = claims_none c.args.self.now _

@@ -2,4 +2,4 @@ use Rattle.msr_walk.proofs.Working.{goes_works_none}
 use Rattle.msr_walk.proofs.folders.Progress.wait.Goals as goal
 
 pub returns-in_default-clause-works : goal.returns-in_default-clause-works
-returns-in_default-clause-works g c = goes_works_none c.args.walker.now.archive.now.folders.out.now c.args.walker.now.archive.now.folders.reports.now _
+returns-in_default-clause-works g c = goes_works_none c.args.walker.now.archive.now _

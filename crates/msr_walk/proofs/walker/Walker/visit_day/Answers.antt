@@ -15,7 +15,7 @@ returns-in_err-channel-clause-stops g c =
     rw (p.1, p.2) (none_told _ _)
 
 pub returns-in_err-channel-clause-works : goal.returns-in_err-channel-clause-works
-returns-in_err-channel-clause-works g c = goes_works_none c.args.self.now.archive.now.folders.out.now c.args.self.now.archive.now.folders.reports.now _
+returns-in_err-channel-clause-works g c = goes_works_none c.args.self.now.archive.now _
 
 pub returns-in_err-handled-clause-stops : goal.returns-in_err-handled-clause-stops
 returns-in_err-handled-clause-stops g c =
@@ -23,7 +23,7 @@ returns-in_err-handled-clause-stops g c =
     rw (p.1, p.2) (none_told _ _)
 
 pub returns-in_err-handled-clause-works : goal.returns-in_err-handled-clause-works
-returns-in_err-handled-clause-works g c = tells_works _ _ _ c.args.self.now.archive.now.folders.out.now c.args.self.now.archive.now.folders.reports.now _ _ _ c.in_err-handled.ensures.goes
+returns-in_err-handled-clause-works g c = tells_works c.args.self.now.archive.now _ _ _ _ _ _ c.in_err-handled.ensures.goes
 
 pub returns-in_err-handled-clause-days : goal.returns-in_err-handled-clause-days
 returns-in_err-handled-clause-days g c = wait_after c.args.self.now.archive.now.folders.out.now c.args.self.now.archive.now.folders.reports.now _ _ _ _ c.in_err-handled.ensures.goes c.requires.days
@@ -34,10 +34,10 @@ returns-clause-told g c =
     let entry : Entry = record { path = c.args.path.now; channel = c.as_str.result.now; outcome = known_as c.args.self.now.archive.now.known c.args.path.now c.in_ok-handled.handled.outcome } in
     let told = counted_on (λ of. of.tally) c.args.self.now.archive.now (entry ∷ []) (g.O.Sink.device c.args.out.now) (g.O.Sink.device c.tell-told.new.out) c.args.progress.now c.wait.new.self _ _ c.tell-told.result
     (c.tell-told.ensures.told (outcome_of _ _ _ _ day c.in_ok-handled.ensures.told)) refl c.wait.ensures.tally in
-    λ kind there. on_ok_as c.tell-told.result (λ told. visited_day (λ of. of.tally) c.args.self.now.archive.now c.args.self.now.archive.now.folders.root.now c.args.self.now.archive.now.folders.out.now c.args.self.now.archive.now.folders.reports.now (λ told. told.outcome) c.in_ok-handled.handled
+    λ kind there. on_ok_as c.tell-told.result (λ told. visited_day (λ of. of.tally) c.args.self.now.archive.now (λ told. told.outcome) c.in_ok-handled.handled
     c.args.path.now c.as_str.result.now kind (g.T.Tree.went c.args.tree.now) (g.T.Tree.went c.handle.new.tree) (g.T.Tree.went c.wait.new.tree)
     (g.O.Sink.device c.args.out.now) (g.O.Sink.device c.tell-told.new.out) c.args.progress.now c.wait.new.self
-    there (c.args.name.now, c.requires.day) c.in_ok-handled.ensures.goes c.wait.ensures.works told) told
+    c.args.self.now.apart there (c.args.name.now, c.requires.day) c.in_ok-handled.ensures.goes c.wait.ensures.works told) told
 
 pub returns-clause-stops : goal.returns-clause-stops
 returns-clause-stops g c =
@@ -46,4 +46,4 @@ returns-clause-stops g c =
 
 pub returns-clause-works : goal.returns-clause-works
 returns-clause-works g c =
-    goes_works_then c.args.self.now.archive.now.folders.out.now c.args.self.now.archive.now.folders.reports.now _ _ _ (tells_works _ _ _ c.args.self.now.archive.now.folders.out.now c.args.self.now.archive.now.folders.reports.now _ _ _ c.in_ok-handled.ensures.goes) c.wait.ensures.works
+    goes_works_then c.args.self.now.archive.now c.args.self.now.apart _ _ _ (tells_works c.args.self.now.archive.now _ _ _ _ _ _ c.in_ok-handled.ensures.goes) c.wait.ensures.works
