@@ -31,7 +31,7 @@ pub struct SystemTree<'a, R: Files> {
     has_links: bool,
     /// The folder that was made last, if it was there and stored then, with all that lead to it.
     stored: Option<String>,
-    watch: Watch<'a>,
+    watch: Watch,
 }
 
 impl<'a, R: Files> SystemTree<'a, R> {
@@ -42,7 +42,7 @@ impl<'a, R: Files> SystemTree<'a, R> {
             reason: None,
             has_links: true,
             stored: None,
-            watch: Watch::none(),
+            watch: Watch::none(alloc),
         }
     }
 
@@ -54,17 +54,17 @@ impl<'a, R: Files> SystemTree<'a, R> {
             reason: None,
             has_links: false,
             stored: None,
-            watch: Watch::none(),
+            watch: Watch::none(alloc),
         }
     }
 }
 
 impl<'a, R: Files + Clock> SystemTree<'a, R> {
     /// The same, and a person sees on that screen, if there is one, how far the walk of a folder is.
-    pub fn watched(self, root: &'a str, screen: Option<Stderr>) -> SystemTree<'a, R> {
+    pub fn watched(self, root: &str, screen: Option<Stderr>) -> SystemTree<'a, R> {
         match screen {
             Some(screen) => SystemTree {
-                watch: Watch::new(self.rt, root, screen),
+                watch: Watch::new(self.rt, self.alloc, root, screen),
                 ..self
             },
             None => self,

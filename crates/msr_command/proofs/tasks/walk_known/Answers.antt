@@ -8,12 +8,12 @@ use Rattle.msr_command.proofs.tasks.walk_known.Goals as goal
 pub returns-in_err-lines-in-File : goal.returns-in_err-lines-in-File
 returns-in_err-lines-in-File g c =
     let p = err_from_is_err_and c.from_residual.result c.from_residual.ensures.1 in
-    rw (p.1, p.2) (archive_unbegun c.args.asked.now (g.O.Sink.device c.args.output.now) _ (unread c.args.asked.now.known c.in-File.name _ c.in-File.is c.in_err-lines-in-File.ensures))
+    rw (p.1, p.2) (archive_unbegun (g.F.NamedFiles.went c.args.files.now) c.args.asked.now (g.O.Sink.device c.args.output.now) _ (unread c.args.asked.now.known c.in-File.name _ c.in-File.is c.in_err-lines-in-File.ensures))
 
 pub returns-in_default : goal.returns-in_default
 returns-in_default g c =
-    c.walk_watched-in_default.ensures c.args.asked.now (record { days = refl; known = known_same c.args.asked.now.known c.in_default.not-File })
+    c.walk_watched-in_default.ensures c.args.asked.now (record { folders = refl; below = refl; days = refl; known = known_same c.args.asked.now.known c.in_default.not-File })
 
-pub returns-in_default-clone : goal.returns-in_default-clone
-returns-in_default-clone g c =
-    archive_unbegun c.args.asked.now (g.O.Sink.device c.args.output.now) (Tool fault.Memory) (unwalked c.args.asked.now.known (Tool fault.Memory) (inr refl))
+pub returns-in_default-from_slice : goal.returns-in_default-from_slice
+returns-in_default-from_slice g c =
+    archive_unbegun (g.F.NamedFiles.went c.args.files.now) c.args.asked.now (g.O.Sink.device c.args.output.now) (Tool fault.Memory) (unwalked c.args.asked.now.known (Tool fault.Memory) (inr refl))
