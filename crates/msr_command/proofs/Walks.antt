@@ -31,7 +31,7 @@ use Rattle.msr_replace.specs.declared.lines.Outcome.TheVariants.{Day, Undone, Re
 use Rattle.msr_command.specs.declared.done.Done.{Done}
 use Rattle.msr_command.specs.declared.task_fault.TaskFault.{TaskFault}
 use Rattle.msr_command.specs.declared.task_fault.TaskFault.TheVariants.{CannotOpen, Closed, Failed, Input, Overlap, SameFile, SameOutput, Tool}
-use Rattle.msr_command.specs.Ends.{FailsReplacing, ReplacesArchive, TriesArchive, VerifiesArchive, VerifiesKnown, WalksArchive, WalksKnown}
+use Rattle.msr_command.specs.Ends.{FailsReplacing, IsReplaced, ReplacesArchive, TriesArchive, VerifiesArchive, VerifiesKnown, WalksArchive, WalksKnown}
 use Rattle.msr_command.proofs.Inputs.{goes_on, goes_so, goes_still}
 
 -- nothing was done
@@ -256,8 +256,8 @@ failed_at asked before after out0 out at path found is tree =
     }
 
 -- or none failed
-pub none_failed : {Z Y : Type 0} (asked : Replacing) (before after : List Step → Type 0) (out0 out : Device) (found : WalkFound)
-    → ReplacesTree asked before after out0 out (None {A = String Z}) found → ReplacesTree asked before after out0 out (None {A = String Y}) found
+pub none_failed : {Z : Type 0} (asked : Replacing) (before after : List Step → Type 0) (out0 out : Device) (found : WalkFound)
+    → ReplacesTree {Z = Z} asked before after out0 out None found → IsReplaced asked before after out0 out found
 none_failed asked before after out0 out found tree = record {
   work = tree.work;
   is_work = tree.is_work;

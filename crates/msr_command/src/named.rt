@@ -47,6 +47,9 @@ pub trait NamedFiles {
     fn take_back(&mut self, names: Self::Names)
         ensures { Goes (Self.Names.went names) (went self.new) (λ old new. new ≡ old) };
 
+    /// How many days a walk made anew, although their file was unchanged: their reports told other options or records.
+    fn days_anew(&self) -> u64;
+
     /// Opens what a name leads to, links followed, to be read from its start, and tells which regular file it is. What
     /// comes through a pipe or a device is what its name leads to.
     fn open(&self, name: &str) -> io::Result<(Self::Reader, Option<FileId>)>
@@ -83,16 +86,21 @@ pub trait NamedFiles {
 pub struct SystemFiles<'a, R> {
     rt: &'a R,
     screen: Option<Stderr>,
+    days_anew: u64,
 }
 
 impl<'a, R: Files + Clock> SystemFiles<'a, R> {
     pub fn new(rt: &'a R) -> SystemFiles<'a, R> {
-        SystemFiles { rt, screen: None }
+        SystemFiles::watched(rt, None)
     }
 
     /// The same, and a person sees on that screen, if there is one, how far a walk is.
     pub fn watched(rt: &'a R, screen: Option<Stderr>) -> SystemFiles<'a, R> {
-        SystemFiles { rt, screen }
+        SystemFiles {
+            rt,
+            screen,
+            days_anew: 0,
+        }
     }
 }
 
@@ -142,6 +150,11 @@ impl<'a, R: Files + Clock> NamedFiles for SystemFiles<'a, R> {
     fn take_back(&mut self, names: SystemTree<'a, R>) {
         let mut names = names;
         names.clear();
+        self.days_anew = names.days_anew();
+    }
+
+    fn days_anew(&self) -> u64 {
+        self.days_anew
     }
 
     fn open(&self, name: &str) -> io::Result<(FromRead<R::File>, Option<FileId>)> {

@@ -3,6 +3,7 @@
 ghost use Rattle.std.specs.Prelude.{IfOk};
 ghost use Rattle.msr_devices.specs.Device.{CanCountCall};
 
+use crate::anew::Anew;
 use crate::copying::{compare, dress};
 use crate::listing::{kind_of, names_in};
 use crate::making::make_stored;
@@ -32,6 +33,7 @@ pub struct SystemTree<'a, R: Files> {
     /// The folder that was made last, if it was there and stored then, with all that lead to it.
     stored: Option<String>,
     watch: Watch,
+    anew: Anew,
 }
 
 impl<'a, R: Files> SystemTree<'a, R> {
@@ -43,6 +45,7 @@ impl<'a, R: Files> SystemTree<'a, R> {
             has_links: true,
             stored: None,
             watch: Watch::none(alloc),
+            anew: Anew::new(),
         }
     }
 
@@ -55,7 +58,15 @@ impl<'a, R: Files> SystemTree<'a, R> {
             has_links: false,
             stored: None,
             watch: Watch::none(alloc),
+            anew: Anew::new(),
         }
+    }
+}
+
+impl<'a, R: Files> SystemTree<'a, R> {
+    /// How many days of a walk were made anew, although their file was unchanged: their reports told other options or records.
+    pub fn days_anew(&self) -> u64 {
+        self.anew.days
     }
 }
 
@@ -181,6 +192,7 @@ impl<'a, R: Files + Clock> Tree for SystemTree<'a, R> {
             return Err(TreeFault::Failed);
         }
         let opened = File::open(self.rt, path);
+        self.anew.note_opened(self.alloc, path);
         self.watch
             .note_file(self.rt, self.alloc, path, opened.is_ok());
         reader(&mut self.reason, opened)
@@ -225,6 +237,9 @@ impl<'a, R: Files + Clock> Tree for SystemTree<'a, R> {
 
     fn rename(&mut self, from: &str, to: &str) -> Result<(), TreeFault> {
         let answer = rename_over(self.rt, from, to, self.has_links);
+        if answer.is_ok() {
+            self.anew.note_named(to);
+        }
         told(&mut self.reason, answer)
     }
 
