@@ -26,8 +26,6 @@ use Rattle.msr_replace.specs.Lines.{exchange_word}
 use Rattle.msr_replace.specs.Tree.{ReplacesTree}
 use Rattle.msr_replace.specs.Walk.{TellsFound}
 use Rattle.msr_replace.specs.Words.{is_unwell}
-use Rattle.msr_replace.specs.declared.lines.Outcome.{Outcome}
-use Rattle.msr_replace.specs.declared.lines.Outcome.TheVariants.{Day, Undone, Refused, Skipped, Orphan, DayFailed, FolderFailed}
 use Rattle.msr_command.specs.declared.done.Done.{Done}
 use Rattle.msr_command.specs.declared.task_fault.TaskFault.{TaskFault}
 use Rattle.msr_command.specs.declared.task_fault.TaskFault.TheVariants.{CannotOpen, Closed, Failed, Input, Overlap, SameFile, SameOutput, Tool}
@@ -46,9 +44,9 @@ pub still_reads : {before after : List Step → Type 0} → Goes before after (�
 still_reads still = goes_so (λ old new same. subst (λ it. OnlyReads old it) (sym same) (reads_none old)) still
 
 -- what was done by names that were lent was done with the files
-pub lent : {before taken left after : List Step → Type 0} (R : (old new : List Step) → Type 0) → Goes before taken (λ old new. new ≡ old)
+pub lent : (before taken left after : List Step → Type 0) (R : (old new : List Step) → Type 0) → Goes before taken (λ old new. new ≡ old)
     → Goes left after (λ old new. new ≡ old) → Goes taken left R → Goes before after R
-lent R lends takes_back does = goes_on (λ old between new done same. subst (λ it. R old it) (sym same) done)
+lent before taken left after R lends takes_back does = goes_on (λ old between new done same. subst (λ it. R old it) (sym same) done)
     (goes_on (λ old between new same done. subst (λ it. R it new) same done) lends does) takes_back
 
 module _ (before1 after1 before after : List Step → Type 0) (out0 out1 out : Device)
@@ -208,14 +206,8 @@ module _ (before1 after1 before after : List Step → Type 0) (out0 out1 out : D
 
 -- a walk in which a call failed is one of which something is to be looked at
 
-failed_is_unwell : (outcome : Outcome) → has_failed outcome ≡ true → is_unwell (exchange_word outcome) ≡ true
-failed_is_unwell DayFailed is = refl
-failed_is_unwell FolderFailed is = refl
-failed_is_unwell (Day answer) is = absurd cc
-failed_is_unwell (Undone answer) is = absurd cc
-failed_is_unwell (Refused refusal) is = absurd cc
-failed_is_unwell (Skipped fault) is = absurd cc
-failed_is_unwell Orphan is = absurd cc
+failed_is_unwell : (entry : ExchangeEntry) → has_failed entry.outcome ≡ true → is_unwell (exchange_word entry.outcome) ≡ true
+failed_is_unwell entry is = grind (arith, is)
 
 counted_one : (n : ℕ) → saturated (n + 1) ≡ 0 → ⊥
 counted_one n none = omega (arith, none)
@@ -225,7 +217,7 @@ has_unwell : {Z : Type 0} (entries : List ExchangeEntry) (path : String Z) → I
 has_unwell entries path (before, last, whole, all, failed, at) none =
     let more = count_more is_unwell before last (exchange_count is_unwell before) refl in
     let counted : saturated (exchange_count is_unwell before + 1) ≡ exchange_count is_unwell (before ++ last ∷ []) =
-        rw (failed_is_unwell last.outcome failed) at more in
+        rw (failed_is_unwell last failed) at more in
     counted_one (exchange_count is_unwell before) (counted ∙ subst (λ it. exchange_count is_unwell it ≡ 0) whole none)
 
 failed_unwell : {Z : Type 0} (entries : List ExchangeEntry) (path : String Z) (found : WalkFound) → IsStoppedAt entries (Some path)

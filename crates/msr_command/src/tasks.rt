@@ -370,7 +370,7 @@ where
     match asked.known {
         Known::File(name) => {
             let lines = read_known(files.system(), alloc, name)?;
-            let Ok(below) = Vec::from_slice(alloc, asked.below.as_slice()) else {
+            let Ok(below) = asked.below.clone() else {
                 return Err(TaskFault::Tool(ToolFault::Memory));
             };
             let read = Archiving {
@@ -451,7 +451,7 @@ fn verify_known<'a, F: NamedFiles, O: Sink>(
     match asked.known {
         Known::File(name) => {
             let lines = read_known(files.system(), alloc, name)?;
-            let Ok(below) = Vec::from_slice(alloc, asked.below.as_slice()) else {
+            let Ok(below) = asked.below.clone() else {
                 return Err(TaskFault::Tool(ToolFault::Memory));
             };
             let read = Verifying {

@@ -26,4 +26,4 @@ returns g c =
     let out0 = g.O.Sink.device c.args.output.now in
     let out = g.O.Sink.device c.replace_days-done.new.output in
     replace_as taken left before after out0 out0 out (λ printed takes. takes)
-    (λ R does. lent R c.lend-names.ensures c.take_back.ensures does) c.args.asked.now c.replace_days-done.result c.replace_days-done.ensures
+    (λ R does. lent before taken left after R c.lend-names.ensures c.take_back.ensures does) c.args.asked.now c.replace_days-done.result c.replace_days-done.ensures

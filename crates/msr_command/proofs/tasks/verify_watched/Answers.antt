@@ -10,4 +10,4 @@ returns g c =
     let out0 = g.O.Sink.device c.args.output.now in
     let out = g.O.Sink.device c.verify_read-found.new.output in
     λ asked is. verify_known_as taken left before after out0 out0 out (λ printed takes. takes)
-    (λ R does. lent R c.lend-names.ensures c.take_back.ensures does) asked c.verify_read-found.result (c.verify_read-found.ensures asked is)
+    (λ R does. lent before taken left after R c.lend-names.ensures c.take_back.ensures does) asked c.verify_read-found.result (c.verify_read-found.ensures asked is)

@@ -10,4 +10,4 @@ returns g c =
     let out0 = g.O.Sink.device c.args.output.now in
     let out = g.O.Sink.device c.walk_archive-walked.new.output in
     λ asked is. known_as taken left before after out0 out0 out (λ printed takes. takes)
-    (λ R does. lent R c.lend-names.ensures c.take_back.ensures does) asked c.walk_archive-walked.result (c.walk_archive-walked.ensures asked is)
+    (λ R does. lent before taken left after R c.lend-names.ensures c.take_back.ensures does) asked c.walk_archive-walked.result (c.walk_archive-walked.ensures asked is)

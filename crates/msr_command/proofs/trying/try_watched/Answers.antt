@@ -10,4 +10,4 @@ returns g c =
     let out0 = g.O.Sink.device c.args.output.now in
     let out = g.O.Sink.device c.try_archive-tried.new.output in
     trial_as taken left before after out0 out0 out (λ printed takes. takes)
-    (λ R does. lent R c.lend-names.ensures c.take_back.ensures does) c.args.asked.now c.try_archive-tried.result c.try_archive-tried.ensures
+    (λ R does. lent before taken left after R c.lend-names.ensures c.take_back.ensures does) c.args.asked.now c.try_archive-tried.result c.try_archive-tried.ensures
