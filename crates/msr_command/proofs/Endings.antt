@@ -1,6 +1,6 @@
 -- How tasks end: done, stopped, or before they begin.
 use Rattle.std.specs.Prelude.{◌↔◌, ⊤, IfOk, IsTrue, Option, None, Some, String, vec_len}
-use Rattle.std.proofs.Common.{◌≡◌, ◌++◌, ℕ, Bool, List, [], refl, subst, sym, inl, inr, append-nil, Result, Ok, Err, ◌≢◌, true, false, codes}
+use Rattle.std.proofs.Common.{◌≡◌, ◌++◌, ℕ, Bool, List, [], refl, subst, sym, inl, inr, append-nil, Result, Ok, Err, ◌≢◌, false}
 use Rattle.msr_devices.specs.Device.{Device, HasLeft, Takes}
 use Rattle.msr_devices.proofs.Chaining.{left_of, takes_append, takes_none}
 use Rattle.msr_report.specs.declared.report.Report.{Report}
@@ -10,7 +10,6 @@ use Rattle.msr_options.specs.Choice.{Choice}
 use Rattle.msr_tool.specs.Tasks.{Reports}
 use Rattle.msr_tool.specs.declared.fault.ToolFault.{ToolFault}
 use Rattle.msr_tool.specs.declared.fault.ToolFault.TheVariants as fault
-use Rattle.msr_options.specs.Known.{knows_any}
 use Rattle.msr_options.specs.declared.known.Known.{Known}
 use Rattle.msr_options.specs.declared.known.Known.TheVariants.{Nothing, File, Lines}
 use Rattle.msr_options.specs.declared.task.Archiving.{Archiving}
@@ -55,7 +54,7 @@ use Rattle.msr_options.specs.declared.task.Repacking.{Repacking}
 use Rattle.msr_command.specs.Named.{GetsNoReport, GetsOutput, GetsReport}
 use Rattle.msr_command.proofs.Inputs.{goes_so, goes_still, unread_unopened}
 use Rattle.msr_command.proofs.Walks.{archive_as, failed_at, none_failed, replace_as, still_reads, still_stays, trial_as, verify_as}
-use Rattle.msr_command.specs.Ends.{Checks, ComesNamed, Does, EndsClosed, EndsReplacing, Feeds, FeedAnswers, FeedEnds, FeedsTo, HasOpened, IfTool, IsUncreated, IsUnbegun, IsUnread, ListEnds, ListsNamed, IsOverlapOrMemory, Over, RepackEnds, Repacks, RepacksNamed, ReplacesArchive, Settles, StopsRecords, VerifiesArchive, WalksArchive, WritesRecords, done_of_archive, done_of_verifying, is_whole, TriesArchive, VerifiesKnown, WalksKnown, IsArchivingRead, IsUnwalked, IsVerifyingRead, done_of_trial, IsKnownRead, IsUnknown}
+use Rattle.msr_command.specs.Ends.{Checks, ComesNamed, Does, EndsClosed, EndsReplacing, Feeds, FeedEnds, FeedsTo, HasOpened, IfTool, IsUncreated, IsUnbegun, IsUnread, ListEnds, ListsNamed, IsOverlapOrMemory, Over, RepackEnds, Repacks, RepacksNamed, ReplacesArchive, Settles, StopsRecords, VerifiesArchive, WalksArchive, WritesRecords, done_of_archive, done_of_verifying, is_whole, TriesArchive, IsArchivingRead, IsUnwalked, IsVerifyingRead, done_of_trial, IsKnownRead, IsUnknown}
 use denote.Ref.{Bor}
 
 -- nothing was printed

@@ -1,8 +1,7 @@
 -- The same walk, told of the files that lent their names, or after what printed nothing.
 use Rattle.std.specs.Prelude.{Option, None, Some, String, string_bytes}
-use Rattle.std.proofs.Common.{◌≡◌, ◌∙◌, ◌+◌, ◌++◌, ◌∷◌, ℕ, List, [], Result, Ok, Err, Bool, true, false, arith, inl, inr, refl, subst, sym}
+use Rattle.std.proofs.Common.{◌≡◌, ◌∙◌, ◌+◌, ◌++◌, ◌∷◌, ℕ, List, [], Result, Ok, Err, true, arith, inl, inr, refl, subst, sym}
 use Rattle.msr_devices.specs.Device.{Device, Takes}
-use Rattle.msr_devices.proofs.Chaining.{takes_append}
 use Rattle.msr_folders.specs.Stopping.{entries_of}
 use Rattle.msr_folders.specs.Totals.{saturated}
 use Rattle.msr_folders.specs.declared.found.WalkFound.{WalkFound}
@@ -30,7 +29,7 @@ use Rattle.msr_command.specs.declared.done.Done.{Done}
 use Rattle.msr_command.specs.declared.task_fault.TaskFault.{TaskFault}
 use Rattle.msr_command.specs.declared.task_fault.TaskFault.TheVariants.{CannotOpen, Closed, Failed, Input, Overlap, SameFile, SameOutput, Tool}
 use Rattle.msr_command.specs.Ends.{FailsReplacing, IsReplaced, ReplacesArchive, TriesArchive, VerifiesArchive, VerifiesKnown, WalksArchive, WalksKnown}
-use Rattle.msr_command.proofs.Inputs.{goes_on, goes_so, goes_still}
+use Rattle.msr_command.proofs.Inputs.{goes_on, goes_so}
 
 -- nothing was done
 
@@ -52,7 +51,6 @@ lent before taken left after R lends takes_back does = goes_on (λ old between n
 module _ (before1 after1 before after : List Step → Type 0) (out0 out1 out : Device)
     (takes_as : (printed : List ℕ) → Takes out1 out printed → Takes out0 out printed)
     (goes_as : (R : (old new : List Step) → Type 0) → Goes before1 after1 R → Goes before after R) where
-
   walked_as : (read : Archiving) (walked : Walked) → WalksTree read before1 after1 out1 out walked → WalksTree read before after out0 out walked
   walked_as read walked tree = record {
     visits = tree.visits;
@@ -217,7 +215,7 @@ has_unwell : {Z : Type 0} (entries : List ExchangeEntry) (path : String Z) → I
 has_unwell entries path (before, last, whole, all, failed, at) none =
     let more = count_more is_unwell before last (exchange_count is_unwell before) refl in
     let counted : saturated (exchange_count is_unwell before + 1) ≡ exchange_count is_unwell (before ++ last ∷ []) =
-        rw (failed_is_unwell last failed) at more in
+    rw (failed_is_unwell last failed) at more in
     counted_one (exchange_count is_unwell before) (counted ∙ subst (λ it. exchange_count is_unwell it ≡ 0) whole none)
 
 failed_unwell : {Z : Type 0} (entries : List ExchangeEntry) (path : String Z) (found : WalkFound) → IsStoppedAt entries (Some path)

@@ -130,12 +130,7 @@ impl<'a, R: Files + Clock> NamedFiles for SystemFiles<'a, R> {
         self.rt
     }
 
-    fn lend(
-        &mut self,
-        alloc: Global,
-        has_links: bool,
-        watched: Option<&str>,
-    ) -> SystemTree<'a, R> {
+    fn lend(&mut self, alloc: Global, has_links: bool, watched: Option<&str>) -> SystemTree<'a, R> {
         let names = if has_links {
             SystemTree::new(self.rt, alloc)
         } else {

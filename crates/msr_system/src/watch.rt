@@ -80,7 +80,11 @@ impl Watch {
         path: &str,
         is_open: bool,
     ) {
-        if self.is_asked() && is_open && is_within(self.root.as_str(), path) && !self.is_last(path) {
+        if self.is_asked()
+            && is_open
+            && is_within(self.root.as_str(), path)
+            && !self.is_last(path)
+        {
             self.count(rt, alloc, path);
         }
     }

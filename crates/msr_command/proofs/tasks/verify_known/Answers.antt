@@ -1,4 +1,4 @@
-use Rattle.std.proofs.Common.{inl, inr, refl}
+use Rattle.std.proofs.Common.{inr, refl}
 use Rattle.std.proofs.lemmas.List.Elements.{same_from_all_zip}
 use Rattle.std.proofs.lemmas.Result.{err_from_is_err_and}
 use Rattle.msr_command.proofs.Endings.{verify_unbegun, known_same, unread, unwalked}
@@ -23,6 +23,7 @@ pub returns-in-Ok : goal.returns-in-Ok
 returns-in-Ok g c = c.verify_watched.ensures c.args.asked.now (record {
   folders = refl;
   below = same_from_all_zip _ _ _ c.in-Ok.ensures.cases.0 (λ x y same. same);
-  names = refl; telling = refl;
+  names = refl;
+  telling = refl;
   known = rw c.in-File.is refl;
 })
