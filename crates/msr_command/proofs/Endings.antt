@@ -1,6 +1,6 @@
 -- How tasks end: done, stopped, or before they begin.
-use Rattle.std.specs.Prelude.{◌↔◌, ⊤, IsSomeAnd, IsTrue, Option, None, Some, String, string_bytes, vec_len}
-use Rattle.std.proofs.Common.{◌≡◌, ◌∙◌, ℕ, Bool, List, [], refl, subst, sym, inl, inr, append-nil, Result, Ok, Err, ◌≢◌, true, false, codes}
+use Rattle.std.specs.Prelude.{◌↔◌, ⊤, IfOk, IsTrue, Option, None, Some, String, vec_len}
+use Rattle.std.proofs.Common.{◌≡◌, ◌++◌, ℕ, Bool, List, [], refl, subst, sym, inl, inr, append-nil, Result, Ok, Err, ◌≢◌, false}
 use Rattle.msr_devices.specs.Device.{Device, HasLeft, Takes}
 use Rattle.msr_devices.proofs.Chaining.{left_of, takes_append, takes_none}
 use Rattle.msr_report.specs.declared.report.Report.{Report}
@@ -10,7 +10,6 @@ use Rattle.msr_options.specs.Choice.{Choice}
 use Rattle.msr_tool.specs.Tasks.{Reports}
 use Rattle.msr_tool.specs.declared.fault.ToolFault.{ToolFault}
 use Rattle.msr_tool.specs.declared.fault.ToolFault.TheVariants as fault
-use Rattle.msr_options.specs.Known.{knows_any}
 use Rattle.msr_options.specs.declared.known.Known.{Known}
 use Rattle.msr_options.specs.declared.known.Known.TheVariants.{Nothing, File, Lines}
 use Rattle.msr_options.specs.declared.task.Archiving.{Archiving}
@@ -18,22 +17,25 @@ use Rattle.msr_options.specs.declared.task.Replacing.{Replacing}
 use Rattle.msr_options.specs.declared.task.Trying.{Trying}
 use Rattle.msr_options.specs.declared.task.Verifying.{Verifying}
 use Rattle.msr_folders.specs.declared.found.WalkFound.{WalkFound}
+use Rattle.msr_folders.specs.Stopping.{entries_of}
 use Rattle.msr_folders.specs.Visits.{IsWalk}
 use Rattle.msr_outcomes.specs.Known.{IsEntry}
 use Rattle.msr_outcomes.specs.Lines.{IsEntryLine}
 use Rattle.msr_outcomes.specs.Summary.{summary, summary_by}
+use Rattle.msr_walk.specs.Told.{StaysWithin, WalksTree}
 use Rattle.msr_walk.specs.Walk.{Walks}
 use Rattle.msr_walk.specs.declared.folders.Walked.{Walked}
 use Rattle.msr_trial.specs.Entries.{IsTrialEntry}
 use Rattle.msr_trial.specs.Lines.{IsTrialLine}
-use Rattle.msr_trial.specs.Walk.{Tries}
+use Rattle.msr_trial.specs.Walk.{Tries, TriesTree}
 use Rattle.msr_trial.specs.declared.walk.Tried.{Tried}
 use Rattle.msr_verify.specs.Known.{IsJudgedEntry}
 use Rattle.msr_verify.specs.Lines.{IsToldLine}
-use Rattle.msr_verify.specs.Walk.{Verifies, judged_summary}
+use Rattle.msr_verify.specs.Walk.{Verifies, VerifiesTree, judged_summary}
 use Rattle.msr_replace.specs.Entries.{IsExchangeEntry, IsExchangeEntryLine}
 use Rattle.msr_replace.specs.Sums.{exchange_summary}
-use Rattle.msr_replace.specs.Walk.{ReplacesDays, ReplacingEnds, TellsFailed}
+use Rattle.msr_replace.specs.Tree.{ReplacesTree}
+use Rattle.msr_replace.specs.Walk.{ReplacesDays}
 use Rattle.msr_command.specs.declared.done.Done.{Done}
 use Rattle.msr_command.specs.declared.done.Done.TheVariants.{Written, Repacked}
 use Rattle.msr_command.specs.declared.task_fault.TaskFault.{TaskFault}
@@ -42,14 +44,17 @@ use Rattle.msr_options.specs.declared.task.ListForm.{ListForm}
 use Rattle.msr_options.specs.declared.task.Task.{Task}
 use Rattle.msr_options.specs.declared.task.Task.TheVariants.{Repack, List as Listing, Check, Compare, Archive, Trial, Verify, Replace, Feed}
 use Rattle.msr_command.specs.Turns.{AreTurns}
+use Rattle.msr_tree.specs.Calls.{Goes}
+use Rattle.msr_tree.specs.Reads.{OnlyReads}
 use Rattle.msr_tree.specs.Steps.{Path, Step}
 use Rattle.msr_options.specs.declared.task.Checking.{Checking}
 use Rattle.msr_command.proofs.Comparisons.{compare_unsettled, two_after, two_none}
 use Rattle.msr_options.specs.declared.task.Feeding.{Feeding}
 use Rattle.msr_options.specs.declared.task.Repacking.{Repacking}
 use Rattle.msr_command.specs.Named.{GetsNoReport, GetsOutput, GetsReport}
-use Rattle.msr_command.proofs.Inputs.{goes_so, unread_unopened}
-use Rattle.msr_command.specs.Ends.{Checks, ComesNamed, Does, EndsClosed, EndsReplacing, Feeds, FeedAnswers, FeedEnds, FeedsTo, HasOpened, IfTool, IsUncreated, IsUnbegun, IsUnread, ListEnds, ListsNamed, IsOverlapOrMemory, Over, RepackEnds, Repacks, RepacksNamed, ReplaceEnds, ReplacesArchive, Settles, StopsRecords, VerifiesArchive, WalksArchive, WritesRecords, done_of_archive, done_of_verifying, is_whole, TriesArchive, VerifiesKnown, WalksKnown, IsArchivingRead, IsUnwalked, IsVerifyingRead, done_of_trial, IsKnownRead, IsUnknown}
+use Rattle.msr_command.proofs.Inputs.{goes_so, goes_still, unread_unopened}
+use Rattle.msr_command.proofs.Walks.{archive_as, failed_at, none_failed, replace_as, still_reads, still_stays, trial_as, verify_as}
+use Rattle.msr_command.specs.Ends.{Checks, ComesNamed, Does, EndsClosed, EndsReplacing, Feeds, FeedEnds, FeedsTo, HasOpened, IfTool, IsUncreated, IsUnbegun, IsUnread, ListEnds, ListsNamed, IsOverlapOrMemory, Over, RepackEnds, Repacks, RepacksNamed, ReplacesArchive, Settles, StopsRecords, VerifiesArchive, WalksArchive, WritesRecords, done_of_archive, done_of_verifying, is_whole, TriesArchive, IsArchivingRead, IsUnwalked, IsVerifyingRead, done_of_trial, IsKnownRead, IsUnknown}
 use denote.Ref.{Bor}
 
 -- nothing was printed
@@ -118,13 +123,25 @@ list_unread form choice went name standard out stop is =
 
 -- nothing can be printed
 
+-- nor is any file made, if nothing is fed
+pub closed_still : (went : List Step → Type 0) (task : Task) → ((asked : Feeding) → task ≢ Feed asked) → EndsClosed went went task Closed
+closed_still went (Repack asked) other = (refl, goes_still)
+closed_still went (Listing asked) other = (refl, goes_still)
+closed_still went (Check asked) other = (refl, goes_still)
+closed_still went (Compare asked) other = (refl, goes_still)
+closed_still went (Archive asked) other = (refl, goes_still)
+closed_still went (Trial asked) other = (refl, goes_still)
+closed_still went (Verify asked) other = (refl, goes_still)
+closed_still went (Replace asked) other = (refl, goes_still)
+closed_still went (Feed asked) other = absurd (other asked refl)
+
 pub task_closed : (before after : List Step → Type 0) (task : Task) (standard out0 out : Device) (stop : TaskFault) →
-    Takes out0 out [] → EndsClosed task stop → Does before after task standard out0 out (Err stop)
+    Takes out0 out [] → EndsClosed before after task stop → Does before after task standard out0 out (Err stop)
 task_closed before after (Repack asked) standard out0 out stop none ends =
-    rw ends (over_none _ _ _ out0 out [] (λ opened. absurd opened) none (inr (inr refl, refl)))
+    rw ends.0 (over_none _ _ _ out0 out [] (λ opened. absurd opened) none (inr (inr refl, refl)))
 task_closed before after (Listing asked) standard out0 out stop none ends =
-    rw ends (over_none _ _ _ out0 out [] (λ opened. absurd opened) none (inr (inr refl, refl)))
-task_closed before after (Check asked) standard out0 out stop none ends = rw ends (record {
+    rw ends.0 (over_none _ _ _ out0 out [] (λ opened. absurd opened) none (inr (inr refl, refl)))
+task_closed before after (Check asked) standard out0 out stop none ends = rw ends.0 (record {
   input = [];
   text = [];
   printed = [];
@@ -134,15 +151,19 @@ task_closed before after (Check asked) standard out0 out stop none ends = rw end
   ends = inr (inr refl, refl);
 })
 task_closed before after (Compare asked) standard out0 out stop none ends =
-    rw ends (two_none _ _ _ _ out0 out (λ opened. opened) none (inr (inr refl, refl)))
-task_closed before after (Archive asked) standard out0 out stop none ends =
-    rw ends (record { printed = []; prints = none; ends = inr (inr refl, refl) })
+    rw ends.0 (two_none _ _ _ _ out0 out (λ opened. opened) none (inr (inr refl, refl)))
+task_closed before after (Archive asked) standard out0 out stop none ends = rw ends.0 (record {
+  printed = [];
+  prints = none;
+  ends = inr (inr refl, refl);
+  root = still_stays asked.folders.root.now ends.1;
+})
 task_closed before after (Trial asked) standard out0 out stop none ends =
-    rw ends (record { printed = []; prints = none; ends = inr (inr refl, refl) })
+    rw ends.0 (record { printed = []; prints = none; ends = inr (inr refl, refl); reads = still_reads ends.1 })
 task_closed before after (Verify asked) standard out0 out stop none ends =
-    rw ends (record { printed = []; prints = none; ends = inr (inr refl, refl) })
+    rw ends.0 (record { printed = []; prints = none; ends = inr (inr refl, refl); reads = still_reads ends.1 })
 task_closed before after (Replace asked) standard out0 out stop none ends =
-    rw ends (record { printed = []; prints = none; ends = inr (inr (inr refl, refl)) })
+    rw ends.0 (record { printed = []; prints = none; ends = inr (inr (inr refl, refl)) })
 task_closed before after (Feed asked) standard out0 out stop none ends =
     let left = left_of standard in
     over_none ⊤ (HasLeft standard) _ out0 out left.0 (λ opened. left.1) none (inr (ends, refl))
@@ -161,26 +182,14 @@ then_does before after (Check asked) standard out0 out1 out result none does = r
   prints = takes_append out0 out1 out [] does.printed none does.prints;
 }
 then_does before after (Compare asked) standard out0 out1 out result none does = two_after _ _ _ _ out0 out1 out none does
-then_does before after (Archive asked) standard out0 out1 out result none does = record {
-  printed = does.printed;
-  ends = does.ends;
-  prints = takes_append out0 out1 out [] does.printed none does.prints;
-}
-then_does before after (Trial asked) standard out0 out1 out result none does = record {
-  printed = does.printed;
-  ends = does.ends;
-  prints = takes_append out0 out1 out [] does.printed none does.prints;
-}
-then_does before after (Verify asked) standard out0 out1 out result none does = record {
-  printed = does.printed;
-  ends = does.ends;
-  prints = takes_append out0 out1 out [] does.printed none does.prints;
-}
-then_does before after (Replace asked) standard out0 out1 out result none does = record {
-  printed = does.printed;
-  ends = does.ends;
-  prints = takes_append out0 out1 out [] does.printed none does.prints;
-}
+then_does before after (Archive asked) standard out0 out1 out result none does =
+    archive_as before after before after out0 out1 out (λ printed takes. takes_append out0 out1 out [] printed none takes) (λ R goes. goes) asked result does
+then_does before after (Trial asked) standard out0 out1 out result none does =
+    trial_as before after before after out0 out1 out (λ printed takes. takes_append out0 out1 out [] printed none takes) (λ R goes. goes) asked result does
+then_does before after (Verify asked) standard out0 out1 out result none does =
+    verify_as before after before after out0 out1 out (λ printed takes. takes_append out0 out1 out [] printed none takes) (λ R goes. goes) asked result does
+then_does before after (Replace asked) standard out0 out1 out result none does =
+    replace_as before after before after out0 out1 out (λ printed takes. takes_append out0 out1 out [] printed none takes) (λ R goes. goes) asked result does
 then_does before after (Feed asked) standard out0 out1 out result none does = over_after _ _ _ out0 out1 out none does
 
 -- the engine succeeds, or stops
@@ -270,34 +279,54 @@ check_unread went asked out stop is = record {
   ends = inr (inl is, refl);
 }
 
-pub archive_done : (asked read : Archiving) (out0 out : Device) (walked : Walked) → IsArchivingRead asked read → Walks read out0 out (Ok walked) →
-    WalksArchive asked out0 out (Ok (done_of_archive (is_whole (vec_len asked.below)) walked))
-archive_done asked read out0 out walked is does = record {
-  printed = does.printed;
-  prints = does.prints;
-  ends = record { found = walked; walk = record { read = read; is = is; walk = does.ends }; is = refl };
+-- the archive of a walk is the one that is asked for
+read_root : (before after : List Step → Type 0) (asked read : Archiving) → IsArchivingRead asked read
+    → Goes before after (StaysWithin read.folders.root.now) → Goes before after (StaysWithin asked.folders.root.now)
+read_root before after asked read is stays = subst (λ folders. Goes before after (StaysWithin folders.root.now)) is.folders stays
+
+pub archive_done : (before after : List Step → Type 0) (asked read : Archiving) (out0 out : Device) (walked : Walked) → IsArchivingRead asked read
+    → WalksTree read before after out0 out walked → Goes before after (StaysWithin read.folders.root.now)
+    → WalksArchive before after asked out0 out (Ok (done_of_archive (is_whole (vec_len asked.below)) walked))
+archive_done before after asked read out0 out walked is tree stays = record {
+  printed = tree.printed;
+  prints = tree.prints;
+  ends = record { found = walked; walk = record { read = read; is = is; walk = tree }; is = refl };
+  root = read_root before after asked read is stays;
 }
 
-pub archive_stops : (asked read : Archiving) (out0 out : Device) (why : ToolFault) → IsArchivingRead asked read → Walks read out0 out (Err why) →
-    WalksArchive asked out0 out (Err (Tool why))
-archive_stops asked read out0 out why is does =
-    record { printed = does.printed; prints = does.prints; ends = inl (record { read = read; is = is; walk = does.ends }) }
-
-pub archive_unbegun : (asked : Archiving) (out : Device) (stop : TaskFault) → IsUnwalked asked.known stop
-    → WalksArchive asked out out (Err stop)
-archive_unbegun asked out stop is = record { printed = []; prints = takes_none out; ends = inr (inl is, refl) }
-
-pub trial_done : (asked : Trying) (out0 out : Device) (tried : Tried) → Tries asked.days out0 out (Ok tried) →
-    TriesArchive asked out0 out (Ok (done_of_trial (is_whole (vec_len asked.below)) tried))
-trial_done asked out0 out tried does = record {
+pub archive_stops : (before after : List Step → Type 0) (asked read : Archiving) (out0 out : Device) (why : ToolFault) → IsArchivingRead asked read
+    → Walks read out0 out (Err why) → Goes before after (StaysWithin read.folders.root.now)
+    → WalksArchive before after asked out0 out (Err (Tool why))
+archive_stops before after asked read out0 out why is does stays = record {
   printed = does.printed;
   prints = does.prints;
-  ends = record { found = tried; walk = does.ends; is = refl };
+  ends = inl (record { read = read; is = is; walk = does.ends });
+  root = read_root before after asked read is stays;
 }
 
-pub trial_stops : (asked : Trying) (out0 out : Device) (why : ToolFault) → Tries asked.days out0 out (Err why) →
-    TriesArchive asked out0 out (Err (Tool why))
-trial_stops asked out0 out why does = record { printed = does.printed; prints = does.prints; ends = inl does.ends }
+pub archive_unbegun : (went : List Step → Type 0) (asked : Archiving) (out : Device) (stop : TaskFault) → IsUnwalked asked.known stop
+    → WalksArchive went went asked out out (Err stop)
+archive_unbegun went asked out stop is = record {
+  printed = [];
+  prints = takes_none out;
+  ends = inr (inl is, refl);
+  root = still_stays asked.folders.root.now goes_still;
+}
+
+pub trial_done : (before after : List Step → Type 0) (asked : Trying) (out0 out : Device) (tried : Tried)
+    → TriesTree asked before after out0 out tried → Goes before after OnlyReads
+    → TriesArchive before after asked out0 out (Ok (done_of_trial (is_whole (vec_len asked.below)) tried))
+trial_done before after asked out0 out tried tree reads = record {
+  printed = tree.printed;
+  prints = tree.prints;
+  ends = record { found = tried; walk = tree; is = refl };
+  reads = reads;
+}
+
+pub trial_stops : (before after : List Step → Type 0) (asked : Trying) (out0 out : Device) (why : ToolFault) → Tries asked.days out0 out (Err why)
+    → Goes before after OnlyReads → TriesArchive before after asked out0 out (Err (Tool why))
+trial_stops before after asked out0 out why does reads =
+    record { printed = does.printed; prints = does.prints; ends = inl does.ends; reads = reads }
 
 -- if no file is to be read, what is asked for is known
 pub known_same : (known : Known) → ((name : Bor (List ℕ)) → known ≢ File name) → IsKnownRead known known
@@ -315,56 +344,58 @@ unwalked (File name) stop is = inl is
 unwalked Nothing stop is = is
 unwalked (Lines lines) stop is = is
 
-pub verify_done : (asked read : Verifying) (out0 out : Device) (found : WalkFound) → IsVerifyingRead asked read → Verifies read out0 out (Ok found) →
-    VerifiesArchive asked out0 out (Ok (done_of_verifying (is_whole (vec_len asked.below)) found))
-verify_done asked read out0 out found is does = record {
-  printed = does.printed;
-  prints = does.prints;
-  ends = record { found = found; walk = record { read = read; is = is; walk = does.ends }; is = refl };
+pub verify_done : (before after : List Step → Type 0) (asked read : Verifying) (out0 out : Device) (found : WalkFound) → IsVerifyingRead asked read
+    → VerifiesTree read before after out0 out found → Goes before after OnlyReads
+    → VerifiesArchive before after asked out0 out (Ok (done_of_verifying (is_whole (vec_len asked.below)) found))
+verify_done before after asked read out0 out found is tree reads = record {
+  printed = tree.printed;
+  prints = tree.prints;
+  ends = record { found = found; walk = record { read = read; is = is; walk = tree }; is = refl };
+  reads = reads;
 }
 
-pub verify_stops : (asked read : Verifying) (out0 out : Device) (why : ToolFault) → IsVerifyingRead asked read → Verifies read out0 out (Err why) →
-    VerifiesArchive asked out0 out (Err (Tool why))
-verify_stops asked read out0 out why is does =
-    record { printed = does.printed; prints = does.prints; ends = inl (record { read = read; is = is; walk = does.ends }) }
+pub verify_stops : (before after : List Step → Type 0) (asked read : Verifying) (out0 out : Device) (why : ToolFault) → IsVerifyingRead asked read
+    → Verifies read out0 out (Err why) → Goes before after OnlyReads → VerifiesArchive before after asked out0 out (Err (Tool why))
+verify_stops before after asked read out0 out why is does reads = record {
+  printed = does.printed;
+  prints = does.prints;
+  ends = inl (record { read = read; is = is; walk = does.ends });
+  reads = reads;
+}
 
-pub verify_unbegun : (asked : Verifying) (out : Device) (stop : TaskFault) → IsUnwalked asked.known stop →
-    VerifiesArchive asked out out (Err stop)
-verify_unbegun asked out stop is = record { printed = []; prints = takes_none out; ends = inr (inl is, refl) }
+pub verify_unbegun : (went : List Step → Type 0) (asked : Verifying) (out : Device) (stop : TaskFault) → IsUnwalked asked.known stop
+    → VerifiesArchive went went asked out out (Err stop)
+verify_unbegun went asked out stop is =
+    record { printed = []; prints = takes_none out; ends = inr (inl is, refl); reads = still_reads goes_still }
 
 -- the days of an archive were not replaced, nor was anything printed
 
-pub replace_unbegun : (asked : Replacing) (out : Device) (stop : TaskFault) → IsUnbegun stop → ReplacesArchive asked out out (Err stop)
-replace_unbegun asked out stop is = record { printed = []; prints = takes_none out; ends = inr (inr (inl is, refl)) }
+pub replace_unbegun : (went : List Step → Type 0) (asked : Replacing) (out : Device) (stop : TaskFault) → IsUnbegun stop
+    → ReplacesArchive went went asked out out (Err stop)
+replace_unbegun went asked out stop is = record { printed = []; prints = takes_none out; ends = inr (inr (inl is, refl)) }
 
 -- they were, or the walk was stopped
 
-failed_at : {Z Y : Type 0} (undo : Bool) (printed : List ℕ) (failed : Option (String Z)) (path : String Y)
-    → IsSomeAnd failed (λ at. string_bytes at ≡ string_bytes path) → TellsFailed undo printed failed → TellsFailed undo printed (Some path)
-failed_at undo printed None path is tells = absurd is
-failed_at undo printed (Some at) path is tells =
-    let s = tells.2 in
-    (tells.0, tells.1, (s.0, s.1, s.2, s.3, s.4, s.5 ∙ is))
-
-pub replace_ended : {Z : Type 0} (asked : Replacing) (out0 out : Device) (failed : Option (String Z)) (found : Result WalkFound DeviceFault) (result : Result Done TaskFault) →
-    ReplacesDays asked.undo out0 out failed found → EndsReplacing asked failed found result → ReplacesArchive asked out0 out result
-replace_ended asked out0 out failed (Ok found) (Ok done) does ends = record {
+pub replace_ended : {Z : Type 0} (before after : List Step → Type 0) (asked : Replacing) (out0 out : Device) (failed : Option (String Z))
+    (found : Result WalkFound DeviceFault) (result : Result Done TaskFault) → ReplacesDays asked.undo out0 out failed found
+    → IfOk found (ReplacesTree asked before after out0 out failed) → EndsReplacing asked failed found result
+    → ReplacesArchive before after asked out0 out result
+replace_ended before after asked out0 out None (Ok found) (Ok done) does tree ends = record {
   printed = does.printed;
   prints = does.prints;
-  ends = inr (record { found = found; walk = does.ends; is = ends });
+  ends = inr (record { found = found; walk = none_failed asked before after out0 out found tree; is = ends });
 }
-replace_ended asked out0 out failed (Ok found) (Err (Failed path why)) does ends = record {
+replace_ended before after asked out0 out (Some at) (Ok found) (Err (Failed path why)) does tree ends = record {
   printed = does.printed;
   prints = does.prints;
-  ends = inl (subst (λ it. ReplacingEnds asked.undo does.printed (Ok it)) ends.0 does.ends, failed_at asked.undo does.printed failed path ends.1 does.failing);
+  ends = inl (failed_at asked before after out0 out at path found ends tree);
 }
-replace_ended asked out0 out failed (Err fault) (Err (Tool why)) does ends = record {
+replace_ended before after asked out0 out failed (Err fault) (Err (Tool why)) does tree ends = record {
   printed = does.printed;
   prints = does.prints;
   ends = inr (inl (record { fault = fault; is = ends; walk = does.ends }));
 }
-replace_ended asked out0 out failed (Ok found) (Err _) does ends = absurd ends
-replace_ended asked out0 out failed (Err fault) _ does ends = absurd ends
+replace_ended before after asked out0 out failed found _ does tree ends = absurd ends
 
 -- what was printed is not stored
 
@@ -468,13 +499,76 @@ check_unsettled went asked out0 out done does = record {
   });
 }
 
-replace_unstored : (asked : Replacing) (printed : List ℕ) (done : Done) → ReplaceEnds asked printed (Ok done) →
-    ReplacingEnds asked.undo printed (Err device_fault.Failed)
-replace_unstored asked printed done (inl fails) = absurd fails
-replace_unstored asked printed done (inr ends) =
+archive_unstored : (before after : List Step → Type 0) (asked : Archiving) (out0 out : Device) (done : Done)
+    → WalksArchive before after asked out0 out (Ok done) → WalksArchive before after asked out0 out (Err (Tool fault.Write))
+archive_unstored before after asked out0 out done does =
+    let read = does.ends.walk.read in
+    let tree = does.ends.walk.walk in
+    let P : List ℕ → Type 0 = λ text. IsWalk (IsEntry read) (IsEntryLine read) (summary read) text tree.entries in
+    record {
+      printed = tree.printed;
+      prints = tree.prints;
+      ends = inl (record {
+        read = read;
+        is = does.ends.walk.is;
+        walk = record { entries = tree.entries; rest = []; walk = subst P (sym (append-nil tree.printed)) tree.text };
+      });
+      root = does.root;
+    }
+
+trial_unstored : (before after : List Step → Type 0) (asked : Trying) (out0 out : Device) (done : Done)
+    → TriesArchive before after asked out0 out (Ok done) → TriesArchive before after asked out0 out (Err (Tool fault.Write))
+trial_unstored before after asked out0 out done does =
+    let tree = does.ends.walk in
     let P : List ℕ → Type 0 = λ text.
-    IsWalk IsExchangeEntry IsExchangeEntryLine (exchange_summary asked.undo) text ends.walk.0 in
-    record { entries = ends.walk.0; rest = []; walk = subst P (sym (append-nil printed)) ends.walk.1 }
+    IsWalk (IsTrialEntry asked.days) (IsTrialLine asked.days) (summary_by asked.days false) text tree.entries in
+    record {
+      printed = tree.printed;
+      prints = tree.prints;
+      ends = inl (record { entries = tree.entries; rest = []; walk = subst P (sym (append-nil tree.printed)) tree.text });
+      reads = does.reads;
+    }
+
+verify_unstored : (before after : List Step → Type 0) (asked : Verifying) (out0 out : Device) (done : Done)
+    → VerifiesArchive before after asked out0 out (Ok done) → VerifiesArchive before after asked out0 out (Err (Tool fault.Write))
+verify_unstored before after asked out0 out done does =
+    let read = does.ends.walk.read in
+    let tree = does.ends.walk.walk in
+    let P : List ℕ → Type 0 = λ text.
+    IsWalk (IsJudgedEntry read) (IsToldLine read) (judged_summary read) text (tree.entries ++ tree.orphans) in
+    record {
+      printed = tree.printed;
+      prints = tree.prints;
+      ends = inl (record {
+        read = read;
+        is = does.ends.walk.is;
+        walk = record {
+          entries = tree.entries ++ tree.orphans;
+          rest = [];
+          walk = subst P (sym (append-nil tree.printed)) tree.text;
+        };
+      });
+      reads = does.reads;
+    }
+
+replace_unstored : (before after : List Step → Type 0) (asked : Replacing) (out0 out : Device) (done : Done)
+    → ReplacesArchive before after asked out0 out (Ok done) → ReplacesArchive before after asked out0 out (Err (Tool fault.Write))
+replace_unstored before after asked out0 out done does = elim does.ends [
+  | inl fails ↦ absurd fails
+  | inr ends ↦
+      let tree = ends.walk in
+      let P : List ℕ → Type 0 = λ text.
+      IsWalk IsExchangeEntry IsExchangeEntryLine (exchange_summary asked.undo) text (entries_of tree.said) in
+      record {
+        printed = tree.printed;
+        prints = tree.prints;
+        ends = inr (inl (record {
+          fault = device_fault.Failed;
+          is = refl;
+          walk = record { entries = entries_of tree.said; rest = []; walk = subst P (sym (append-nil tree.printed)) tree.text };
+        }));
+      }
+]
 
 pub task_unsettled : (before after : List Step → Type 0) (task : Task) (standard out0 out : Device) (done : Done) →
     Does before after task standard out0 out (Ok done) → Does before after task standard out0 out (Err (Tool fault.Write))
@@ -485,52 +579,9 @@ task_unsettled before after (Listing asked) standard out0 out done does =
 task_unsettled before after (Check asked) standard out0 out done does = check_unsettled before asked out0 out done does
 task_unsettled before after (Compare asked) standard out0 out done does =
     compare_unsettled before asked.options asked standard out0 out done does
-task_unsettled before after (Archive asked) standard out0 out done does =
-    let read = does.ends.walk.read in
-    let ended = does.ends.walk.walk in
-    let P : List ℕ → Type 0 = λ text. IsWalk (IsEntry read) (IsEntryLine read) (summary read) text ended.0 in
-    record {
-      printed = does.printed;
-      prints = does.prints;
-      ends = inl (record {
-        read = read;
-        is = does.ends.walk.is;
-        walk = record { entries = ended.0; rest = []; walk = subst P (sym (append-nil does.printed)) ended.1 };
-      });
-    }
-task_unsettled before after (Trial asked) standard out0 out done does =
-    let P : List ℕ → Type 0 = λ text.
-    IsWalk (IsTrialEntry asked.days) (IsTrialLine asked.days) (summary_by asked.days false) text does.ends.walk.0 in
-    record {
-      printed = does.printed;
-      prints = does.prints;
-      ends = inl (record {
-        entries = does.ends.walk.0;
-        rest = [];
-        walk = subst P (sym (append-nil does.printed)) does.ends.walk.1;
-      });
-    }
-task_unsettled before after (Verify asked) standard out0 out done does =
-    let read = does.ends.walk.read in
-    let ended = does.ends.walk.walk in
-    let P : List ℕ → Type 0 = λ text. IsWalk (IsJudgedEntry read) (IsToldLine read) (judged_summary read) text ended.0 in
-    record {
-      printed = does.printed;
-      prints = does.prints;
-      ends = inl (record {
-        read = read;
-        is = does.ends.walk.is;
-        walk = record { entries = ended.0; rest = []; walk = subst P (sym (append-nil does.printed)) ended.1 };
-      });
-    }
-task_unsettled before after (Replace asked) standard out0 out done does = record {
-  printed = does.printed;
-  prints = does.prints;
-  ends = inr (inl (record {
-    fault = device_fault.Failed;
-    is = refl;
-    walk = replace_unstored asked does.printed done does.ends;
-  }));
-}
+task_unsettled before after (Archive asked) standard out0 out done does = archive_unstored before after asked out0 out done does
+task_unsettled before after (Trial asked) standard out0 out done does = trial_unstored before after asked out0 out done does
+task_unsettled before after (Verify asked) standard out0 out done does = verify_unstored before after asked out0 out done does
+task_unsettled before after (Replace asked) standard out0 out done does = replace_unstored before after asked out0 out done does
 task_unsettled before after (Feed asked) standard out0 out done does =
     over_said ⊤ _ _ _ out0 out (fed_unstored before after asked done) does

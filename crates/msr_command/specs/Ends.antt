@@ -21,12 +21,14 @@ use Rattle.msr_verdict.specs.declared.verdict.Verdict.TheVariants.{NotShown}
 use Rattle.msr_tool.specs.declared.fault.ToolFault.{ToolFault}
 use Rattle.msr_folders.specs.declared.found.WalkFound.{WalkFound}
 use Rattle.msr_folders.specs.declared.found.WalkFound.TheVariants.{Well, Unwell, NoDay}
+use Rattle.msr_walk.specs.Told.{StaysWithin, WalksTree}
 use Rattle.msr_walk.specs.Walk.{WalkEnds}
 use Rattle.msr_walk.specs.declared.folders.Walked.{Walked as ArchiveWalked}
-use Rattle.msr_trial.specs.Walk.{TrialEnds}
+use Rattle.msr_trial.specs.Walk.{TrialEnds, TriesTree}
 use Rattle.msr_trial.specs.declared.walk.Tried.{Tried}
-use Rattle.msr_verify.specs.Walk.{VerifyingEnds}
-use Rattle.msr_replace.specs.Walk.{ReplacingEnds, TellsFailed}
+use Rattle.msr_verify.specs.Walk.{VerifiesTree, VerifyingEnds}
+use Rattle.msr_replace.specs.Tree.{ReplacesTree}
+use Rattle.msr_replace.specs.Walk.{ReplacingEnds}
 use Rattle.msr_devices.specs.declared.fault.DeviceFault.{DeviceFault}
 use Rattle.msr_tool.specs.declared.fault.ToolFault.TheVariants as engine
 use Rattle.msr_compare.specs.declared.comparison.Comparison.TheVariants.{Differ}
@@ -35,6 +37,8 @@ use Rattle.msr_command.specs.declared.done.Done.TheVariants.{Written, Repacked, 
 use Rattle.msr_command.specs.declared.task_fault.TaskFault.{TaskFault}
 use Rattle.msr_command.specs.declared.task_fault.TaskFault.TheVariants.{CannotOpen, Failed, Input, SameFile, SameOutput, Overlap, Closed, Tool}
 use Rattle.msr_options.specs.declared.task.Comparing.{Comparing}
+use Rattle.msr_tree.specs.Calls.{Goes}
+use Rattle.msr_tree.specs.Reads.{OnlyReads}
 use Rattle.msr_tree.specs.Steps.{Path, Step}
 use Rattle.msr_options.specs.declared.task.Checking.{Checking}
 use Rattle.msr_options.specs.declared.task.Feeding.{Feeding}
@@ -317,6 +321,8 @@ is_whole folders = folders == 0
 
 -- A walk with what is known: what is asked for, or the lines of the file that was read.
 pub record IsArchivingRead (asked read : Archiving) : Type 0 where
+  pub folders : read.folders ≡ asked.folders
+  pub below : read.below.items ≡ asked.below.items
   pub days : read.days ≡ asked.days
   pub known : IsKnownRead asked.known read.known
 
@@ -326,34 +332,44 @@ pub record OfArchiving (asked : Archiving) (says : Archiving → Type 0) : Type 
   pub is : IsArchivingRead asked read
   pub walk : says read
 
-abbrev pub ArchiveEnds : Archiving → (printed : List ℕ) → Result Done TaskFault → Type 0
-ArchiveEnds asked printed result =
-    Ends (IsEndOf (done_of_archive (is_whole (vec_len asked.below))) (λ found. OfArchiving asked (λ read. WalkEnds read printed (Ok found))))
+-- a walk to its end printed its whole text, and what it tells is so of what the names led to
+abbrev pub ArchiveEnds : (before after : List Step → Type 0) → Archiving → (out0 out : Device) → (printed : List ℕ)
+    → Result Done TaskFault → Type 0
+ArchiveEnds before after asked out0 out printed result =
+    Ends (IsEndOf (done_of_archive (is_whole (vec_len asked.below))) (λ walked. OfArchiving asked (λ read. WalksTree read before after out0 out walked)))
     (IsUnwalked asked.known) (λ fault. OfArchiving asked (λ read. WalkEnds read printed (Err fault))) printed result
 
--- Walking an archive, and what was printed.
-pub record WalksArchive (asked : Archiving) (out0 out : Device) (result : Result Done TaskFault) : Type 0 where
-  pub printed : List ℕ
-  pub prints : Takes out0 out printed
-  pub ends : ArchiveEnds asked printed result
+-- Walking an archive, which is at each moment as it was, and what was printed.
+pub record WalksArchive (before after : List Step → Type 0) (asked : Archiving) (out0 out : Device) (result : Result Done TaskFault) : Type 0
+  where
+    pub printed : List ℕ
+    pub prints : Takes out0 out printed
+    pub ends : ArchiveEnds before after asked out0 out printed result
+    pub root : Goes before after (StaysWithin asked.folders.root.now)
 
-abbrev pub TryingEnds : Trying → (printed : List ℕ) → Result Done TaskFault → Type 0
-TryingEnds asked printed result =
-    Ends (IsEndOf (done_of_trial (is_whole (vec_len asked.below))) (λ tried. TrialEnds asked.days printed (Ok tried)))
+abbrev pub TryingEnds : (before after : List Step → Type 0) → Trying → (out0 out : Device) → (printed : List ℕ)
+    → Result Done TaskFault → Type 0
+TryingEnds before after asked out0 out printed result =
+    Ends (IsEndOf (done_of_trial (is_whole (vec_len asked.below))) (λ tried. TriesTree asked before after out0 out tried))
     (λ stop. ⊥) (λ fault. TrialEnds asked.days printed (Err fault)) printed result
 
--- A dry run of walking an archive, and what was printed.
-pub record TriesArchive (asked : Trying) (out0 out : Device) (result : Result Done TaskFault) : Type 0 where
-  pub printed : List ℕ
-  pub prints : Takes out0 out printed
-  pub ends : TryingEnds asked printed result
+-- A dry run of walking an archive, which changes nothing, and what was printed.
+pub record TriesArchive (before after : List Step → Type 0) (asked : Trying) (out0 out : Device) (result : Result Done TaskFault) : Type 0
+  where
+    pub printed : List ℕ
+    pub prints : Takes out0 out printed
+    pub ends : TryingEnds before after asked out0 out printed result
+    pub reads : Goes before after OnlyReads
 
 -- the same with the answer of the walk
-abbrev pub WalksKnown : Archiving → (out0 out : Device) → Result ArchiveWalked TaskFault → Type 0
-WalksKnown asked out0 out (Ok walked) = WalksArchive asked out0 out (Ok (done_of_archive (is_whole (vec_len asked.below)) walked))
-WalksKnown asked out0 out (Err stop) = WalksArchive asked out0 out (Err stop)
+abbrev pub WalksKnown : (before after : List Step → Type 0) → Archiving → (out0 out : Device) → Result ArchiveWalked TaskFault → Type 0
+WalksKnown before after asked out0 out (Ok walked) =
+    WalksArchive before after asked out0 out (Ok (done_of_archive (is_whole (vec_len asked.below)) walked))
+WalksKnown before after asked out0 out (Err stop) = WalksArchive before after asked out0 out (Err stop)
 
 pub record IsVerifyingRead (asked read : Verifying) : Type 0 where
+  pub folders : read.folders ≡ asked.folders
+  pub below : read.below.items ≡ asked.below.items
   pub names : read.names ≡ asked.names
   pub telling : read.telling ≡ asked.telling
   pub known : IsKnownRead asked.known read.known
@@ -363,20 +379,24 @@ pub record OfVerifying (asked : Verifying) (says : Verifying → Type 0) : Type 
   pub is : IsVerifyingRead asked read
   pub walk : says read
 
-abbrev pub VerifyEnds : Verifying → (printed : List ℕ) → Result Done TaskFault → Type 0
-VerifyEnds asked printed result =
-    Ends (IsEndOf (done_of_verifying (is_whole (vec_len asked.below))) (λ found. OfVerifying asked (λ read. VerifyingEnds read printed (Ok found))))
+abbrev pub VerifyEnds : (before after : List Step → Type 0) → Verifying → (out0 out : Device) → (printed : List ℕ)
+    → Result Done TaskFault → Type 0
+VerifyEnds before after asked out0 out printed result =
+    Ends (IsEndOf (done_of_verifying (is_whole (vec_len asked.below))) (λ found. OfVerifying asked (λ read. VerifiesTree read before after out0 out found)))
     (IsUnwalked asked.known) (λ fault. OfVerifying asked (λ read. VerifyingEnds read printed (Err fault))) printed result
 
--- Verifying the repack of an archive, and what was printed.
-pub record VerifiesArchive (asked : Verifying) (out0 out : Device) (result : Result Done TaskFault) : Type 0 where
-  pub printed : List ℕ
-  pub prints : Takes out0 out printed
-  pub ends : VerifyEnds asked printed result
+-- Verifying the repack of an archive, which changes nothing, and what was printed.
+pub record VerifiesArchive (before after : List Step → Type 0) (asked : Verifying) (out0 out : Device) (result : Result Done TaskFault) : Type 0
+  where
+    pub printed : List ℕ
+    pub prints : Takes out0 out printed
+    pub ends : VerifyEnds before after asked out0 out printed result
+    pub reads : Goes before after OnlyReads
 
-abbrev pub VerifiesKnown : Verifying → (out0 out : Device) → Result WalkFound TaskFault → Type 0
-VerifiesKnown asked out0 out (Ok found) = VerifiesArchive asked out0 out (Ok (done_of_verifying (is_whole (vec_len asked.below)) found))
-VerifiesKnown asked out0 out (Err stop) = VerifiesArchive asked out0 out (Err stop)
+abbrev pub VerifiesKnown : (before after : List Step → Type 0) → Verifying → (out0 out : Device) → Result WalkFound TaskFault → Type 0
+VerifiesKnown before after asked out0 out (Ok found) =
+    VerifiesArchive before after asked out0 out (Ok (done_of_verifying (is_whole (vec_len asked.below)) found))
+VerifiesKnown before after asked out0 out (Err stop) = VerifiesArchive before after asked out0 out (Err stop)
 
 -- the whole archive has to have a day, unless its originals are put back
 abbrev pub wants_replaced : Replacing → Bool
@@ -386,14 +406,12 @@ wants_replaced asked = is_whole (vec_len asked.below) && not asked.undo
 abbrev pub done_of_replaced : Replacing → WalkFound → Done
 done_of_replaced asked found = done_of_walk None (wants_replaced asked) true found
 
--- a walk that found this, or was stopped so, ends the task; a call of the file system may have failed at that path if
--- something is to be looked at
+-- a walk that found this, or was stopped so, ends the task, with the path at which a call of the file system failed, if one did
 abbrev pub EndsReplacing : {Z : Type 0} → Replacing → (failed : Option (String Z)) → Result WalkFound DeviceFault → Result Done TaskFault → Type 0
-EndsReplacing asked failed (Ok found) (Ok done) = done ≡ done_of_replaced asked found
-EndsReplacing asked failed (Ok found) (Err (Failed path why)) = (found ≡ Unwell) × IsSomeAnd failed (λ at. string_bytes at ≡ string_bytes path)
-EndsReplacing asked failed (Ok found) (Err _) = ⊥
+EndsReplacing asked None (Ok found) (Ok done) = done ≡ done_of_replaced asked found
+EndsReplacing asked (Some at) (Ok found) (Err (Failed path why)) = string_bytes at ≡ string_bytes path
 EndsReplacing asked failed (Err fault) (Err (Tool why)) = why ≡ fault_of_writing fault
-EndsReplacing asked failed (Err fault) _ = ⊥
+EndsReplacing asked failed ended _ = ⊥
 
 -- The walk was stopped so, after a prefix of its text.
 pub record StopsReplacing (undo : Bool) (printed : List ℕ) (why : ToolFault) : Type 0 where
@@ -401,26 +419,32 @@ pub record StopsReplacing (undo : Bool) (printed : List ℕ) (why : ToolFault) :
   pub is : why ≡ fault_of_writing fault
   pub walk : ReplacingEnds undo printed (Err fault)
 
+-- no call of the file system failed
+abbrev pub IsReplaced : Replacing → (before after : List Step → Type 0) → (out0 out : Device) → WalkFound → Type 0
+IsReplaced asked before after out0 out found = ReplacesTree {Z = Unit {0}} asked before after out0 out None found
+
 -- a call of the file system failed, and the whole text of the walk tells of something that is to be looked at, last of what
 -- has this path
-abbrev pub FailsReplacing : (undo : Bool) → (printed : List ℕ) → Result Done TaskFault → Type 0
-FailsReplacing undo printed (Err (Failed path why)) = ReplacingEnds undo printed (Ok Unwell) × TellsFailed undo printed (Some path)
-FailsReplacing undo printed _ = ⊥
+abbrev pub FailsReplacing : (before after : List Step → Type 0) → Replacing → (out0 out : Device) → Result Done TaskFault → Type 0
+FailsReplacing before after asked out0 out (Err (Failed path why)) = ReplacesTree asked before after out0 out (Some path) Unwell
+FailsReplacing before after asked out0 out _ = ⊥
 
 -- folders overlap, memory was refused before the walk began, or one is no folder
 abbrev pub IsUnbegun : TaskFault → Type 0
 IsUnbegun stop = IsOverlapOrMemory stop ⊎ IsUnread stop
 
-abbrev pub ReplaceEnds : Replacing → (printed : List ℕ) → Result Done TaskFault → Type 0
-ReplaceEnds asked printed result = FailsReplacing asked.undo printed result ⊎
-    Ends (IsEndOf (done_of_replaced asked) (λ found. ReplacingEnds asked.undo printed (Ok found)))
+abbrev pub ReplaceEnds : (before after : List Step → Type 0) → Replacing → (out0 out : Device) → (printed : List ℕ)
+    → Result Done TaskFault → Type 0
+ReplaceEnds before after asked out0 out printed result = FailsReplacing before after asked out0 out result ⊎
+    Ends (IsEndOf (done_of_replaced asked) (IsReplaced asked before after out0 out))
     IsUnbegun (StopsReplacing asked.undo printed) printed result
 
 -- Replacing the days of an archive, or undoing it, and what was printed.
-pub record ReplacesArchive (asked : Replacing) (out0 out : Device) (result : Result Done TaskFault) : Type 0 where
-  pub printed : List ℕ
-  pub prints : Takes out0 out printed
-  pub ends : ReplaceEnds asked printed result
+pub record ReplacesArchive (before after : List Step → Type 0) (asked : Replacing) (out0 out : Device) (result : Result Done TaskFault) : Type 0
+  where
+    pub printed : List ℕ
+    pub prints : Takes out0 out printed
+    pub ends : ReplaceEnds before after asked out0 out printed result
 
 -- A call was made, and it failed or was interrupted.
 pub record WasRefused (old new : Device) : Type 0 where
@@ -433,10 +457,10 @@ abbrev pub OpensOutput : (out0 out : Device) → Result (Unit {0}) TaskFault →
 OpensOutput out0 out (Ok open_now) = Takes out0 out [] × (out.failures ≡ out0.failures) × (out.interruptions ≡ 0)
 OpensOutput out0 out (Err stop) = Takes out0 out [] × (stop ≡ Closed) × WasRefused out0 out
 
--- a task ends so if nothing can be printed: the report of a feed is made even then, which may fail
-abbrev pub EndsClosed : Task → TaskFault → Type 0
-EndsClosed (Feed asked) stop = IsUncreated stop ⊎ (stop ≡ Closed)
-EndsClosed _ stop = stop ≡ Closed
+-- a task ends so if nothing can be printed: the report of a feed is made even then, which may fail, and nothing else is changed
+abbrev pub EndsClosed : (before after : List Step → Type 0) → Task → TaskFault → Type 0
+EndsClosed before after (Feed asked) stop = IsUncreated stop ⊎ (stop ≡ Closed)
+EndsClosed before after _ stop = (stop ≡ Closed) × Goes before after (λ old new. new ≡ old)
 
 -- what doing a task reads, writes and prints, and how it ends
 abbrev pub Does : (before after : List Step → Type 0) → Task → (standard out0 out : Device) → Result Done TaskFault → Type 0
@@ -446,10 +470,10 @@ Does before after (Listing asked) standard out0 out result =
 Does before after (Check asked) standard out0 out result = Checks before asked out0 out result
 Does before after (Compare asked) standard out0 out result =
     ComparesNamed before asked.options asked standard out0 out result
-Does before after (Archive asked) standard out0 out result = WalksArchive asked out0 out result
-Does before after (Trial asked) standard out0 out result = TriesArchive asked out0 out result
-Does before after (Verify asked) standard out0 out result = VerifiesArchive asked out0 out result
-Does before after (Replace asked) standard out0 out result = ReplacesArchive asked out0 out result
+Does before after (Archive asked) standard out0 out result = WalksArchive before after asked out0 out result
+Does before after (Trial asked) standard out0 out result = TriesArchive before after asked out0 out result
+Does before after (Verify asked) standard out0 out result = VerifiesArchive before after asked out0 out result
+Does before after (Replace asked) standard out0 out result = ReplacesArchive before after asked out0 out result
 Does before after (Feed asked) standard out0 out result = Feeds before after asked standard out0 out result
 
 -- A task was done, and ended with this status.

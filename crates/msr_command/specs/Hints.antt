@@ -1,5 +1,6 @@
 -- What a person is told when a task has ended.
-use Rattle.std.specs.Prelude.{if◌then◌else◌, ◌≡◌, ◌≢◌, ◌⊎◌, ℕ, Bool, false, true, List, codes, IfSome, IsSomeAnd, Option, None, Some, Result, Ok, Err}
+use Rattle.std.specs.Prelude.{if◌then◌else◌, ◌≡◌, ◌≢◌, ◌⊎◌, ◌++◌, ℕ, Bool, false, true, List, codes, IfSome, IsSomeAnd, Option, None, Some, Result, Ok, Err}
+use Rattle.std.specs.Fmt.{decimal}
 use Rattle.std.specs.Io.KnownBytes.{Appends}
 use Rattle.std.specs.Option.{option_map}
 use Rattle.msr_options.specs.Hints.{IsOfBytes, IsOfUnread, line_of}
@@ -85,3 +86,7 @@ pub record TellsPerson (read : FilesRead) (ended : Result Done TaskFault) (old n
   pub hint : Option Hint
   pub certain : HintsEnd read ended hint
   pub told : AddsLine hint old new
+
+-- the line of so many days that were made anew
+abbrev pub anew_line : ℕ → List ℕ
+anew_line days = codes "hint: days made anew, since their reports tell other options or records: " ++ (decimal days ++ codes "\n")

@@ -7,6 +7,9 @@ ghost use Rattle.msr_command.specs.Named.{Cuts, Empties, IsReaderOf, KeepsTaken,
 
 use msr_devices::{DeviceFault, FromRead, FromWrite, Sink, Source};
 use msr_folders::{FileId, settle};
+use msr_system::SystemTree;
+use msr_tree::Tree;
+use std::alloc::Global;
 use std::fs::{File, OpenFile, OpenOptions};
 use std::io;
 use std::io::Stderr;
@@ -27,13 +30,25 @@ pub trait NamedFiles {
     /// An open file that is written from its start.
     type Writer: Sink + Drop;
 
+    /// The names of the files, by which a walk finds them.
+    type Names: Tree + Drop;
+
     /// The steps so far may be these, the last one first. Of files of which no steps are known there may be none.
     ghost went: { Self → List Step → Type 0 };
 
     fn system(&self) -> &Self::System;
 
-    /// Where a person sees how far a walk is, if one does.
-    fn screen(&self) -> Option<Stderr>;
+    /// Lends a walk the names, until it has ended. A file that the walk renames may have both names, or never has. If a
+    /// folder is watched, a person may see how far the walk through it is.
+    fn lend(&mut self, alloc: Global, has_links: bool, watched: Option<&str>) -> Self::Names
+        ensures { Goes (went self.old) (Self.Names.went result) (λ old new. new ≡ old) };
+
+    /// Takes them back from a walk that has ended: what was done by these names was done with the files.
+    fn take_back(&mut self, names: Self::Names)
+        ensures { Goes (Self.Names.went names) (went self.new) (λ old new. new ≡ old) };
+
+    /// How many days a walk made anew, although their file was unchanged: their reports told other options or records.
+    fn days_anew(&self) -> u64;
 
     /// Opens what a name leads to, links followed, to be read from its start, and tells which regular file it is. What
     /// comes through a pipe or a device is what its name leads to.
@@ -71,16 +86,21 @@ pub trait NamedFiles {
 pub struct SystemFiles<'a, R> {
     rt: &'a R,
     screen: Option<Stderr>,
+    days_anew: u64,
 }
 
 impl<'a, R: Files + Clock> SystemFiles<'a, R> {
     pub fn new(rt: &'a R) -> SystemFiles<'a, R> {
-        SystemFiles { rt, screen: None }
+        SystemFiles::watched(rt, None)
     }
 
     /// The same, and a person sees on that screen, if there is one, how far a walk is.
     pub fn watched(rt: &'a R, screen: Option<Stderr>) -> SystemFiles<'a, R> {
-        SystemFiles { rt, screen }
+        SystemFiles {
+            rt,
+            screen,
+            days_anew: 0,
+        }
     }
 }
 
@@ -101,6 +121,8 @@ impl<'a, R: Files + Clock> NamedFiles for SystemFiles<'a, R> {
 
     type Writer = FromWrite<R::File>;
 
+    type Names = SystemTree<'a, R>;
+
     // No memory has their steps.
     ghost went = { λ _ _. ⊥ };
 
@@ -108,8 +130,26 @@ impl<'a, R: Files + Clock> NamedFiles for SystemFiles<'a, R> {
         self.rt
     }
 
-    fn screen(&self) -> Option<Stderr> {
-        self.screen
+    fn lend(&mut self, alloc: Global, has_links: bool, watched: Option<&str>) -> SystemTree<'a, R> {
+        let names = if has_links {
+            SystemTree::new(self.rt, alloc)
+        } else {
+            SystemTree::unlinked(self.rt, alloc)
+        };
+        match watched {
+            Some(root) => names.watched(root, self.screen),
+            None => names,
+        }
+    }
+
+    fn take_back(&mut self, names: SystemTree<'a, R>) {
+        let mut names = names;
+        names.clear();
+        self.days_anew = names.days_anew();
+    }
+
+    fn days_anew(&self) -> u64 {
+        self.days_anew
     }
 
     fn open(&self, name: &str) -> io::Result<(FromRead<R::File>, Option<FileId>)> {

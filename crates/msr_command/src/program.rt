@@ -1,8 +1,9 @@
 //! What the program does with what it was asked: a task, or the text that is told in its place.
-ghost use Rattle.std.specs.Prelude.{◌≡◌, OnOk, false, true};
+ghost use Rattle.std.specs.Io.KnownBytes.{Appends};
+ghost use Rattle.std.specs.Prelude.{◌≡◌, ◌<◌, OnOk, false, true};
 ghost use Rattle.msr_devices.specs.Device.{CanCountCall};
 ghost use Rattle.msr_command.specs.Ends.{EndsAsked, EndsText, status_of};
-ghost use Rattle.msr_command.specs.Hints.{TellsLengths, TellsPerson};
+ghost use Rattle.msr_command.specs.Hints.{TellsLengths, TellsPerson, anew_line};
 ghost use Rattle.msr_command.specs.Told.{TellsFault};
 ghost use Rattle.msr_options.specs.declared.task.NoTask.TheVariants.{Ending as WithText};
 
@@ -43,6 +44,22 @@ fn tell_person<R: Files, E: Write>(
         Some(hint) => write_hint(errors, hint),
         None => Ok(()),
     }
+}
+
+/// Tells a person how many days a walk made anew, although their file was unchanged, if there are some.
+fn tell_anew<E: Write>(errors: &mut Errors<E>, days: u64) -> io::Result<()>
+    ensures script { errors.old.is_terminal ≡ false → errors.new ≡ errors.old }
+    ensures none { days ≡ 0 → errors.new ≡ errors.old }
+    ensures person { OnOk result (errors.old.is_terminal ≡ true → 0 < days →
+        Appends (E.contents errors.old.to) (E.contents errors.new.to) (anew_line days)) }
+{
+    if !errors.is_terminal || days == 0 {
+        return Ok(());
+    }
+    writeln!(
+        errors.to,
+        "hint: days made anew, since their reports tell other options or records: {days}"
+    )
 }
 
 /// Prints the line of a length that no record has, and for a person which lengths there are.
@@ -95,6 +112,7 @@ where
                 }
             };
             tell_person(files.system(), errors, read, &ended).ok();
+            tell_anew(errors, files.days_anew()).ok();
             status
         }
         Err(NoTask::Ending(ending)) => end(output, &mut errors.to, &ending),

@@ -7,13 +7,13 @@ ghost use Rattle.msr_options.specs.Tasks.{AreApartFrom, StandApart};
 use crate::clock::time_of_now;
 use crate::done::Done;
 use crate::files::{make_folder, require_folder};
+use crate::named::NamedFiles;
 use crate::task_fault::TaskFault;
 use crate::tasks::require_apart;
 use msr_devices::{DeviceFault, Sink};
 use msr_folders::{LockFile, WalkFound, is_gone, join};
 use msr_options::{Folders, Replacing};
 use msr_replace::replace;
-use msr_system::SystemTree;
 use msr_tree::Tree;
 use std::alloc::Global;
 use std::io;
@@ -103,32 +103,51 @@ fn done_of_replacing<'a>(
         Ok(found) => found,
         Err(fault) => return Err(TaskFault::Tool(fault.into())),
     };
-    match (found, failed) {
-        (WalkFound::Unwell, Some(path)) => Err(TaskFault::Failed(path, why)),
-        _ => Ok(Done::of_walk(found, None, wants_day(asked), true)),
+    match failed {
+        Some(path) => Err(TaskFault::Failed(path, why)),
+        None => Ok(Done::of_walk(found, None, wants_day(asked), true)),
     }
 }
 
 /// Replaces the days of the archive, or puts their originals back, and tells them.
-pub(crate) fn replace_archive<'a, R: Files + Clock, O: Sink>(
+fn replace_days<'a, R: Files + Clock, T: Tree, O: Sink>(
     rt: &R,
     alloc: Global,
+    tree: &mut T,
     asked: &Replacing<'a>,
     output: &mut O,
 ) -> Result<Done, TaskFault<'a>>
 where
     R::File: LockFile,
+    requires apart { StandApart asked.now.folders }
+    requires aside { AreApartFrom asked.now.aside.now asked.now.folders }
     requires output { CanCountCall (O.device output.old) }
-    ensures { ReplacesArchive asked.now (O.device output.old) (O.device output.new) result }
+    ensures { ReplacesArchive (T.went tree.old) (T.went tree.new) asked.now (O.device output.old) (O.device output.new) result }
+{
+    let replaced = replace(rt, alloc, tree, asked, time_of_now(rt), output);
+    let why = tree.reason();
+    done_of_replacing(asked, replaced.found, replaced.failed, why)
+}
+
+/// The same of the files, if none of the folders overlap and those are there that have to be.
+pub(crate) fn replace_archive<'a, F: NamedFiles, O: Sink>(
+    files: &mut F,
+    alloc: Global,
+    asked: &Replacing<'a>,
+    output: &mut O,
+) -> Result<Done, TaskFault<'a>>
+where
+    <F::System as Files>::File: LockFile,
+    requires output { CanCountCall (O.device output.old) }
+    ensures { ReplacesArchive (F.went files.old) (F.went files.new) asked.now (O.device output.old) (O.device output.new) result }
 {
     if !stand_apart(asked) {
         return Err(TaskFault::Overlap);
     }
-    require_all_apart(rt, alloc, asked)?;
-    prepare_folders(rt, alloc, asked)?;
-    let mut tree = SystemTree::new(rt, alloc);
-    let now = time_of_now(rt);
-    let replaced = replace(rt, alloc, &mut tree, asked, now, output);
-    let why = tree.reason();
-    done_of_replacing(asked, replaced.found, replaced.failed, why)
+    require_all_apart(files.system(), alloc, asked)?;
+    prepare_folders(files.system(), alloc, asked)?;
+    let mut names = files.lend(alloc, true, None);
+    let done = replace_days(files.system(), alloc, &mut names, asked, output);
+    files.take_back(names);
+    done
 }

@@ -12,7 +12,7 @@ use crate::files::{create_output, create_report, open_file, open_input, settle_s
 use crate::known::read_known;
 use crate::named::NamedFiles;
 use crate::replacing::replace_archive;
-use crate::screen::screen_below;
+use crate::screen::watched_below;
 use crate::task_fault::TaskFault;
 use crate::trying::try_watched;
 use crate::turns::is_in_turns;
@@ -22,13 +22,12 @@ use msr_options::{
     Archiving, Checking, Feeding, Folders, Known, ListForm, Listing, Options, Repacking, Task,
     Verifying,
 };
-use msr_system::SystemTree;
 use msr_tool::{ToolFault, check_and_tell, feed_and_report, list_segments, repack_and_report};
+use msr_tree::Tree;
 use msr_verify::verify;
 use msr_walk::{SystemClaims, Walked, walk};
 use std::alloc::Global;
 use std::io;
-use std::io::Stderr;
 use std::rt::Files;
 use std::time::Clock;
 
@@ -72,16 +71,15 @@ where
     ensures { Does (F.went files.old) (F.went files.new) task.now (I.device input.old)
         (O.device output.old) (O.device output.new) result }
 {
-    let screen = files.screen();
     match task {
         Task::Repack(asked) => repack_file(files, alloc, asked, input, output),
         Task::List(asked) => list_file(files, alloc, asked, input, output),
         Task::Check(asked) => check_files(files, alloc, asked, output),
         Task::Compare(asked) => compare_files(files, alloc, asked, input, output),
-        Task::Archive(asked) => repack_archive(files.system(), alloc, asked, screen, output),
-        Task::Trial(asked) => try_watched(files.system(), alloc, asked, screen, output),
-        Task::Verify(asked) => verify_archive(files.system(), alloc, asked, screen, output),
-        Task::Replace(asked) => replace_archive(files.system(), alloc, asked, output),
+        Task::Archive(asked) => repack_archive(files, alloc, asked, output),
+        Task::Trial(asked) => try_watched(files, alloc, asked, output),
+        Task::Verify(asked) => verify_archive(files, alloc, asked, output),
+        Task::Replace(asked) => replace_archive(files, alloc, asked, output),
         Task::Feed(asked) => feed_input(files, alloc, asked, input, output),
     }
 }
@@ -101,7 +99,7 @@ fn require_open<'a, O: Sink>(output: &mut O) -> Result<(), TaskFault<'a>>
 /// the feed ended well. What is printed goes to descriptor 1, and if that is closed, the report's file gets it. So this
 /// comes last: the file is closed again with nothing in it, and nothing is printed any more.
 fn end_closed<'a, F: NamedFiles>(files: &mut F, task: &Task<'a>) -> TaskFault<'a>
-    ensures { EndsClosed task.now result }
+    ensures { EndsClosed (F.went files.old) (F.went files.new) task.now result }
 {
     let Task::Feed(asked) = task else {
         return TaskFault::Closed;
@@ -316,10 +314,10 @@ pub(crate) fn require_apart<'a, R: Files>(
 }
 
 /// Walks the archive, of which the lines that are known were read.
-fn walk_archive<'a, R: Files + Clock, O: Sink>(
+fn walk_archive<'a, R: Files + Clock, T: Tree, O: Sink>(
     rt: &R,
     alloc: Global,
-    tree: &mut SystemTree<'_, R>,
+    tree: &mut T,
     archive: &Archiving<'_>,
     output: &mut O,
 ) -> Result<Walked, TaskFault<'a>>
@@ -328,52 +326,50 @@ where
     requires apart { StandApart archive.now.folders }
     requires output { CanCountCall (O.device output.old) }
     ensures { (asked : Archiving) → IsArchivingRead asked archive.now →
-        WalksKnown asked (O.device output.old) (O.device output.new) result }
+        WalksKnown (T.went tree.old) (T.went tree.new) asked (O.device output.old) (O.device output.new) result }
 {
     let claims = SystemClaims::new(rt);
     let walked = walk(tree, &claims, alloc, &*archive, time_of_now(rt), output)?;
     Ok(walked)
 }
 
-/// The same, and a person sees on that screen, if there is one, how far it is.
-fn walk_watched<'a, R: Files + Clock, O: Sink>(
-    rt: &R,
+/// The same of the files, and a person may see how far it is.
+fn walk_watched<'a, F: NamedFiles, O: Sink>(
+    files: &mut F,
     alloc: Global,
     archive: &Archiving<'_>,
-    screen: Option<Stderr>,
     output: &mut O,
 ) -> Result<Walked, TaskFault<'a>>
 where
-    R::File: LockFile,
+    <F::System as Files>::File: LockFile,
     requires apart { StandApart archive.now.folders }
     requires output { CanCountCall (O.device output.old) }
     ensures { (asked : Archiving) → IsArchivingRead asked archive.now →
-        WalksKnown asked (O.device output.old) (O.device output.new) result }
+        WalksKnown (F.went files.old) (F.went files.new) asked (O.device output.old) (O.device output.new) result }
 {
-    let screen = screen_below(archive.below.as_slice(), screen);
-    let mut tree = SystemTree::unlinked(rt, alloc).watched(archive.folders.root, screen);
-    let walked = walk_archive(rt, alloc, &mut tree, archive, output);
-    tree.clear();
+    let watched = watched_below(archive.below.as_slice(), archive.folders.root);
+    let mut names = files.lend(alloc, false, watched);
+    let walked = walk_archive(files.system(), alloc, &mut names, archive, output);
+    files.take_back(names);
     walked
 }
 
 /// Walks it with the lines that are known, which are read first if a file has them.
-fn walk_known<'a, R: Files + Clock, O: Sink>(
-    rt: &R,
+fn walk_known<'a, F: NamedFiles, O: Sink>(
+    files: &mut F,
     alloc: Global,
     asked: &Archiving<'a>,
-    screen: Option<Stderr>,
     output: &mut O,
 ) -> Result<Walked, TaskFault<'a>>
 where
-    R::File: LockFile,
+    <F::System as Files>::File: LockFile,
     requires apart { StandApart asked.now.folders }
     requires output { CanCountCall (O.device output.old) }
-    ensures { WalksKnown asked.now (O.device output.old) (O.device output.new) result }
+    ensures { WalksKnown (F.went files.old) (F.went files.new) asked.now (O.device output.old) (O.device output.new) result }
 {
     match asked.known {
         Known::File(name) => {
-            let lines = read_known(rt, alloc, name)?;
+            let lines = read_known(files.system(), alloc, name)?;
             let Ok(below) = asked.below.clone() else {
                 return Err(TaskFault::Tool(ToolFault::Memory));
             };
@@ -383,81 +379,78 @@ where
                 days: asked.days,
                 known: Known::Lines(&lines),
             };
-            walk_watched(rt, alloc, &read, screen, output)
+            walk_watched(files, alloc, &read, output)
         }
-        _ => walk_watched(rt, alloc, asked, screen, output),
+        _ => walk_watched(files, alloc, asked, output),
     }
 }
 
-fn repack_archive<'a, R: Files + Clock, O: Sink>(
-    rt: &R,
+fn repack_archive<'a, F: NamedFiles, O: Sink>(
+    files: &mut F,
     alloc: Global,
     asked: &Archiving<'a>,
-    screen: Option<Stderr>,
     output: &mut O,
 ) -> Result<Done, TaskFault<'a>>
 where
-    R::File: LockFile,
+    <F::System as Files>::File: LockFile,
     requires output { CanCountCall (O.device output.old) }
-    ensures { WalksArchive asked.now (O.device output.old) (O.device output.new) result }
+    ensures { WalksArchive (F.went files.old) (F.went files.new) asked.now (O.device output.old) (O.device output.new) result }
 {
     if !asked.folders.stand_apart() {
         return Err(TaskFault::Overlap);
     }
     let Folders { root, out, reports } = asked.folders;
-    require_apart(rt, alloc, root, out, reports)?;
-    let walked = walk_known(rt, alloc, asked, screen, output)?;
+    require_apart(files.system(), alloc, root, out, reports)?;
+    let walked = walk_known(files, alloc, asked, output)?;
     Ok(Done::of_walk(walked.found, walked.unopened, asked.below.is_empty(), false))
 }
 
 /// Verifies the archive, of which the lines that are known were read.
-fn verify_read<'a, R: Files + Clock, O: Sink>(
+fn verify_read<'a, T: Tree, O: Sink>(
     alloc: Global,
-    tree: &mut SystemTree<'_, R>,
+    tree: &mut T,
     archive: &Verifying<'_>,
     output: &mut O,
 ) -> Result<WalkFound, TaskFault<'a>>
     requires { CanCountCall (O.device output.old) }
     ensures { (asked : Verifying) → IsVerifyingRead asked archive.now →
-        VerifiesKnown asked (O.device output.old) (O.device output.new) result }
+        VerifiesKnown (T.went tree.old) (T.went tree.new) asked (O.device output.old) (O.device output.new) result }
 {
     let found = verify(tree, alloc, &*archive, output)?;
     Ok(found)
 }
 
-/// The same, and a person sees on that screen, if there is one, how far it is.
-fn verify_watched<'a, R: Files + Clock, O: Sink>(
-    rt: &R,
+/// The same of the files, and a person may see how far it is.
+fn verify_watched<'a, F: NamedFiles, O: Sink>(
+    files: &mut F,
     alloc: Global,
     archive: &Verifying<'_>,
-    screen: Option<Stderr>,
     output: &mut O,
 ) -> Result<WalkFound, TaskFault<'a>>
     requires { CanCountCall (O.device output.old) }
     ensures { (asked : Verifying) → IsVerifyingRead asked archive.now →
-        VerifiesKnown asked (O.device output.old) (O.device output.new) result }
+        VerifiesKnown (F.went files.old) (F.went files.new) asked (O.device output.old) (O.device output.new) result }
 {
-    let screen = screen_below(archive.below.as_slice(), screen);
-    let mut tree = SystemTree::new(rt, alloc).watched(archive.folders.root, screen);
-    let found = verify_read(alloc, &mut tree, archive, output);
-    tree.clear();
+    let watched = watched_below(archive.below.as_slice(), archive.folders.root);
+    let mut names = files.lend(alloc, true, watched);
+    let found = verify_read(alloc, &mut names, archive, output);
+    files.take_back(names);
     found
 }
 
 /// Verifies it with the lines that are known, which are read first if a file has them.
-fn verify_known<'a, R: Files + Clock, O: Sink>(
-    rt: &R,
+fn verify_known<'a, F: NamedFiles, O: Sink>(
+    files: &mut F,
     alloc: Global,
     asked: &Verifying<'a>,
-    screen: Option<Stderr>,
     output: &mut O,
 ) -> Result<WalkFound, TaskFault<'a>>
     requires { CanCountCall (O.device output.old) }
-    ensures { VerifiesKnown asked.now (O.device output.old) (O.device output.new) result }
+    ensures { VerifiesKnown (F.went files.old) (F.went files.new) asked.now (O.device output.old) (O.device output.new) result }
 {
     match asked.known {
         Known::File(name) => {
-            let lines = read_known(rt, alloc, name)?;
+            let lines = read_known(files.system(), alloc, name)?;
             let Ok(below) = asked.below.clone() else {
                 return Err(TaskFault::Tool(ToolFault::Memory));
             };
@@ -468,24 +461,23 @@ fn verify_known<'a, R: Files + Clock, O: Sink>(
                 telling: asked.telling,
                 known: Known::Lines(&lines),
             };
-            verify_watched(rt, alloc, &read, screen, output)
+            verify_watched(files, alloc, &read, output)
         }
-        _ => verify_watched(rt, alloc, asked, screen, output),
+        _ => verify_watched(files, alloc, asked, output),
     }
 }
 
-fn verify_archive<'a, R: Files + Clock, O: Sink>(
-    rt: &R,
+fn verify_archive<'a, F: NamedFiles, O: Sink>(
+    files: &mut F,
     alloc: Global,
     asked: &Verifying<'a>,
-    screen: Option<Stderr>,
     output: &mut O,
 ) -> Result<Done, TaskFault<'a>>
     requires { CanCountCall (O.device output.old) }
-    ensures { VerifiesArchive asked.now (O.device output.old) (O.device output.new) result }
+    ensures { VerifiesArchive (F.went files.old) (F.went files.new) asked.now (O.device output.old) (O.device output.new) result }
 {
     let Folders { root, out, reports } = asked.folders;
-    require_apart(rt, alloc, root, out, reports)?;
-    let found = verify_known(rt, alloc, asked, screen, output)?;
+    require_apart(files.system(), alloc, root, out, reports)?;
+    let found = verify_known(files, alloc, asked, output)?;
     Ok(Done::of_walk(found, None, asked.below.is_empty(), true))
 }

@@ -4,46 +4,44 @@ ghost use Rattle.msr_devices.specs.Device.{CanCountCall};
 
 use crate::clock::time_of_now;
 use crate::done::Done;
-use crate::screen::screen_below;
+use crate::named::NamedFiles;
+use crate::screen::watched_below;
 use crate::task_fault::TaskFault;
 use msr_devices::Sink;
 use msr_options::Trying;
-use msr_system::SystemTree;
+use msr_tree::Tree;
 use msr_trial::trial;
 use std::alloc::Global;
-use std::io::Stderr;
-use std::rt::Files;
 use std::time::Clock;
 
 /// Tells it of each day.
-fn try_archive<'a, R: Files + Clock, O: Sink>(
-    rt: &R,
+fn try_archive<'a, C: Clock, T: Tree, O: Sink>(
+    clock: &C,
     alloc: Global,
-    tree: &mut SystemTree<'_, R>,
+    tree: &mut T,
     asked: &Trying<'a>,
     output: &mut O,
 ) -> Result<Done, TaskFault<'a>>
     requires output { CanCountCall (O.device output.old) }
-    ensures { TriesArchive asked.now (O.device output.old) (O.device output.new) result }
+    ensures { TriesArchive (T.went tree.old) (T.went tree.new) asked.now (O.device output.old) (O.device output.new) result }
 {
-    let tried = trial(tree, alloc, &*asked, time_of_now(rt), output)?;
+    let tried = trial(tree, alloc, &*asked, time_of_now(clock), output)?;
     Ok(Done::of_walk(tried.found, tried.unopened, asked.below.is_empty(), false))
 }
 
-/// The same, and a person sees on that screen, if there is one, how far it is.
-pub(crate) fn try_watched<'a, R: Files + Clock, O: Sink>(
-    rt: &R,
+/// The same of the files, and a person may see how far it is.
+pub(crate) fn try_watched<'a, F: NamedFiles, O: Sink>(
+    files: &mut F,
     alloc: Global,
     asked: &Trying<'a>,
-    screen: Option<Stderr>,
     output: &mut O,
 ) -> Result<Done, TaskFault<'a>>
     requires output { CanCountCall (O.device output.old) }
-    ensures { TriesArchive asked.now (O.device output.old) (O.device output.new) result }
+    ensures { TriesArchive (F.went files.old) (F.went files.new) asked.now (O.device output.old) (O.device output.new) result }
 {
-    let screen = screen_below(asked.below.as_slice(), screen);
-    let mut tree = SystemTree::new(rt, alloc).watched(asked.root, screen);
-    let tried = try_archive(rt, alloc, &mut tree, asked, output);
-    tree.clear();
+    let watched = watched_below(asked.below.as_slice(), asked.root);
+    let mut names = files.lend(alloc, true, watched);
+    let tried = try_archive(files.system(), alloc, &mut names, asked, output);
+    files.take_back(names);
     tried
 }

@@ -1,6 +1,7 @@
 //! The system's files as a tree of names.
 #![tactic(auto)]
 
+mod anew;
 mod bytes;
 mod copying;
 mod facts;

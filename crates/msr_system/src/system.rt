@@ -3,6 +3,7 @@
 ghost use Rattle.std.specs.Prelude.{IfOk};
 ghost use Rattle.msr_devices.specs.Device.{CanCountCall};
 
+use crate::anew::Anew;
 use crate::copying::{compare, dress};
 use crate::listing::{kind_of, names_in};
 use crate::making::make_stored;
@@ -31,7 +32,8 @@ pub struct SystemTree<'a, R: Files> {
     has_links: bool,
     /// The folder that was made last, if it was there and stored then, with all that lead to it.
     stored: Option<String>,
-    watch: Watch<'a>,
+    watch: Watch,
+    anew: Anew,
 }
 
 impl<'a, R: Files> SystemTree<'a, R> {
@@ -42,7 +44,8 @@ impl<'a, R: Files> SystemTree<'a, R> {
             reason: None,
             has_links: true,
             stored: None,
-            watch: Watch::none(),
+            watch: Watch::none(alloc),
+            anew: Anew::new(),
         }
     }
 
@@ -54,17 +57,25 @@ impl<'a, R: Files> SystemTree<'a, R> {
             reason: None,
             has_links: false,
             stored: None,
-            watch: Watch::none(),
+            watch: Watch::none(alloc),
+            anew: Anew::new(),
         }
+    }
+}
+
+impl<'a, R: Files> SystemTree<'a, R> {
+    /// How many days of a walk were made anew, although their file was unchanged: their reports told other options or records.
+    pub fn days_anew(&self) -> u64 {
+        self.anew.days
     }
 }
 
 impl<'a, R: Files + Clock> SystemTree<'a, R> {
     /// The same, and a person sees on that screen, if there is one, how far the walk of a folder is.
-    pub fn watched(self, root: &'a str, screen: Option<Stderr>) -> SystemTree<'a, R> {
+    pub fn watched(self, root: &str, screen: Option<Stderr>) -> SystemTree<'a, R> {
         match screen {
             Some(screen) => SystemTree {
-                watch: Watch::new(self.rt, root, screen),
+                watch: Watch::new(self.rt, self.alloc, root, screen),
                 ..self
             },
             None => self,
@@ -181,6 +192,7 @@ impl<'a, R: Files + Clock> Tree for SystemTree<'a, R> {
             return Err(TreeFault::Failed);
         }
         let opened = File::open(self.rt, path);
+        self.anew.note_opened(self.alloc, path);
         self.watch
             .note_file(self.rt, self.alloc, path, opened.is_ok());
         reader(&mut self.reason, opened)
@@ -225,6 +237,9 @@ impl<'a, R: Files + Clock> Tree for SystemTree<'a, R> {
 
     fn rename(&mut self, from: &str, to: &str) -> Result<(), TreeFault> {
         let answer = rename_over(self.rt, from, to, self.has_links);
+        if answer.is_ok() {
+            self.anew.note_named(to);
+        }
         told(&mut self.reason, answer)
     }
 

@@ -10,10 +10,10 @@ use std::time::Clock;
 
 /// What a person is shown of a walk, if it is asked for.
 #[derive(Drop)]
-pub(crate) struct Watch<'a> {
+pub(crate) struct Watch {
     progress: Progress<Stderr>,
     /// The folder that is walked.
-    root: &'a str,
+    root: String,
     /// The file that was counted last.
     last: Option<String>,
 }
@@ -26,22 +26,25 @@ fn milliseconds<C: Clock>(clock: &C) -> u64 {
     }
 }
 
-impl<'a> Watch<'a> {
+impl Watch {
     /// Nothing is shown.
-    pub(crate) fn none() -> Watch<'a> {
+    pub(crate) fn none(alloc: Global) -> Watch {
         Watch {
             progress: Progress::new(None, 0),
-            root: "",
+            root: String::new(alloc),
             last: None,
         }
     }
 
-    /// The walk of that folder begins.
-    pub(crate) fn new<C: Clock>(clock: &C, root: &'a str, screen: Stderr) -> Watch<'a> {
-        Watch {
-            progress: Progress::new(Some(screen), milliseconds(clock)),
-            root,
-            last: None,
+    /// The walk of that folder begins. Nothing is shown of it if its name cannot be kept.
+    pub(crate) fn new<C: Clock>(clock: &C, alloc: Global, root: &str, screen: Stderr) -> Watch {
+        match String::from_str(alloc, root) {
+            Ok(root) => Watch {
+                progress: Progress::new(Some(screen), milliseconds(clock)),
+                root,
+                last: None,
+            },
+            Err(_) => Watch::none(alloc),
         }
     }
 
@@ -51,7 +54,7 @@ impl<'a> Watch<'a> {
 
     /// A path, from the folder that is walked if it stands below that.
     fn from_root<'p>(&self, path: &'p str) -> &'p str {
-        match path.strip_prefix(self.root) {
+        match path.strip_prefix(self.root.as_str()) {
             Some(rest) => rest.strip_prefix('/').unwrap_or(path),
             None => path,
         }
@@ -77,7 +80,11 @@ impl<'a> Watch<'a> {
         path: &str,
         is_open: bool,
     ) {
-        if self.is_asked() && is_open && is_within(self.root, path) && !self.is_last(path) {
+        if self.is_asked()
+            && is_open
+            && is_within(self.root.as_str(), path)
+            && !self.is_last(path)
+        {
             self.count(rt, alloc, path);
         }
     }
