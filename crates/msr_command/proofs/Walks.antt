@@ -28,7 +28,7 @@ use Rattle.msr_replace.specs.Words.{is_unwell}
 use Rattle.msr_command.specs.declared.done.Done.{Done}
 use Rattle.msr_command.specs.declared.task_fault.TaskFault.{TaskFault}
 use Rattle.msr_command.specs.declared.task_fault.TaskFault.TheVariants.{CannotOpen, Closed, Failed, Input, Overlap, SameFile, SameOutput, Tool}
-use Rattle.msr_command.specs.Ends.{FailsReplacing, IsReplaced, ReplacesArchive, TriesArchive, VerifiesArchive, VerifiesKnown, WalksArchive, WalksKnown}
+use Rattle.msr_command.specs.Ends.{FailsReplacing, HasReplaced, ReplacesArchive, TriesArchive, VerifiesArchive, VerifiesKnown, WalksArchive, WalksKnown}
 use Rattle.msr_command.proofs.Inputs.{goes_on, goes_so}
 
 -- nothing was done
@@ -247,7 +247,7 @@ failed_at asked before after out0 out at path found is tree =
 
 -- or none failed
 pub none_failed : {Z : Type 0} (asked : Replacing) (before after : List Step → Type 0) (out0 out : Device) (found : WalkFound)
-    → ReplacesTree {Z = Z} asked before after out0 out None found → IsReplaced asked before after out0 out found
+    → ReplacesTree {Z = Z} asked before after out0 out None found → HasReplaced asked before after out0 out found
 none_failed asked before after out0 out found tree = record {
   work = tree.work;
   is_work = tree.is_work;

@@ -420,8 +420,8 @@ pub record StopsReplacing (undo : Bool) (printed : List ℕ) (why : ToolFault) :
   pub walk : ReplacingEnds undo printed (Err fault)
 
 -- no call of the file system failed
-abbrev pub IsReplaced : Replacing → (before after : List Step → Type 0) → (out0 out : Device) → WalkFound → Type 0
-IsReplaced asked before after out0 out found = ReplacesTree {Z = Unit {0}} asked before after out0 out None found
+abbrev pub HasReplaced : Replacing → (before after : List Step → Type 0) → (out0 out : Device) → WalkFound → Type 0
+HasReplaced asked before after out0 out found = ReplacesTree {Z = Unit {0}} asked before after out0 out None found
 
 -- a call of the file system failed, and the whole text of the walk tells of something that is to be looked at, last of what
 -- has this path
@@ -436,7 +436,7 @@ IsUnbegun stop = IsOverlapOrMemory stop ⊎ IsUnread stop
 abbrev pub ReplaceEnds : (before after : List Step → Type 0) → Replacing → (out0 out : Device) → (printed : List ℕ)
     → Result Done TaskFault → Type 0
 ReplaceEnds before after asked out0 out printed result = FailsReplacing before after asked out0 out result ⊎
-    Ends (IsEndOf (done_of_replaced asked) (IsReplaced asked before after out0 out))
+    Ends (IsEndOf (done_of_replaced asked) (HasReplaced asked before after out0 out))
     IsUnbegun (StopsReplacing asked.undo printed) printed result
 
 -- Replacing the days of an archive, or undoing it, and what was printed.
