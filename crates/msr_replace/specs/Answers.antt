@@ -115,7 +115,8 @@ pub record Exchanges (work : DayWork) (names : Names) (report : Path) (result : 
   pub alone : LeavesAlone names.original names.day old new
   pub answers : IfOk result (λ answer. Means work names report answer old new)
 
--- The same, and then its stamp is that of the records, if they are in ROOT and no longer in OUT.
+-- The same; and the stamp that a crash leaves might have been left before, or is that of the records, which then have the
+-- day's place.
 pub record Replaces (work : DayWork) (names : Names) (report : Path) (stamp : StampPlaces) (result : Result DayAnswer TreeFault) (old new : List Step) : Type 0 where
   pub changes : ChangesOnly (all_and_stamp names stamp) old new
   pub cause : IsErrOf result Failed → failures old < failures new

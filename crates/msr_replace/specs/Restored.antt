@@ -48,7 +48,8 @@ pub record PutsBackDay (names : Names) (result : Result DayRestored TreeFault) (
       → AtEachMoment (IsUnderEither names.day names.original b) old new
       × IfOk result (λ answer. answer ≡ restored.Restored → Leaves new names.day (Some b))
 
--- The same, and then its stamp is that of the original, if that has its place again.
+-- The same; and the stamp that a crash leaves might have been left before, or is that of the original, which then has its
+-- place again.
 pub record RestoresDay (names : Names) (stamp : StampPlaces) (result : Result DayRestored TreeFault) (old new : List Step) : Type 0 where
   pub changes : ChangesOnly (all_and_stamp names stamp) old new
   pub cause : IsErrOf result Failed → failures old < failures new

@@ -7,7 +7,7 @@ use Rattle.msr_exchange.specs.Stamped.{LeavesStamp, stamp_names}
 use Rattle.msr_replace.specs.declared.answers.DayRestored.{DayRestored}
 use Rattle.msr_replace.specs.declared.answers.DayRestored.TheVariants.{Restored}
 
--- The stamp is that of the original, if this is the answer.
+-- If it got it, a stamp that a crash leaves might have been left before, or is that of the original.
 pub record StampsRestored (names : Names) (stamp : StampPlaces) (answer : DayRestored) (old new : List Step) : Type 0 where
   pub changes : ChangesOnly (stamp_names stamp) old new
   pub adds : AreStampNames names stamp → answer ≡ Restored → (bytes : List ℕ) → Leaves old names.day (Some bytes)

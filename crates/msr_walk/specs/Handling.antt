@@ -27,7 +27,7 @@ pub record AreWithin (out reports : Path) (files : DayFiles) : Type 0 where
 pub record AreNamesWithin (out reports : Path) (names : DayNames) : Type 0 where
   pub are : (number : ℕ) → AreWithin out reports (files_of names number)
 
--- Of the names of a day, whatever number the claim has, only these lead elsewhere, and no folder is made.
+-- Only these names of a day lead elsewhere, whatever number its claims have, and no folder is made.
 pub record ChangesNames (some : DayFiles → List Path) (names : DayNames) (old new : List Step) : Type 0 where
   pub made : List Step
   pub since : new ≡ made ++ old
