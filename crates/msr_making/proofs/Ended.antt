@@ -289,26 +289,26 @@ seeks_at a b asked result one two same goes = subst (λ (d : DayPaths). Goes one
 -- the whole day
 module _ (input : Path) (files : DayFiles) (was_left : Bool) (asked : DayOptions) where
   -- it is left as it is
-  pub day_left : (outcome : DayOutcome) (one two : List Step → Type 0) → Goes one two (SeeksDay (paths_of input files) asked (Ok (Ended outcome)))
-      → Goes one two (DoesDay input files was_left asked (record { outcome = Ok outcome; left = left.Nothing; is_stored = true }))
-  day_left outcome one two goes = goes_as _ _ one two
+  pub day_left : (outcome : DayOutcome) (rest : Left) (one two : List Step → Type 0) → (rest ≡ left.Stamp → ⊥) → Goes one two (SeeksDay (paths_of input files) asked (Ok (Ended outcome)))
+      → Goes one two (DoesDay input files was_left asked (record { outcome = Ok outcome; left = rest; is_stored = true }))
+  day_left outcome rest one two unstamped goes = goes_as _ _ one two
       (λ p q x. record {
         safe = λ stored is_own is_of names settled own has. own_each files [] (none_empty files) p q x.changes is_own is_of has;
         killed = λ is_own names own has. report_each files [] (none_empty files) p is_own has q x.changes;
         outcome = λ names. x.said;
-        stamp = λ waits names settled. absurd cc;
+        stamp = λ waits names settled. absurd (unstamped waits);
         unstored = λ not. absurd cc;
         changes = changes_more [] (day_paths files) p q (λ n none. tt) x.changes;
       }) goes
 
-  pub day_stopped : (e f : AllocError) (one two : List Step → Type 0) → Goes one two (SeeksDay (paths_of input files) asked (Err e))
-      → Goes one two (DoesDay input files was_left asked (record { outcome = Err f; left = left.Nothing; is_stored = true }))
-  day_stopped e f one two goes = goes_as _ _ one two
+  pub day_stopped : (e f : AllocError) (rest : Left) (one two : List Step → Type 0) → (rest ≡ left.Stamp → ⊥) → Goes one two (SeeksDay (paths_of input files) asked (Err e))
+      → Goes one two (DoesDay input files was_left asked (record { outcome = Err f; left = rest; is_stored = true }))
+  day_stopped e f rest one two unstamped goes = goes_as _ _ one two
       (λ p q x. record {
         safe = λ stored is_own is_of names settled own has. own_each files [] (none_empty files) p q x.changes is_own is_of has;
         killed = λ is_own names own has. report_each files [] (none_empty files) p is_own has q x.changes;
         outcome = λ names. tt;
-        stamp = λ waits names settled. absurd cc;
+        stamp = λ waits names settled. absurd (unstamped waits);
         unstored = λ not. absurd cc;
         changes = changes_more [] (day_paths files) p q (λ n none. tt) x.changes;
       }) goes

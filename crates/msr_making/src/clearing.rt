@@ -23,6 +23,23 @@ impl Left {
     {
         if is_swept { Left::Nothing } else { Left::Parts }
     }
+
+    /// What is left of a day that was not touched: if a walk was killed that had it, that is known by the claim alone.
+    pub(crate) fn of_untouched(was_left: bool) -> Left
+        ensures { result ≡ Left.Stamp → ⊥ }
+    {
+        Left::of_swept(!was_left)
+    }
+
+    /// The same of a day that ended so. If an earlier walk did it, what is left is seen.
+    pub(crate) fn of_ended(outcome: DayOutcome, was_left: bool) -> Left
+        ensures { result ≡ Left.Stamp → ⊥ }
+    {
+        match outcome {
+            DayOutcome::Same(_) => Left::Nothing,
+            _ => Left::of_untouched(was_left),
+        }
+    }
 }
 
 /// Removes what stands beside the names of a day, and tells whether nothing is there any more.

@@ -212,7 +212,7 @@ pub fn do_day<T: Tree, H: Hold>(
     match find_day(tree, alloc, places_of(input, files), asked) {
         Ok(Found::Ended(outcome)) => DayEnd {
             outcome: Ok(outcome),
-            left: Left::Nothing,
+            left: Left::of_ended(outcome, was_left),
             is_stored: true,
         },
         Ok(Found::Open(look)) => {
@@ -220,7 +220,7 @@ pub fn do_day<T: Tree, H: Hold>(
         }
         Err(_) => DayEnd {
             outcome: Err(AllocError),
-            left: Left::Nothing,
+            left: Left::of_untouched(was_left),
             is_stored: true,
         },
     }
