@@ -1,14 +1,20 @@
 //! Runs of msrepack over streams of memory.
+ghost use Rattle.msr_devices.specs.Device.{CanCountCall};
 
 use crate::noted::{NotedSink, NotedSource};
 use crate::settings::Settings;
 use crate::stage::Stage;
 use msr_arguments::read_words;
 use msr_command::{SystemFiles, run};
-use msr_devices::{TestSink, TestSource};
+use msr_devices::{Sink, Source, TestSink, TestSource};
+use msr_folders::LockFile;
 use msr_options::Errors;
+use std::alloc::Global;
 use std::cell::Cell;
 use std::fs::File;
+use std::io::Write;
+use std::rt::Files;
+use std::time::Clock;
 
 /// What came of a run: what it printed, unless a file keeps that, its complaint, and its status.
 #[derive(Drop, PartialEq)]
@@ -54,6 +60,31 @@ fn held(stage: &mut Stage<'_>, path: &str) -> Option<File> {
     file
 }
 
+/// The status of msrepack with these words. It is generic over the files, since a call that names them hides a lifetime.
+fn status_with<R: Files + Clock, I: Source, O: Sink, E: Write>(
+    rt: &R,
+    alloc: Global,
+    words: &[&str],
+    input: &mut I,
+    output: &mut O,
+    errors: &mut Errors<E>,
+) -> u8
+where
+    R::File: LockFile,
+    requires input { CanCountCall (I.device input.old) }
+    requires output { CanCountCall (O.device output.old) }
+{
+    let asked = read_words(alloc, words);
+    run(
+        &mut SystemFiles::new(rt),
+        alloc,
+        asked,
+        input,
+        output,
+        errors,
+    )
+}
+
 /// What came of msrepack with these words, of which the first is its name.
 fn answer_with(stage: &mut Stage<'_>, settings: &Settings<'_>, words: &[&str]) -> Answer {
     let alloc = stage.alloc();
@@ -69,9 +100,8 @@ fn answer_with(stage: &mut Stage<'_>, settings: &Settings<'_>, words: &[&str]) -
     };
     let mut status = 0;
     if !stage.has_failed {
-        let words = read_words(alloc, words);
-        status = run(
-            &mut SystemFiles::new(&settings.odd),
+        status = status_with(
+            &settings.odd,
             alloc,
             words,
             &mut source,
