@@ -102,10 +102,20 @@ module _ (stamp : StampPlaces) where
       (λ p q r x y. record {
         changes = changes_then (stamp_names stamp) p q r (acts_does (stamp_names stamp) (Renamed stamp.part stamp.path) renamed p q (within_renamed stamp.part stamp.path) x).changes
             (acts_does (stamp_names stamp) (FolderStored folder) stored q r (λ n none. refl) y).changes;
-        adds = λ text ready. texts_then stamp.path (λ other. other ≡ text) p q r
+        adds = λ text apart ready. texts_then stamp.path (λ other. other ≡ text) p q r
             (does_texts stamp.path (λ other. other ≡ text) (Renamed stamp.part stamp.path) renamed p q (renamed_texts stamp.part stamp.path text p ready) x)
             (quiet_texts stamp.path (λ other. other ≡ text) [] q r tt (acts_does [] (FolderStored folder) stored q r (λ n none. refl) y).changes);
       }) first second
+
+  -- or goes
+  pub unnamed_stamp : {A B C : Type 0} (renamed : Result A TreeFault) (stored : Result B TreeFault) (removed : Result C TreeFault) (folder : Path) (one mid three two : List Step → Type 0)
+      → Goes one mid (DoesStep (Renamed stamp.part stamp.path) renamed) → Goes mid three (DoesStep (FolderStored folder) stored) → Goes three two (DoesStep (Removed stamp.part) removed) → Goes one two (NamesStamp stamp)
+  unnamed_stamp renamed stored removed folder one mid three two first second third = goes_both _ _ _ one three two
+      (λ p q r named x. record {
+        changes = changes_then (stamp_names stamp) p q r named.changes (acts_does (stamp_names stamp) (Removed stamp.part) removed q r (λ n none. none.1.0) x).changes;
+        adds = λ text apart ready. texts_then stamp.path (λ other. other ≡ text) p q r (named.adds text apart ready)
+            (quiet_texts stamp.path (λ other. other ≡ text) (stamp.part ∷ []) q r (apart, tt) (acts_does (stamp.part ∷ []) (Removed stamp.part) removed q r (λ n none. none.0) x).changes);
+      }) (named_stamp renamed stored folder one mid three first second) third
 
   module _ (names : Names) where
     pub dropped_stamp : {A B : Type 0} (part : Result A TreeFault) (path : Result B TreeFault) (one mid two : List Step → Type 0)
@@ -145,7 +155,7 @@ module _ (stamp : StampPlaces) where
           (goes_both _ _ (GivesStamp names stamp of value) two three four
           (λ q m r w named. record {
             changes = changes_then (stamp_names stamp) q m r (changes_more (stamp.part ∷ []) (stamp_names stamp) q m (λ n none. (none.1.0, tt)) w.changes.changes) named.changes;
-            adds = λ are. texts_then stamp.path Is q m r (quiet_texts stamp.path Is (stamp.part ∷ []) q m (are.parts, tt) w.changes.changes) (named.adds (stamp_text of value) (w.ready so));
+            adds = λ are. texts_then stamp.path Is q m r (quiet_texts stamp.path Is (stamp.part ∷ []) q m (are.parts, tt) w.changes.changes) (named.adds (stamp_text of value) are.parts (w.ready so));
           }) b c)
 
       pub given_none : (written : Bool) (one two three four : List Step → Type 0) → Goes one two (ChangesOnly []) → Goes two three (WritesText stamp.part (stamp_text of value) written)

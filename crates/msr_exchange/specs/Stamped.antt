@@ -1,5 +1,6 @@
 -- What is done with the stamp of a day whose files have changed places.
-use Rattle.std.specs.Prelude.{◌≡◌, ◌⊎◌, ℕ, Bool, true, List, [], ◌∷◌, codes, length, Option, None, Some, IfSome, IsSomeAnd}
+use Rattle.std.specs.Prelude.{◌≡◌, ◌⊎◌, ℕ, Bool, false, true, List, [], ◌∷◌, codes, length, Option, None, Some, IfSome, IsSomeAnd}
+use Rattle.std.specs.Str.{bytes_eq}
 use Rattle.msr_tree.specs.Steps.{AtEachMoment, ChangesOnly, IsReady, Leaves, MayLeave, Path, Step, now}
 use Rattle.msr_tree.specs.declared.facts.Facts.{Facts}
 use Rattle.msr_tree.specs.declared.facts.Kind.TheVariants.{Regular}
@@ -56,10 +57,11 @@ pub record FindsStamp (name : Path) (found : Option Stamp) (old new : List Step)
   pub changes : ChangesOnly [] old new
   pub is : IfSome found (λ stamp. IsSomeAnd (now old name) (λ file. stamp.bytes ≡ length file.bytes))
 
--- What was made gets the stamp's name.
+-- What was made gets the stamp's name, if the two names are apart.
 pub record NamesStamp (stamp : StampPlaces) (old new : List Step) : Type 0 where
   pub changes : ChangesOnly (stamp_names stamp) old new
-  pub adds : (text : List ℕ) → IsReady stamp.part text old → AddsTexts stamp.path (λ other. other ≡ text) old new
+  pub adds : (text : List ℕ) → bytes_eq stamp.path stamp.part ≡ false → IsReady stamp.part text old
+      → AddsTexts stamp.path (λ other. other ≡ text) old new
 
 -- No stamp gets the name.
 pub record DropsStamp (names : Names) (stamp : StampPlaces) (old new : List Step) : Type 0 where

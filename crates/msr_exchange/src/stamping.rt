@@ -84,13 +84,16 @@ fn has_stamp<T: Tree>(
     }
 }
 
-/// What was made beside the stamp's name gets it.
+/// What was made beside the stamp's name gets it, or goes.
 fn name_stamp<T: Tree>(tree: &mut T, stamp: &StampNames)
     ensures { Goes (T.went tree.old) (T.went tree.new) (NamesStamp stamp.now) }
 {
     let path = stamp.path.as_str();
-    let _ = tree.rename(stamp.part.as_str(), path);
+    let renamed = tree.rename(stamp.part.as_str(), path);
     let _ = tree.store_folder(folder_above(path));
+    if renamed.is_err() {
+        let _ = tree.remove(stamp.part.as_str());
+    }
 }
 
 fn drop_stamp<T: Tree>(tree: &mut T, names: &DayNames, stamp: &StampNames)
