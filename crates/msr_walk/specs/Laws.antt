@@ -101,7 +101,7 @@ pub days_laws : {V E T : Type 0} (is_entry : V → E → Type 0) (is_line : V �
     (archive : V → Archiving) → ((visitor : V) → IsSeparate (archive visitor).folders.root.now (archive visitor).folders.out.now (archive visitor).folders.reports.now) →
     VisitLaws {V = V} {L = E} {T = T} (λ visitor. TellsThese (is_entry visitor) (is_line visitor) is_tally)
     (λ visitor out0 out. StopsAt (TellsInPart (is_entry visitor) (is_line visitor) out0 out) out0 out)
-    (λ visitor. ChangesDays (archive visitor))
+    (λ visitor goes_on. ChangesDays (archive visitor))
 days_laws is_entry is_line is_tally archive separate =
     let laws = within_laws is_entry is_line is_tally (λ visitor. (archive visitor).folders.out.now) (λ visitor. (archive visitor).folders.reports.now) in
     record {
@@ -111,6 +111,7 @@ days_laws is_entry is_line is_tally archive separate =
       refused = laws.refused;
       later = laws.later;
       still = λ visitor. days_none (archive visitor);
-      onward = λ visitor. days_then (archive visitor) (separate visitor);
+      onward = λ visitor goes_on. days_then (archive visitor) (separate visitor);
+      ends = λ visitor old new changes. changes;
       unlisted = λ visitor. days_unlisted (archive visitor);
     }
