@@ -10,7 +10,7 @@ use Rattle.msr_tree.specs.Steps.{AtEachMoment, Path, Step, failures, seen}
 use Rattle.msr_tree.specs.declared.tree.TreeFault.{TreeFault}
 use Rattle.msr_tree.specs.declared.tree.TreeFault.TheVariants as fault
 use Rattle.msr_naming.specs.Naming.{day_paths, told}
-use Rattle.msr_naming.specs.Promise.{AreNamed, AreReady, HasOwn, HasReport, HaveNames, IsFreeIf, IsUnseenIf, ShowsDay}
+use Rattle.msr_naming.specs.Promise.{AreNamed, AreReady, HasOwn, HasReport, HaveDayNames, IsFreeIf, IsUnseenIf, ShowsDay}
 use Rattle.msr_naming.specs.declared.fallback.Naming.{Naming}
 use Rattle.msr_naming.specs.declared.files.DayFiles.{DayFiles}
 use Rattle.msr_making.specs.Day.{IsDayOutcome, IsDone, IsRepackedDay, IsVerifiedBy}
@@ -113,7 +113,7 @@ pub record IsMade (input : Path) (files : DayFiles) (asked : DayOptions) (is_fre
   pub unshrunk : IsUnshrunk asked (paths_of input files) repacked old
   pub has_records : seen new files.records.path ≡ Some records
   pub has_report : seen new files.report.path ≡ Some text
-  pub stands : IsUnseenIf is_free files old → HaveNames files records text new
+  pub stands : IsUnseenIf is_free files old → HaveDayNames files records text new
   pub named : is_stored ≡ true → IsFreeIf is_free files old → AreNamed files records text new
 
 abbrev pub MadeAs : Path → DayFiles → DayOptions → (is_free is_stored : Bool) → Result Repacked Stop → (old new : List Step) → Type 0

@@ -10,7 +10,7 @@ use Rattle.msr_tree.specs.Folders.{ChangesFiles}
 use Rattle.msr_tree.specs.Steps.{AtEachMoment, IsReady, Leaves, Path, Step, failures, seen}
 use Rattle.msr_tree.specs.declared.facts.Facts.{Facts}
 use Rattle.msr_naming.specs.Naming.{day_paths}
-use Rattle.msr_naming.specs.Promise.{HasOwn, HasReport, HaveNames, ShowsDay}
+use Rattle.msr_naming.specs.Promise.{HasOwn, HasReport, HaveDayNames, ShowsDay}
 use Rattle.msr_naming.specs.declared.files.DayFiles.{DayFiles}
 use Rattle.msr_making.specs.Places.{AreFileNames, DayPaths, ShowsAllLeft, paths_of}
 use Rattle.msr_stamp.specs.Stamp.{stamp_of, stamp_text}
@@ -36,7 +36,7 @@ pub record WaitsForStamp (input : Path) (files : DayFiles) (choice : Choice) (ol
   pub report : Report
   pub has_input : seen old input ≡ Some bytes
   pub reported : IsReported choice bytes records text report
-  pub named : HaveNames files records text new
+  pub named : HaveDayNames files records text new
   pub stamp_is : IsReady files.stamp.part (stamp_text Input (stamp_of facts)) new
 
 -- Nor can one come back.

@@ -17,7 +17,7 @@ use Rattle.msr_naming.specs.declared.naming.Act.TheVariants.{Remove, Store, Rena
 use Rattle.msr_naming.specs.declared.files.Name.TheVariants.{Records, RecordsPart, Report, ReportPart, Stamp}
 use Rattle.msr_naming.specs.Following.{FallsBack, FollowsPlan, FollowsPlanIf, last_acts, over_gone_acts, over_report_acts, report_acts, unstored_acts}
 use Rattle.msr_naming.specs.Naming.{AreDayNames, Performs, act_step, day_paths, told}
-use Rattle.msr_naming.specs.Promise.{AreNamed, AreReady, ClearsDay, GivesNames, HasReport, HaveNames, IsFree, IsFreeIf, IsUnseenIf, KeepsShown, NamesDay, SeesNames, SeesNone, ShowsDay, StoresNames}
+use Rattle.msr_naming.specs.Promise.{AreNamed, AreReady, ClearsDay, GivesNames, HasReport, HaveDayNames, IsFree, IsFreeIf, IsUnseenIf, KeepsShown, NamesDay, SeesNames, SeesNone, ShowsDay, StoresNames}
 use Rattle.msr_naming.proofs.Changed.{only_named, only_some}
 use Rattle.msr_naming.proofs.Kills as kill
 use Rattle.msr_naming.proofs.Names.{no_stamp_left, not_renamed, ready_gone, ready_still, removed_unseen, seen_nothing, seen_ready, seen_still}
@@ -76,7 +76,7 @@ module _ (files : DayFiles) where
     sees_anew past ready = let named = report_named files are r p past ready in sees_last (one files are r p ∷ past) named.1 named.2
 
     -- they are on the disk then, and no stamp is seen that was not
-    has_last : (past : List Step) → IsReady files.report.path p past → IsReady files.records.part r past → seen past files.stamp.path ≡ None → HaveNames files r p (two files are r p ∷ past)
+    has_last : (past : List Step) → IsReady files.report.path p past → IsReady files.records.part r past → seen past files.stamp.path ≡ None → HaveDayNames files r p (two files are r p ∷ past)
     has_last past report records unseen = record {
       records_are = ready_renamed files.records.part files.records.path r past records;
       report_is = ready_still (two files are r p) past files.report.path p (not_renamed files.records.part files.records.path files.report.path (are.apart Report Records refl) (are.apart Report RecordsPart refl)) report;
@@ -86,7 +86,7 @@ module _ (files : DayFiles) where
     unseen_then : (past : List Step) → seen past files.stamp.path ≡ None → seen (one files are r p ∷ past) files.stamp.path ≡ None
     unseen_then past unseen = seen_still (one files are r p) past files.stamp.path (not_renamed files.report.part files.report.path files.stamp.path (are.apart Stamp Report refl) (are.apart Stamp ReportPart refl)) ∙ unseen
 
-    has_anew : (past : List Step) → AreReady files r p past → seen past files.stamp.path ≡ None → HaveNames files r p (two files are r p ∷ one files are r p ∷ past)
+    has_anew : (past : List Step) → AreReady files r p past → seen past files.stamp.path ≡ None → HaveDayNames files r p (two files are r p ∷ one files are r p ∷ past)
     has_anew past ready unseen = let named = report_named files are r p past ready in has_last (one files are r p ∷ past) named.1 named.2 (unseen_then past unseen)
 
     -- what is beside the names stays while the old ones go at once
@@ -98,7 +98,7 @@ module _ (files : DayFiles) where
           report_is = ready_still (Removed files.records.path) l1 files.report.part p (are.apart ReportPart Records refl) (ready_still (Removed files.stamp.path) mid files.report.part p (are.apart ReportPart Stamp refl) ready.report_is);
         }
 
-    has_unstored : (mid : List Step) → AreReady files r p mid → HaveNames files r p (two files are r p ∷ one files are r p ∷ Removed files.records.path ∷ Removed files.stamp.path ∷ mid)
+    has_unstored : (mid : List Step) → AreReady files r p mid → HaveDayNames files r p (two files are r p ∷ one files are r p ∷ Removed files.records.path ∷ Removed files.stamp.path ∷ mid)
     has_unstored mid ready =
         let l1 = Removed files.stamp.path ∷ mid in
         has_anew (Removed files.records.path ∷ l1) (ready_removed mid ready)
@@ -147,7 +147,7 @@ module _ (files : DayFiles) where
     gives = subst (λ (a : Result (Unit {0}) TreeFault). OnOk a (naming.is_stored ≡ true → AreDayNames files → IsFreeIf is_free files old → GivesNames files old new)) (sym same)
         (when_ok answer (λ is. λ stored. absurd (cc)) two.all);
     ready = subst (λ (a : Result (Unit {0}) TreeFault). OnOk a (AreDayNames files → IsUnseenIf is_free files old → StoresNames files old new)) (sym same)
-        (when_ok answer (λ is. λ are unseen r p ready. subst (λ (l : List Step). HaveNames files r p l) (sym is) (has_unstored are r p mid (parts_kept are r p stopped old mid one ready))) two.all);
+        (when_ok answer (λ is. λ are unseen r p ready. subst (λ (l : List Step). HaveDayNames files r p l) (sym is) (has_unstored are r p mid (parts_kept are r p stopped old mid one ready))) two.all);
     leaves = subst (λ (a : Result (Unit {0}) TreeFault). OnOk a (naming.is_stored ≡ true → AreDayNames files → IsUnseenIf is_free files old → KeepsShown files old new)) (sym same)
         (when_ok answer (λ is. λ stored. absurd (cc)) two.all);
     changes = changes_then (day_paths files) old mid new (only_named files gone_acts old mid one.some) (only_named files unstored_acts mid new two.some);
@@ -194,7 +194,7 @@ module _ (files : DayFiles) where
         ready = subst (λ (a : Result (Unit {0}) TreeFault). OnOk a (AreDayNames files → IsUnseenIf false files old → StoresNames files old new)) (sym same)
             (when_ok answer (λ is. λ are unseen r p ready.
             let last = before_last are r p old before mid falls.done falls.stopped ready in
-            subst (λ (l : List Step). HaveNames files r p l) (sym is) (has_last are r p mid last.0 last.1 last.2)) falls.after.all);
+            subst (λ (l : List Step). HaveDayNames files r p l) (sym is) (has_last are r p mid last.0 last.1 last.2)) falls.after.all);
         leaves = subst (λ (a : Result (Unit {0}) TreeFault). OnOk a (naming.is_stored ≡ true → AreDayNames files → IsUnseenIf false files old → KeepsShown files old new)) (sym same)
             (when_ok answer (λ is. λ stored. absurd (cc)) falls.after.all);
         changes = changes_then (day_paths files) old mid new (only_named files day_acts old mid day.some) (only_named files last_acts mid new falls.after.some);
@@ -248,7 +248,7 @@ module _ (files : DayFiles) where
         gives = subst (λ (a : Result (Unit {0}) TreeFault). OnOk a (naming.is_stored ≡ true → AreDayNames files → IsFreeIf true files old → GivesNames files old new)) (sym same)
             (when_ok answer (λ gives. λ stored are free. gives are (free refl)) keeps.done);
         ready = subst (λ (a : Result (Unit {0}) TreeFault). OnOk a (AreDayNames files → IsUnseenIf true files old → StoresNames files old new)) (sym same)
-            (when_ok answer (λ is_all. λ are unseen r p ready. subst (λ (l : List Step). HaveNames files r p l) (sym is_all) (has_anew are r p old ready (unseen refl).2)) performs.all);
+            (when_ok answer (λ is_all. λ are unseen r p ready. subst (λ (l : List Step). HaveDayNames files r p l) (sym is_all) (has_anew are r p old ready (unseen refl).2)) performs.all);
         leaves = subst (λ (a : Result (Unit {0}) TreeFault). OnOk a (naming.is_stored ≡ true → AreDayNames files → IsUnseenIf true files old → KeepsShown files old new)) (sym same)
             (when_ok answer (λ gives. λ stored are unseen r p ready shows. shows_named files r p new ((gives are (shows.free (unseen refl))).named r p ready)) keeps.done);
         changes = keeps.changes;

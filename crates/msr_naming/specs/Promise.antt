@@ -46,7 +46,7 @@ pub record AreNamed (files : DayFiles) (records report : List ℕ) (past : List 
   pub unstamped : Leaves past files.stamp.path None
 
 -- They have their names, and no stamp is seen.
-pub record HaveNames (files : DayFiles) (records report : List ℕ) (past : List Step) : Type 0 where
+pub record HaveDayNames (files : DayFiles) (records report : List ℕ) (past : List Step) : Type 0 where
   pub records_are : IsReady files.records.path records past
   pub report_is : IsReady files.report.path report past
   pub unseen : seen past files.stamp.path ≡ None
@@ -147,7 +147,7 @@ SeesNames files old new = (records report : List ℕ) → AreReady files records
 
 -- on the disk, and no stamp is seen
 abbrev pub StoresNames : DayFiles → (old new : List Step) → Type 0
-StoresNames files old new = (records report : List ℕ) → AreReady files records report old → HaveNames files records report new
+StoresNames files old new = (records report : List ℕ) → AreReady files records report old → HaveDayNames files records report new
 
 -- nor can what is not seen come back, if it could not before
 abbrev pub KeepsShown : DayFiles → (old new : List Step) → Type 0
