@@ -1,5 +1,5 @@
 -- Making a file, as an act.
-use Rattle.std.proofs.Common.{◌≡◌, ⊎_elim, ℕ, false, List, [], ◌∷◌, Result, Ok, Err, IsErrOf, sym, subst}
+use Rattle.std.proofs.Common.{◌≡◌, ⊎_elim, ℕ, false, List, [], Result, Ok, Err, IsErrOf, sym, subst}
 use Rattle.std.specs.Str.{bytes_eq}
 use Rattle.msr_devices.specs.Device.{Device}
 use Rattle.msr_tree.specs.Acts.{Acts}
