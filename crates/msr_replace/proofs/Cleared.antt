@@ -1,9 +1,9 @@
 -- What killed runs left in a folder goes.
-use Rattle.std.proofs.Common.{◌≡◌, inl, inr, ⊎_elim, ℕ, List, [], ◌∷◌, subst, sym, ap, ◌∙◌, Option, None, Result, Ok, Err}
+use Rattle.std.proofs.Common.{◌≡◌, inl, inr, ⊎_elim, ℕ, List, [], ◌∷◌, ap, ◌∙◌, None, Result, Ok, Err}
 use Rattle.std.specs.List.{All}
 use Rattle.msr_tree.specs.Acts.{Acts}
 use Rattle.msr_tree.specs.Calls.{DoesStep, Goes}
-use Rattle.msr_tree.specs.Steps.{ChangesOnly, File, Path, Removed, Step, now}
+use Rattle.msr_tree.specs.Steps.{ChangesOnly, Path, Removed, Step, now}
 use Rattle.msr_tree.specs.declared.tree.TreeFault.{TreeFault}
 use Rattle.msr_tree.specs.declared.tree.TreeFault.TheVariants as fault
 use Rattle.msr_tree.proofs.Acting.{acts_does, giving, goes_as, stopping}
