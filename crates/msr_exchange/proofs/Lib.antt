@@ -1,6 +1,7 @@
 pub mod Alone
 pub mod Back
 pub mod BothWays
+pub mod Clearing
 pub mod Making
 pub mod Moved
 pub mod NameLemmas

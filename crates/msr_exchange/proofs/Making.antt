@@ -1,13 +1,13 @@
 -- Making a file, as an act.
-use Rattle.std.proofs.Common.{◌≡◌, ⊎_elim, ℕ, false, List, [], ◌∷◌, Result, Ok, Err, IfOk, IsErrOf, ap, sym, subst}
+use Rattle.std.proofs.Common.{◌≡◌, ⊎_elim, ℕ, false, List, [], Result, Ok, Err, IsErrOf, sym, subst}
 use Rattle.std.specs.Str.{bytes_eq}
 use Rattle.msr_devices.specs.Device.{Device}
 use Rattle.msr_tree.specs.Acts.{Acts}
-use Rattle.msr_tree.specs.Calls.{Begins, DoesStep, Finishes, Goes, PerhapsDone}
-use Rattle.msr_tree.specs.Steps.{ChangesOnly, IsNoneOf, Made, Path, Removed, Step}
+use Rattle.msr_tree.specs.Calls.{Begins, Finishes, Goes, PerhapsDone}
+use Rattle.msr_tree.specs.Steps.{ChangesOnly, IsNoneOf, Made, Path, Step}
 use Rattle.msr_tree.specs.declared.tree.TreeFault.{TreeFault}
 use Rattle.msr_tree.specs.declared.tree.TreeFault.TheVariants as fault
-use Rattle.msr_tree.proofs.Acting.{changes_step, giving, goes_as, goes_step, stopped, stopped_as, stopping, then_given, told_as}
+use Rattle.msr_tree.proofs.Acting.{changes_step, giving, goes_as, stopped, stopped_as, stopping, then_given}
 use Rattle.msr_tree.proofs.Changes.{changes_none}
 use Rattle.msr_exchange.specs.Moves.{Anything}
 
@@ -17,16 +17,6 @@ goes_none names Done one = record { from = λ new went. (new, went, record { cha
 
 pub never_failed : {A B : Type 0} (a : A) (b : B) → IsErrOf (giving b) fault.Failed → IsErrOf (giving a) fault.Failed
 never_failed a b is = cc
-
--- a name is taken away
-pub removed_one : (path given : Path) (result : Result (Unit {0}) TreeFault) (one two : List Step → Type 0) → given ≡ path → Goes one two (DoesStep (Removed given) result) → Goes one two (Acts (path ∷ []) (Anything {T = Unit {0}}) result)
-removed_one path given result one two same goes =
-    told_as {A = Unit {0}} {B = Unit {0}} (path ∷ []) (path ∷ []) _ (Anything {T = Unit {0}}) result result one two (λ is. is) (λ n none. none) (λ p q did ch. any result)
-    (goes_step {T = Unit {0}} (path ∷ []) _ (Removed path) result one two (ap (λ n. Removed n) same) (λ n none. none.0) goes)
-  where
-    any : (r : Result (Unit {0}) TreeFault) → IfOk r (λ b. Unit {0})
-    any (Ok x) = tt
-    any (Err why) = tt
 
 module _ (names : List Path) (path : Path) (apart : (name : Path) → IsNoneOf name names → bytes_eq name path ≡ false) where
   perhaps : (bytes : List ℕ) (old left : List Step) → PerhapsDone (Made path bytes) old left → ChangesOnly names old left

@@ -1,7 +1,8 @@
 -- What is done with the names of a day.
 use Rattle.std.specs.Prelude.{◌≡◌, ◌≢◌, ◌⊎◌, ℕ, Bool, true, List, [], ◌∷◌, Option, None, Some, Result, IfOk, IsSome}
+use Rattle.std.specs.List.{All}
 use Rattle.msr_tree.specs.Acts.{Acts}
-use Rattle.msr_tree.specs.Steps.{AtEachMoment, ChangesOnly, IsReady, Leaves, MayLeave, Path, Step, seen}
+use Rattle.msr_tree.specs.Steps.{AtEachMoment, ChangesOnly, IsReady, Leaves, MayLeave, Path, Step, now, seen}
 use Rattle.msr_tree.specs.declared.tree.TreeFault.{TreeFault}
 
 -- the bytes that are seen under a name are left by each crash
@@ -52,6 +53,11 @@ IsSeenAs one other old new answer = answer ≡ true → seen old one ≡ seen ol
 -- nothing is known
 abbrev pub Anything : {T : Type 0} → (old new : List Step) → T → Type 0
 Anything old new answer = Unit {0}
+
+-- These names lead to nothing, and no name that led to nothing leads to a file.
+pub record Clears {T : Type 0} (names : List Path) (old new : List Step) (answer : T) : Type 0 where
+  pub gone : All (λ name. now new name ≡ None) names
+  pub none_given : (name : Path) → now old name ≡ None → now new name ≡ None
 
 -- each crash leaves one or the other under a name
 abbrev pub LeavesEither : Path → (one other : Option (List ℕ)) → List Step → Type 0

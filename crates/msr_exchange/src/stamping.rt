@@ -1,6 +1,6 @@
 //! The stamp of a day whose files have changed places, by which `archive` leaves it alone. If it cannot be written, none is
 //! left, or an old one that tells of another file.
-ghost use Rattle.std.specs.Prelude.{◌≡◌, [], IfOk, IfSome, None, Ok, true};
+ghost use Rattle.std.specs.Prelude.{◌≡◌, ◌↔◌, [], IfOk, IfSome, IsOkAnd, IsSome, IsTrue, None, Ok};
 ghost use Rattle.msr_tree.specs.Calls.{Goes};
 ghost use Rattle.msr_tree.specs.Steps.{ChangesOnly};
 ghost use Rattle.msr_exchange.specs.Work.{stamp_in};
@@ -142,7 +142,7 @@ pub fn stamp_day<T: Tree>(
 
 /// Whether a look found nothing.
 fn is_nothing(found: Result<Option<Facts>, TreeFault>) -> bool
-    ensures { result ≡ true → found ≡ Ok None }
+    ensures { IsTrue result ↔ found ≡ Ok None }
 {
     match found {
         Ok(None) => true,
@@ -151,7 +151,9 @@ fn is_nothing(found: Result<Option<Facts>, TreeFault>) -> bool
 }
 
 /// Whether a look found something.
-fn is_something(found: Result<Option<Facts>, TreeFault>) -> bool {
+fn is_something(found: Result<Option<Facts>, TreeFault>) -> bool
+    ensures { IsTrue result ↔ IsOkAnd found IsSome }
+{
     match found {
         Ok(Some(_)) => true,
         Ok(None) | Err(_) => false,

@@ -1,3 +1,4 @@
+pub mod Cleared
 pub mod Counted
 pub mod Exchanged
 pub mod Judged

@@ -10,4 +10,5 @@ pub mod Stamping
 pub mod Sums
 pub mod Tree
 pub mod Walk
+pub mod Ways
 pub mod Words

@@ -4,7 +4,8 @@ ghost use Rattle.msr_tree.specs.Acts.{Acts};
 ghost use Rattle.msr_tree.specs.Calls.{Goes};
 ghost use Rattle.msr_tree.specs.Steps.{ChangesOnly};
 ghost use Rattle.msr_replace.specs.Looks.{AreOfNames, RefusesByNames};
-ghost use Rattle.msr_exchange.specs.Stamped.{all_parts_in, stamp_part_in};
+ghost use Rattle.msr_replace.specs.Ways.{BeginsFolder, RemovesOnly};
+ghost use Rattle.msr_exchange.specs.Stamped.{stamp_part_in};
 ghost use Rattle.msr_exchange.specs.Moves.{Anything};
 
 use crate::answers::DayRefusal;
@@ -121,7 +122,7 @@ impl Ways {
 
 /// Removes the stamp that a killed run was about to give its name, if that can be done.
 fn clear_stamp<T: Tree>(tree: &mut T, work: &DayWork<'_>, folder: &str)
-    ensures { Goes (T.went tree.old) (T.went tree.new) (ChangesOnly (stamp_part_in work.now folder.now ∷ [])) }
+    ensures { Goes (T.went tree.old) (T.went tree.new) (RemovesOnly (stamp_part_in work.now folder.now ∷ [])) }
 {
     let reports = work.reports;
     match format!(in work.alloc; "{reports}/{folder}/.msrepack-replace.stamp") {
@@ -139,7 +140,7 @@ pub(crate) fn begin_folder<T: Tree>(
     work: &DayWork<'_>,
     folder: &str,
 ) -> Result<bool, TreeFault>
-    ensures { Goes (T.went tree.old) (T.went tree.new) (ChangesOnly (all_parts_in work.now folder.now)) }
+    ensures { Goes (T.went tree.old) (T.went tree.new) (BeginsFolder work.now folder.now result) }
 {
     let ways = Ways::of(tree, work, folder)?;
     if ways.have_links() {
