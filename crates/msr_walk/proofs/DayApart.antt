@@ -49,7 +49,7 @@ five : (n : ℕ) → 1 + (1 + (1 + (1 + (1 + n)))) ≡ 5 + n
 five n = omega arith
 
 -- the folder above a name with an ending without a slash is that of the name
-above_same : (path ending : Path) → suffix_len (λ byte. not (is_separator byte)) (path ++ ending) ≡ length ending + suffix_len (λ byte. not (is_separator byte)) path
+pub above_same : (path ending : Path) → suffix_len (λ byte. not (is_separator byte)) (path ++ ending) ≡ length ending + suffix_len (λ byte. not (is_separator byte)) path
     → folder_above (path ++ ending) ≡ take (length path - suffix_len (λ byte. not (is_separator byte)) path - 1) path
 above_same path ending more =
     let last : ℕ = suffix_len (λ byte. not (is_separator byte)) path in
@@ -58,7 +58,7 @@ above_same path ending more =
     = omega (arith, more, length-append path ending) in
     ap (λ n. take n (path ++ ending)) front ∙ take-append-le (length path - last - 1) path ending (omega arith)
 
-text_above : (path : Path) → suffix_len (λ byte. not (is_separator byte)) (path ++ codes ".txt") ≡ 4 + suffix_len (λ byte. not (is_separator byte)) path
+pub text_above : (path : Path) → suffix_len (λ byte. not (is_separator byte)) (path ++ codes ".txt") ≡ 4 + suffix_len (λ byte. not (is_separator byte)) path
 text_above path = ap (prefix_len (λ byte. not (is_separator byte))) (reverse-append path (codes ".txt"))
     ∙ four (prefix_len (λ byte. not (is_separator byte)) (reverse path))
 
@@ -71,40 +71,40 @@ beside_so path = (bytes_eq-Decides (folder_above (path ++ codes ".from")) (folde
     (above_same path (codes ".from") (from_above path) ∙ sym (above_same path (codes ".txt") (text_above path)))
 
 module _ (folders : Folders) (path : Path) (apart : StandApart folders) (names : HaveNames folders.out.now folders.reports.now) (day : IsDay path) (number : ℕ) where
-  abbrev files : DayFiles
+  abbrev pub files : DayFiles
   files = files_of (day_names folders.root.now folders.out.now folders.reports.now path) number
 
-  abbrev part : Path
+  abbrev pub part : Path
   part = codes "." ++ (decimal number ++ codes ".part")
 
-  abbrev records : Path
+  abbrev pub records : Path
   records = joined folders.out.now path
 
-  abbrev report : Path
+  abbrev pub report : Path
   report = joined folders.reports.now path
 
-  within : AreWithin folders.out.now folders.reports.now files
+  pub within : AreWithin folders.out.now folders.reports.now files
   within = (day_within folders.root.now folders.out.now folders.reports.now path day).are number
 
   -- what is made of records stands apart from what is made of reports
-  sides : (one other : Path) → StandsWithin folders.out.now one → StandsWithin folders.reports.now other → one ≢ other
+  pub sides : (one other : Path) → StandsWithin folders.out.now one → StandsWithin folders.reports.now other → one ≢ other
   sides one other first second is = apart.outputs (overlaps_within folders.out.now folders.reports.now other (subst (λ p. StandsWithin folders.out.now p) is first) second)
 
-  records_part_is : files.records.part ≡ records ++ part
+  pub records_part_is : files.records.part ≡ records ++ part
   records_part_is = let some = some_joined folders.out.now path names.out_some in ended_some records part some.0 some.1 some.2
 
-  report_is : files.report.path ≡ report ++ codes ".txt"
+  pub report_is : files.report.path ≡ report ++ codes ".txt"
   report_is = let some = some_joined folders.reports.now path names.reports_some in ended_some report (codes ".txt") some.0 some.1 some.2
 
-  stamp_is : files.stamp.path ≡ report ++ codes ".from"
+  pub stamp_is : files.stamp.path ≡ report ++ codes ".from"
   stamp_is = let some = some_joined folders.reports.now path names.reports_some in ended_some report (codes ".from") some.0 some.1 some.2
 
-  report_part_is : files.report.part ≡ report ++ (codes ".txt" ++ part)
+  pub report_part_is : files.report.part ≡ report ++ (codes ".txt" ++ part)
   report_part_is =
       let some = some_joined folders.reports.now path names.reports_some in
       ap (λ p. ended p part) report_is ∙ ended_some (report ++ codes ".txt") part some.0 (some.1 ++ codes ".txt") (ap (λ p. p ++ codes ".txt") some.2) ∙ append_assoc report (codes ".txt") part
 
-  stamp_part_is : files.stamp.part ≡ report ++ (codes ".from" ++ part)
+  pub stamp_part_is : files.stamp.part ≡ report ++ (codes ".from" ++ part)
   stamp_part_is =
       let some = some_joined folders.reports.now path names.reports_some in
       ap (λ p. ended p part) stamp_is ∙ ended_some (report ++ codes ".from") part some.0 (some.1 ++ codes ".from") (ap (λ p. p ++ codes ".from") some.2) ∙ append_assoc report (codes ".from") part

@@ -8,3 +8,6 @@ pub mod Kept
 pub mod Working
 pub mod Visited
 pub mod DayApart
+pub mod OtherDays
+pub mod Spared
+pub mod Waits
