@@ -11,7 +11,7 @@ use Rattle.msr_tree.proofs.Moments.{at_end, joined}
 use Rattle.msr_tree.proofs.Filing.{acts_does, changes_more, changes_then, no_fewer, seen_kept}
 use Rattle.msr_naming.proofs.FallingBack.{goes_both}
 use Rattle.msr_naming.specs.Naming.{AreDayNames, day_paths, told}
-use Rattle.msr_naming.specs.Promise.{ClearsDay, HasOwn, HasReport}
+use Rattle.msr_naming.specs.Promise.{ClearsDay, HasOwn, HasReport, IsFree}
 use Rattle.msr_naming.specs.declared.fallback.Naming.{Naming}
 use Rattle.msr_naming.specs.declared.files.DayFiles.{DayFiles}
 use Rattle.msr_making.specs.Clearing.{EndsRefused, FindsNone, GivesUp, beside_paths}
@@ -29,7 +29,8 @@ use Rattle.msr_making.specs.declared.answer.Left.TheVariants as left
 use Rattle.msr_making.specs.declared.looks.DayLook.{DayLook}
 use Rattle.msr_making.specs.declared.looks.Sight.{Sight}
 use Rattle.msr_making.specs.declared.looks.Sight.TheVariants.{Nothing}
-use Rattle.msr_making.proofs.Owns.{AreNone, more_beside, none_beside, none_empty, own_each, own_kept, report_each, report_kept}
+use Rattle.msr_making.proofs.Made.{is_so}
+use Rattle.msr_making.proofs.Owns.{AreNone, more_beside, none_beside, none_empty, own_each, own_kept, report_each, report_kept, shows_free, shows_kept}
 use Rattle.msr_making.proofs.Sights.{asks_as}
 use Rattle.msr_making.proofs.Untouched.{cleared_for, kept_for, untouched_by}
 
@@ -92,6 +93,10 @@ module _ (input : Path) (files : DayFiles) where
         killed = λ is_own are has. joined (HasReport is_own files) p q r (report_each files names (none are) p is_own has q x) (y.killed is_own are (report_kept files names (none are) p is_own has q x));
         cleared = earlier end.outcome p q r (no_fewer names p q x) y.cleared;
         unstamped = y.unstamped;
+        leaves = λ ok same are shows.
+            let few = no_fewer names p q x in
+            let more = no_fewer (day_paths files) q r y.changes in
+            y.leaves ok (omega arith) are (shows_kept files names (none are) p q x shows);
         unstored = λ not. let few = no_fewer names p q x in let more = y.unstored not in omega arith;
         changes = changes_then (day_paths files) p q r (changes_more names (day_paths files) p q more x) y.changes;
       }) first second
@@ -110,6 +115,7 @@ module _ (input : Path) (files : DayFiles) where
         killed = λ is_own are has. report_each files [] (none_empty files) p is_own has q x.changes;
         cleared = (refl, λ are. inl (unseen_later p q x.changes (x.said so)));
         unstamped = unstamped;
+        leaves = λ ok same are shows. shows_kept files [] (none_empty files) p q x.changes shows;
         unstored = λ not. absurd cc;
         changes = changes_more [] (day_paths files) p q (λ n none. tt) x.changes;
       }) goes
@@ -122,6 +128,7 @@ module _ (input : Path) (files : DayFiles) where
         killed = λ is_own are has. report_each files [] (none_empty files) p is_own has q x.changes;
         cleared = tt;
         unstamped = λ is. cc;
+        leaves = λ ok same are shows. absurd cc;
         unstored = λ not. absurd cc;
         changes = changes_more [] (day_paths files) p q (λ n none. tt) x.changes;
       }) goes
@@ -139,12 +146,16 @@ module _ (input : Path) (files : DayFiles) where
         killed = λ is_own are has. x.killed is_own are has;
         cleared = (refl, λ are. inl (sees p q x are));
         unstamped = unstamped;
+        leaves = λ ok same are shows. shows_free files q (gone p q x (is_so naming.is_stored (λ not. let more = x.unstored not in omega arith)) are);
         unstored = x.unstored;
         changes = x.changes;
       }) goes
     where
       sees : (p q : List Step) → ClearsDay files naming p q → AreDayNames files → IsUnseen paths q
       sees p q x = subst (λ (a : Result (Unit {0}) TreeFault). OnOk a (AreDayNames files → IsUnseen paths q)) is x.sees
+
+      gone : (p q : List Step) → ClearsDay files naming p q → naming.is_stored ≡ true → AreDayNames files → IsFree files q
+      gone p q x = subst (λ (a : Result (Unit {0}) TreeFault). OnOk a (naming.is_stored ≡ true → AreDayNames files → IsFree files q)) is x.gone
 
   pub cleared_in_part : (why : DayFault) (rest : Left) (naming : Naming) (one mid two : List Step → Type 0) → (rest ≡ left.Stamp → ⊥) → told naming.answer ≡ Err fault.Failed → Goes one mid (ClearsDay files naming)
       → Goes mid two (λ p q. ChangesFiles [] p q) → Goes one two (GivesUp paths files why (record { outcome = Ok (Refused why); left = rest; is_stored = naming.is_stored }))
@@ -158,6 +169,7 @@ module _ (input : Path) (files : DayFiles) where
             joined (HasReport is_own files) p q r so (report_each files [] (none_empty files) q is_own (at_end (HasReport is_own files) p q so) r y);
         cleared = (refl, λ are. let few = no_fewer [] q r y in let more = x.cause is in inr (omega arith));
         unstamped = unstamped;
+        leaves = λ ok same are shows. let few = no_fewer [] q r y in let more = x.cause is in absurd (omega arith);
         unstored = λ not. let few = no_fewer [] q r y in let more = x.unstored not in omega arith;
         changes = changes_then (day_paths files) p q r x.changes (changes_more [] (day_paths files) q r (λ n none. tt) y);
       }) first second
@@ -170,6 +182,7 @@ module _ (input : Path) (files : DayFiles) where
         killed = λ is_own are has. x.killed is_own are has;
         cleared = tt;
         unstamped = λ is. cc;
+        leaves = λ ok same are shows. absurd cc;
         unstored = x.unstored;
         changes = x.changes;
       }) goes
@@ -187,6 +200,7 @@ module _ (input : Path) (files : DayFiles) where
         killed = x.killed;
         stays = left end.outcome p q x.cleared;
         unstamped = x.unstamped;
+        leaves = x.leaves;
         unstored = x.unstored;
         changes = x.changes;
       }) goes
@@ -204,6 +218,7 @@ module _ (input : Path) (files : DayFiles) where
         killed = λ is_own are has. report_each files (beside_paths files) (none_beside files are) p is_own has q x;
         stays = stays p q x;
         unstamped = unstamped;
+        leaves = λ ok same are shows. shows_kept files (beside_paths files) (none_beside files are) p q x shows;
         unstored = λ not. absurd cc;
         changes = changes_more (beside_paths files) (day_paths files) p q (more_beside files) x;
       }) goes

@@ -15,7 +15,7 @@ use Rattle.msr_naming.specs.declared.files.DayFiles.{DayFiles}
 use Rattle.msr_making.specs.Clearing.{EndsRefused}
 use Rattle.msr_making.specs.Ending.{DoesFound, IsMade, MadeAs, MakesDay, SeeksDay}
 use Rattle.msr_making.specs.Looking.{IsDayLook, IsLookedAt, IsSightAt, IsUnfound}
-use Rattle.msr_making.specs.Making.{DoesDay, IsOwnOfFile}
+use Rattle.msr_making.specs.Making.{DoesDay, IsOwnOfFile, WaitsForStamp}
 use Rattle.msr_making.specs.Places.{AreFileNames, DayPaths, ShowsAllLeft, paths_of}
 use Rattle.msr_making.specs.Stamping.{StampsAsked}
 use Rattle.msr_making.specs.Told.{AreSpared, AreUntouched, IsKeptFor, IsLeftFor, IsOutcomeThere, IsRefusedThere, IsUnshrunk, LeavesSamples, stays_for}
@@ -36,7 +36,7 @@ use Rattle.msr_making.specs.declared.making.Found.TheVariants.{Ended, Open}
 use Rattle.msr_making.specs.declared.making.Making.{Making}
 use Rattle.msr_making.proofs.Cleared.{unseen_by}
 use Rattle.msr_making.proofs.Lefts.{either_before}
-use Rattle.msr_making.proofs.Owns.{free_kept, more_stamp, none_empty, none_stamp, own_each, own_kept, report_each, report_kept}
+use Rattle.msr_making.proofs.Owns.{free_kept, more_stamp, none_empty, none_stamp, own_each, own_kept, report_each, report_kept, shows_kept}
 use Rattle.msr_making.proofs.Sights.{day_look_later, looks_kept}
 use Rattle.msr_making.proofs.Untouched.{kept_for, left_claimed, left_then, spared_later, spared_then, still_there, untouched_then}
 
@@ -95,26 +95,17 @@ module _ (input : Path) (look : DayLook) (files : DayFiles) (was_left : Bool) (a
           stamp = λ waits names looked settled.
               let it = made p q x names looked in
               let none = none_stamp files names.names in
-              let waiting = y.waits waits in
-              let named = it.named waiting.0 (free_if is_free p free looked.are settled) in
+              let named = it.named (y.waits waits).0 (free_if is_free p free looked.are settled) in
               record {
-                facts = waiting.1.facts;
-                looked = subst (λ (s : Sight). IsSightAt input p s) waiting.1.found looked.are.input;
-                bytes = it.bytes;
-                records = it.records;
-                text = it.text;
-                report = it.fit.counted.report;
-                has_input = it.has_input;
-                reported = it.fit.counted.reported;
-                awaits = record {
-                  named = record {
-                    records_are = ready_kept (files.stamp.part ∷ []) files.records.path it.records q r none.records y.changes named.records_are;
-                    report_is = ready_kept (files.stamp.part ∷ []) files.report.path it.text q r none.report y.changes named.report_is;
-                    unstamped = leaves_kept (files.stamp.part ∷ []) files.stamp.path None q r none.stamp y.changes named.unstamped;
-                  };
-                  stamp_is = waiting.1.ready;
-                };
+                waits = waiting p q r x y waits names looked;
+                unstamped = leaves_kept (files.stamp.part ∷ []) files.stamp.path None q r none.stamp y.changes named.unstamped;
               };
+          waits = waiting p q r x y;
+          leaves = λ ok same names looked shows.
+              let few = no_fewer (day_paths files) p q x.changes in
+              let more = no_fewer (files.stamp.part ∷ []) q r y.changes in
+              shows_kept files (files.stamp.part ∷ []) (none_stamp files names.names) q r y.changes
+              (x.leaves (λ stops. let so = is in cc) (omega arith) names looked (unseen_if is_free p free looked.are) shows);
           unstored = λ not. let few = no_fewer (files.stamp.part ∷ []) q r y.changes in let more = x.unstored not in omega arith;
           changes = changes_then (day_paths files) p q r x.changes (changes_more (files.stamp.part ∷ []) (day_paths files) q r (λ n none. more_stamp files n none) y.changes);
         }) first second
@@ -122,6 +113,30 @@ module _ (input : Path) (look : DayLook) (files : DayFiles) (was_left : Bool) (a
         made : (p q : List Step) → MakesDay input look files is_free asked making p q → AreFileNames input files → IsLookedAt paths look p → IsMade input files asked is_free making.is_stored repacked p q
         made p q x names looked =
             subst (λ (m : Result Repacked Stop). MadeAs input files asked is_free making.is_stored m p q) is (x.said names looked)
+
+        waiting : (p q r : List Step) → MakesDay input look files is_free asked making p q → StampsAsked look.input files making.is_stored rest q r
+            → rest ≡ left.Stamp → AreFileNames input files → IsLookedAt paths look p → WaitsForStamp input files asked.options p r
+        waiting p q r x y waits names looked =
+            let it = made p q x names looked in
+            let none = none_stamp files names.names in
+            let stamp = (y.waits waits).1 in
+            let named = it.stands (unseen_if is_free p free looked.are) in
+            record {
+              facts = stamp.facts;
+              looked = subst (λ (s : Sight). IsSightAt input p s) stamp.found looked.are.input;
+              bytes = it.bytes;
+              records = it.records;
+              text = it.text;
+              report = it.fit.counted.report;
+              has_input = it.has_input;
+              reported = it.fit.counted.reported;
+              named = record {
+                records_are = ready_kept (files.stamp.part ∷ []) files.records.path it.records q r none.records y.changes named.records_are;
+                report_is = ready_kept (files.stamp.part ∷ []) files.report.path it.text q r none.report y.changes named.report_is;
+                unseen = seen_kept (files.stamp.part ∷ []) files.stamp.path q r none.stamp y.changes ∙ named.unseen;
+              };
+              stamp_is = stamp.ready;
+            }
 
     refused_so : (why : DayFault) (outcome : Result DayOutcome AllocError) (p q r : List Step) → failures p ≤ failures q → failures q ≤ failures r
         → IfOk outcome (λ o. ((o ≡ Refused ClaimedByAnother) × (AreDayNames files → AreUntouched paths q r)) ⊎ ((o ≡ Refused why) × (AreDayNames files → IsLeftFor (stays_for asked why) why paths q r))) → AreDayNames files
@@ -150,6 +165,12 @@ module _ (input : Path) (look : DayLook) (files : DayFiles) (was_left : Bool) (a
               refused_so why end.outcome p q r (no_fewer (day_paths files) p q x.changes) (no_fewer (day_paths files) q r y.changes) y.stays names.names
               (subst (λ (m : Result Repacked Stop). MadeAs input files asked is_free making.is_stored m p q) is (x.said names looked));
           stamp = λ waits names looked settled. absurd (y.unstamped waits);
+          waits = λ waits names looked. absurd (y.unstamped waits);
+          leaves = λ ok same names looked shows.
+              let few = no_fewer (day_paths files) p q x.changes in
+              let more = no_fewer (day_paths files) q r y.changes in
+              y.leaves ok (omega arith) names.names
+              (x.leaves (λ stops. let so = is in cc) (omega arith) names looked (unseen_if is_free p free looked.are) shows);
           unstored = λ not.
               let few = no_fewer (day_paths files) p q x.changes in
               let more = no_fewer (day_paths files) q r y.changes in
@@ -166,6 +187,8 @@ module _ (input : Path) (look : DayLook) (files : DayFiles) (was_left : Bool) (a
           killed = λ is_own names looked own has. x.killed is_own names looked (unseen_if is_free p free looked.are) own has;
           outcome = λ names looked. tt;
           stamp = λ waits names looked settled. absurd cc;
+          waits = λ waits names looked. absurd cc;
+          leaves = λ ok same names looked shows. absurd cc;
           unstored = x.unstored;
           changes = x.changes;
         }) goes
@@ -297,6 +320,8 @@ module _ (input : Path) (files : DayFiles) (was_left : Bool) (asked : DayOptions
         killed = λ is_own names own has. report_each files [] (none_empty files) p is_own has q x.changes;
         outcome = λ names. x.said;
         stamp = λ waits names settled. absurd (unstamped waits);
+        waits = λ waits names. absurd (unstamped waits);
+        leaves = λ ok same names shows. shows_kept files [] (none_empty files) p q x.changes shows;
         unstored = λ not. absurd cc;
         changes = changes_more [] (day_paths files) p q (λ n none. tt) x.changes;
       }) goes
@@ -309,6 +334,8 @@ module _ (input : Path) (files : DayFiles) (was_left : Bool) (asked : DayOptions
         killed = λ is_own names own has. report_each files [] (none_empty files) p is_own has q x.changes;
         outcome = λ names. tt;
         stamp = λ waits names settled. absurd (unstamped waits);
+        waits = λ waits names. absurd (unstamped waits);
+        leaves = λ ok same names shows. absurd cc;
         unstored = λ not. absurd cc;
         changes = changes_more [] (day_paths files) p q (λ n none. tt) x.changes;
       }) goes
@@ -326,6 +353,20 @@ module _ (input : Path) (files : DayFiles) (was_left : Bool) (asked : DayOptions
 
     own_later : (is_own : (records report : List ℕ) → Bool) → IsOwnOfFile input asked.options is_own old → IsOwnOfFile input asked.options is_own mid
     own_later is_own own bytes records text report has reported = own bytes records text report (sym (seen_kept [] input old mid tt changes) ∙ has) reported
+
+  waits_before : (old mid new : List Step) → ChangesFiles [] old mid → WaitsForStamp input files asked.options mid new → WaitsForStamp input files asked.options old new
+  waits_before old mid new changes it = record {
+    facts = it.facts;
+    looked = looks_kept input old mid (Some it.facts) changes it.looked;
+    bytes = it.bytes;
+    records = it.records;
+    text = it.text;
+    report = it.report;
+    has_input = sym (seen_kept [] input old mid tt changes) ∙ it.has_input;
+    reported = it.reported;
+    named = it.named;
+    stamp_is = it.stamp_is;
+  }
 
   outcome_known : (result : Result DayOutcome AllocError) (p q r : List Step) → ChangesFiles [] p q
       → IfOk result (λ o. IsOutcomeThere asked (paths_of input files) o q r) → IfOk result (λ o. IsOutcomeThere asked (paths_of input files) o p r)
@@ -348,17 +389,12 @@ module _ (input : Path) (files : DayFiles) (was_left : Bool) (asked : DayOptions
         outcome = λ names. outcome_known end.outcome p q r x.changes (y.outcome names looked);
         stamp = λ waits names settled.
             let it = y.stamp waits names looked (settled_later p q x.changes settled) in
-            record {
-              facts = it.facts;
-              looked = looks_kept input p q (Some it.facts) x.changes it.looked;
-              bytes = it.bytes;
-              records = it.records;
-              text = it.text;
-              report = it.report;
-              has_input = sym (seen_kept [] input p q tt x.changes) ∙ it.has_input;
-              reported = it.reported;
-              awaits = it.awaits;
-            };
+            record { waits = waits_before p q r x.changes it.waits; unstamped = it.unstamped };
+        waits = λ waits names. waits_before p q r x.changes (y.waits waits names looked);
+        leaves = λ ok same names shows.
+            let few = no_fewer [] p q x.changes in
+            let more = no_fewer (day_paths files) q r y.changes in
+            y.leaves ok (omega arith) names looked (shows_kept files [] (none_empty files) p q x.changes shows);
         unstored = λ not. let few = no_fewer [] p q x.changes in let more = y.unstored not in omega arith;
         changes = changes_then (day_paths files) p q r (changes_more [] (day_paths files) p q (λ n none. tt) x.changes) y.changes;
       }) first second

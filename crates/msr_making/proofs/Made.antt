@@ -13,7 +13,7 @@ use Rattle.msr_tree.proofs.Filing.{changes_more, changes_then, no_fewer, ready_k
 use Rattle.msr_naming.proofs.FallingBack.{goes_both}
 use Rattle.msr_naming.proofs.Names.{seen_ready}
 use Rattle.msr_naming.specs.Naming.{AreDayNames, day_paths, told}
-use Rattle.msr_naming.specs.Promise.{AreReady, GivesNames, HasOwn, HasReport, HaveOwnParts, IsFreeIf, IsUnseenIf, NamesDay, SeesNames}
+use Rattle.msr_naming.specs.Promise.{AreReady, GivesNames, HasOwn, HasReport, HaveOwnParts, IsFreeIf, IsUnseenIf, KeepsShown, NamesDay, SeesNames, ShowsDay, StoresNames}
 use Rattle.msr_naming.specs.declared.fallback.Naming.{Naming}
 use Rattle.msr_naming.specs.declared.files.DayFiles.{DayFiles}
 use Rattle.msr_naming.specs.declared.naming.Stopped.{Stopped}
@@ -31,8 +31,13 @@ use Rattle.msr_making.specs.declared.answer.Stop.{Stop}
 use Rattle.msr_making.specs.declared.answer.Stop.TheVariants.{Memory, Refused}
 use Rattle.msr_making.specs.declared.looks.DayLook.{DayLook}
 use Rattle.msr_making.proofs.Days.{unread_of}
-use Rattle.msr_making.proofs.Owns.{free_kept, more_parts, none_parts, own_each, own_kept, report_each, report_kept}
+use Rattle.msr_making.proofs.Owns.{free_kept, more_parts, none_parts, own_each, own_kept, report_each, report_kept, shows_kept}
 use Rattle.msr_making.proofs.Untouched.{kept_for, unless_made, untouched_by}
+
+-- what is not false
+pub is_so : (b : Bool) → (b ≡ false → ⊥) → b ≡ true
+is_so true not = refl
+is_so false not = absurd (not refl)
 
 module _ (input : Path) (look : DayLook) (files : DayFiles) (asked : DayOptions) where
   abbrev l : List Path
@@ -149,6 +154,7 @@ module _ (input : Path) (look : DayLook) (files : DayFiles) (asked : DayOptions)
       safe = λ is is_own is_of names at free own has. own_each files l (none_parts files names.names) p q prepares.changes is_own is_of has;
       killed = λ is_own names at unseen own has. report_each files l (none_parts files names.names) p is_own has q prepares.changes;
       said = λ names at. by_stop stop p q names prepares.changes (prepares.said names at);
+      leaves = λ stops same names at unseen shows. shows_kept files l (none_parts files names.names) p q prepares.changes shows;
       unstored = λ not. absurd cc;
       changes = changes_more l (day_paths files) p q (λ n none. more_parts files n none) prepares.changes;
     }) goes
@@ -177,9 +183,10 @@ module _ (input : Path) (look : DayLook) (files : DayFiles) (asked : DayOptions)
           )
 
       made_as : (answer : Result (Unit {0}) TreeFault) (result : Result Repacked Stop) → NamedAs repacked answer result → OnOk answer (AreDayNames files → SeesNames files mid new)
+          → OnOk answer (AreDayNames files → IsUnseenIf is_free files mid → StoresNames files mid new)
           → OnOk answer (naming.is_stored ≡ true → AreDayNames files → IsFreeIf is_free files mid → GivesNames files mid new) → (IsErrOf answer fault.Failed → failures mid < failures new)
           → AreFileNames input files → IsLookedAt (paths_of input files) look old → MadeAs input files asked is_free naming.is_stored result old new
-      made_as (Ok x) result is sees gives cause names at =
+      made_as (Ok x) result is sees stores gives cause names at =
           let it = prepares.said names at in
           let both = sees names.names it.records it.text it.ready in
           subst (λ (r : Result Repacked Stop). MadeAs input files asked is_free naming.is_stored r old new) (sym is) (record {
@@ -192,14 +199,30 @@ module _ (input : Path) (look : DayLook) (files : DayFiles) (asked : DayOptions)
             unshrunk = it.unshrunk;
             has_records = both.0;
             has_report = both.1;
+            stands = λ unseen. stores names.names (unseen_mid names.names unseen) it.records it.text it.ready;
             named = λ stored free. (gives stored names.names (free_mid names.names free)).named it.records it.text it.ready;
           })
-      made_as (Err fault.Failed) result is sees gives cause names at =
+      made_as (Err fault.Failed) result is sees stores gives cause names at =
           let few = no_fewer l old mid prepares.changes in
           let more = cause refl in
           subst (λ (r : Result Repacked Stop). MadeAs input files asked is_free naming.is_stored r old new) (sym is.2) (inr (omega arith), unless_made is.0.side _ is.1, inr (omega arith))
-      made_as (Err fault.Memory) result is sees gives cause names at =
+      made_as (Err fault.Memory) result is sees stores gives cause names at =
           subst (λ (r : Result Repacked Stop). MadeAs input files asked is_free naming.is_stored r old new) (sym is) tt
+
+      leaves_as : (answer : Result (Unit {0}) TreeFault) (result : Result Repacked Stop) → NamedAs repacked answer result
+          → OnOk answer (naming.is_stored ≡ true → AreDayNames files → IsUnseenIf is_free files mid → KeepsShown files mid new) → (IsErrOf answer fault.Failed → failures mid < failures new)
+          → (result ≡ Err Memory → ⊥) → failures new ≡ failures old → AreFileNames input files → IsLookedAt (paths_of input files) look old → IsUnseenIf is_free files old
+          → ShowsDay files old → ShowsDay files new
+      leaves_as (Ok x) result is leaves cause stops same names at unseen shows =
+          let it = prepares.said names at in
+          let few = no_fewer l old mid prepares.changes in
+          let stored = is_so naming.is_stored (λ not. let more = names_it.unstored not in omega arith) in
+          leaves stored names.names (unseen_mid names.names unseen) it.records it.text it.ready (shows_kept files l (none_parts files names.names) old mid prepares.changes shows)
+      leaves_as (Err fault.Failed) result is leaves cause stops same names at unseen shows =
+          let few = no_fewer l old mid prepares.changes in
+          let more = cause refl in
+          absurd (omega arith)
+      leaves_as (Err fault.Memory) result is leaves cause stops same names at unseen shows = absurd (stops is)
 
       pub made_named : (result : Result Repacked Stop) → IsNamedAs naming repacked result → MakesDay input look files is_free asked (record { result = result; is_stored = naming.is_stored }) old new
       made_named result is = record {
@@ -211,7 +234,8 @@ module _ (input : Path) (look : DayLook) (files : DayFiles) (asked : DayOptions)
             joined (HasReport is_own files) old mid new
             (report_each files l (none_parts files names.names) old is_own has mid prepares.changes)
             (names_it.killed is_own names.names (own_parts is_own names at own) (unseen_mid names.names unseen) (report_kept files l (none_parts files names.names) old is_own has mid prepares.changes));
-        said = made_as (told naming.answer) result is names_it.sees names_it.gives names_it.cause;
+        said = made_as (told naming.answer) result is names_it.sees names_it.ready names_it.gives names_it.cause;
+        leaves = leaves_as (told naming.answer) result is names_it.leaves names_it.cause;
         unstored = λ not. let few = no_fewer l old mid prepares.changes in let more = names_it.unstored not in omega arith;
         changes = changes_then (day_paths files) old mid new (changes_more l (day_paths files) old mid (λ n none. more_parts files n none) prepares.changes) names_it.changes;
       }
@@ -234,8 +258,3 @@ pub named_memory : (naming : Naming) (repacked : Repacked) (stopped : Stopped) �
 named_memory naming repacked stopped is why =
     let e : told naming.answer ≡ Err fault.Memory = ap told is ∙ ap (λ f. Err f) why in
     subst (λ (a : Result (Unit {0}) TreeFault). NamedAs repacked a (Err Memory)) (sym e) refl
-
--- what is not false
-pub is_so : (b : Bool) → (b ≡ false → ⊥) → b ≡ true
-is_so true not = refl
-is_so false not = absurd (not refl)

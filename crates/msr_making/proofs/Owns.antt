@@ -1,12 +1,12 @@
 -- A day's own stays what it is while other names change.
-use Rattle.std.proofs.Common.{◌≡◌, ℕ, Bool, true, List, [], ◌∷◌, refl, sym, subst, IfSome, IsSomeAnd}
+use Rattle.std.proofs.Common.{◌≡◌, ℕ, Bool, true, List, [], ◌∷◌, refl, sym, ◌∙◌, subst, IfSome, IsSomeAnd}
 use Rattle.msr_tree.specs.Folders.{ChangesFiles}
 use Rattle.msr_tree.specs.Steps.{AtEachMoment, ChangesOnly, IsNoneOf, Path, Step, seen}
 use Rattle.msr_tree.proofs.Changes.{each_by_changes, leaves_kept, may_kept, seen_kept}
 use Rattle.msr_naming.specs.declared.files.DayFiles.{DayFiles}
 use Rattle.msr_naming.specs.declared.files.Name.TheVariants.{Records, RecordsPart, Report, ReportPart, Stamp, StampPart}
 use Rattle.msr_naming.specs.Naming.{AreDayNames, day_paths}
-use Rattle.msr_naming.specs.Promise.{HasOwn, HasReport, IsFree}
+use Rattle.msr_naming.specs.Promise.{HasOwn, HasReport, IsFree, ShowsDay}
 use Rattle.msr_making.specs.Clearing.{beside_paths}
 use Rattle.msr_making.specs.Parts.{part_paths}
 
@@ -40,6 +40,21 @@ module _ (files : DayFiles) (names : List Path) (none : AreNone files names) (ol
     report = leaves_kept names files.report.path _ old new none.report changes.changes free.report;
     stamp = leaves_kept names files.stamp.path _ old new none.stamp changes.changes free.stamp;
   }
+
+  pub shows_kept : ShowsDay files old → ShowsDay files new
+  shows_kept shows = record {
+    free = λ unseen. free_kept (shows.free (
+      sym (seen_kept names files.records.path old new none.records changes.changes) ∙ unseen.0,
+      sym (seen_kept names files.report.path old new none.report changes.changes) ∙ unseen.1,
+      sym (seen_kept names files.stamp.path old new none.stamp changes.changes) ∙ unseen.2,
+    ));
+    unstamped = λ unseen. leaves_kept names files.stamp.path _ old new none.stamp changes.changes
+        (shows.unstamped (sym (seen_kept names files.stamp.path old new none.stamp changes.changes) ∙ unseen));
+  }
+
+-- of a day that is gone nothing can come back
+pub shows_free : (files : DayFiles) (past : List Step) → IsFree files past → ShowsDay files past
+shows_free files past free = record { free = λ unseen. free; unstamped = λ unseen. free.stamp }
 
 -- at each moment
 pub own_each : (files : DayFiles) (names : List Path) → AreNone files names → (old new : List Step) → ChangesFiles names old new

@@ -1,10 +1,10 @@
 -- What is done where a day is refused.
-use Rattle.std.specs.Prelude.{◌≡◌, ◌<◌, ◌⊎◌, ℕ, Bool, true, false, List, [], ◌∷◌, IfOk, Result}
+use Rattle.std.specs.Prelude.{◌≡◌, ◌<◌, ◌⊎◌, ℕ, Bool, true, false, List, [], ◌∷◌, IfOk, IsOk, Result}
 use Rattle.std.specs.declared.alloc.AllocError.{AllocError}
 use Rattle.msr_tree.specs.Folders.{ChangesFiles}
 use Rattle.msr_tree.specs.Steps.{AtEachMoment, Path, Step, failures}
 use Rattle.msr_naming.specs.Naming.{AreDayNames, day_paths}
-use Rattle.msr_naming.specs.Promise.{HasOwn, HasReport}
+use Rattle.msr_naming.specs.Promise.{HasOwn, HasReport, ShowsDay}
 use Rattle.msr_naming.specs.declared.files.DayFiles.{DayFiles}
 use Rattle.msr_options.specs.declared.days.DayOptions.{DayOptions}
 use Rattle.msr_making.specs.Looking.{Asks}
@@ -36,6 +36,7 @@ pub record GivesUp (paths : DayPaths) (files : DayFiles) (why : DayFault) (end :
       → HasReport is_own files old → AtEachMoment (HasReport is_own files) old new
   pub cleared : IfOk end.outcome (λ outcome. (outcome ≡ Refused why) × (AreDayNames files → IsClearedThere paths old new))
   pub unstamped : end.left ≡ left.Stamp → ⊥
+  pub leaves : IsOk end.outcome → failures new ≡ failures old → AreDayNames files → ShowsDay files old → ShowsDay files new
   pub unstored : end.is_stored ≡ false → failures old < failures new
   pub changes : ChangesFiles (day_paths files) old new
 
@@ -48,5 +49,6 @@ pub record EndsRefused (paths : DayPaths) (files : DayFiles) (asked : DayOptions
   pub stays : IfOk end.outcome (λ outcome. ((outcome ≡ Refused ClaimedByAnother) × (AreDayNames files → AreUntouched paths old new))
       ⊎ ((outcome ≡ Refused why) × (AreDayNames files → IsLeftFor (stays_for asked why) why paths old new)))
   pub unstamped : end.left ≡ left.Stamp → ⊥
+  pub leaves : IsOk end.outcome → failures new ≡ failures old → AreDayNames files → ShowsDay files old → ShowsDay files new
   pub unstored : end.is_stored ≡ false → failures old < failures new
   pub changes : ChangesFiles (day_paths files) old new

@@ -1,5 +1,5 @@
 -- How a day ends.
-use Rattle.std.specs.Prelude.{◌≡◌, ◌⊎◌, ◌<◌, ℕ, ⊤, Bool, true, false, List, IfOk, IsTrue, Some, Result, Ok, Err, length}
+use Rattle.std.specs.Prelude.{◌≡◌, ◌⊎◌, ◌<◌, ℕ, ⊤, Bool, true, false, List, IfOk, IsOk, IsTrue, Some, Result, Ok, Err, length}
 use Rattle.std.specs.declared.alloc.AllocError.{AllocError}
 use Rattle.msr_options.specs.declared.days.DayOptions.{DayOptions}
 use Rattle.msr_options.specs.declared.hint.Side.{Side}
@@ -10,12 +10,12 @@ use Rattle.msr_tree.specs.Steps.{AtEachMoment, Path, Step, failures, seen}
 use Rattle.msr_tree.specs.declared.tree.TreeFault.{TreeFault}
 use Rattle.msr_tree.specs.declared.tree.TreeFault.TheVariants as fault
 use Rattle.msr_naming.specs.Naming.{day_paths, told}
-use Rattle.msr_naming.specs.Promise.{AreNamed, AreReady, HasOwn, HasReport, IsFreeIf, IsUnseenIf}
+use Rattle.msr_naming.specs.Promise.{AreNamed, AreReady, HasOwn, HasReport, HaveDayNames, IsFreeIf, IsUnseenIf, ShowsDay}
 use Rattle.msr_naming.specs.declared.fallback.Naming.{Naming}
 use Rattle.msr_naming.specs.declared.files.DayFiles.{DayFiles}
 use Rattle.msr_making.specs.Day.{IsDayOutcome, IsDone, IsRepackedDay, IsVerifiedBy}
 use Rattle.msr_making.specs.Looking.{Asks, IsSightKnown, IsLookedAt, SaysDay}
-use Rattle.msr_making.specs.Making.{AwaitsStamp, IsOwnOfFile}
+use Rattle.msr_making.specs.Making.{AwaitsStamp, IsOwnOfFile, WaitsForStamp}
 use Rattle.msr_making.specs.Parts.{part_paths}
 use Rattle.msr_making.specs.Places.{AreFileNames, DayPaths, ShowsAllLeft, paths_of}
 use Rattle.msr_making.specs.Told.{AreSpared, IsKeptFor, IsOutcomeThere, IsRefusedThere, IsUnshrunk}
@@ -113,6 +113,7 @@ pub record IsMade (input : Path) (files : DayFiles) (asked : DayOptions) (is_fre
   pub unshrunk : IsUnshrunk asked (paths_of input files) repacked old
   pub has_records : seen new files.records.path ≡ Some records
   pub has_report : seen new files.report.path ≡ Some text
+  pub stands : IsUnseenIf is_free files old → HaveDayNames files records text new
   pub named : is_stored ≡ true → IsFreeIf is_free files old → AreNamed files records text new
 
 abbrev pub MadeAs : Path → DayFiles → DayOptions → (is_free is_stored : Bool) → Result Repacked Stop → (old new : List Step) → Type 0
@@ -129,6 +130,8 @@ pub record MakesDay (input : Path) (look : DayLook) (files : DayFiles) (is_free 
       → AreFileNames input files → IsLookedAt (paths_of input files) look old → IsUnseenIf is_free files old → IsOwnOfFile input asked.options is_own old
       → HasReport is_own files old → AtEachMoment (HasReport is_own files) old new
   pub said : AreFileNames input files → IsLookedAt (paths_of input files) look old → MadeAs input files asked is_free making.is_stored making.result old new
+  pub leaves : (making.result ≡ Err Memory → ⊥) → failures new ≡ failures old
+      → AreFileNames input files → IsLookedAt (paths_of input files) look old → IsUnseenIf is_free files old → ShowsDay files old → ShowsDay files new
   pub unstored : making.is_stored ≡ false → failures old < failures new
   pub changes : ChangesFiles (day_paths files) old new
 
@@ -144,5 +147,8 @@ pub record DoesFound (input : Path) (look : DayLook) (files : DayFiles) (was_lef
       → IfOk end.outcome (λ outcome. IsOutcomeThere asked (paths_of input files) outcome old new)
   pub stamp : end.left ≡ left.Stamp → AreFileNames input files → IsLookedAt (paths_of input files) look old → ShowsAllLeft was_left input files old
       → AwaitsStamp input files asked.options old new
+  pub waits : end.left ≡ left.Stamp → AreFileNames input files → IsLookedAt (paths_of input files) look old → WaitsForStamp input files asked.options old new
+  pub leaves : IsOk end.outcome → failures new ≡ failures old
+      → AreFileNames input files → IsLookedAt (paths_of input files) look old → ShowsDay files old → ShowsDay files new
   pub unstored : end.is_stored ≡ false → failures old < failures new
   pub changes : ChangesFiles (day_paths files) old new

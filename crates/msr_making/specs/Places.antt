@@ -3,7 +3,7 @@ use Rattle.std.specs.Prelude.{◌≡◌, ◌⊎◌, false, Bool, List, None}
 use Rattle.msr_tree.specs.Calls.{AreOneFile}
 use Rattle.msr_tree.specs.Steps.{IsNoneOf, Path, Step, seen}
 use Rattle.msr_naming.specs.Naming.{AreDayNames, day_paths}
-use Rattle.msr_naming.specs.Promise.{IsFree}
+use Rattle.msr_naming.specs.Promise.{IsFree, ShowsDay}
 use Rattle.msr_naming.specs.declared.files.DayFiles.{DayFiles}
 use Rattle.msr_making.specs.declared.places.Places.{Places}
 
@@ -32,6 +32,10 @@ IsUnseen paths past = (seen past paths.records ≡ None) × (seen past paths.rep
 -- Unless a walk was killed that had the day, a crash leaves nothing of it if nothing is seen of it.
 pub record ShowsAllLeft (was_left : Bool) (input : Path) (files : DayFiles) (past : List Step) : Type 0 where
   pub free : was_left ≡ false → IsUnseen (paths_of input files) past → IsFree files past
+
+-- so of a day of which nothing can come back that is not seen
+pub shows_all : (was_left : Bool) (input : Path) (files : DayFiles) (past : List Step) → ShowsDay files past → ShowsAllLeft was_left input files past
+shows_all was_left input files past shows = record { free = λ not unseen. shows.free unseen }
 
 -- the day's own file is one of those that are made
 abbrev pub IsOneOfMade : DayPaths → List Step → Type 0

@@ -1,12 +1,13 @@
 -- What is kept of a day, and done, where a folder may not be stored.
-use Rattle.std.proofs.Common.{◌≡◌, inl, ℕ, Bool, true, false, List, [], ◌∷◌, ◌++◌, map, reverse, refl, sym, subst, ◌∙◌, ap, Result, Ok, Err, OnOk, Some, None, option_map, arith}
+use Rattle.std.proofs.Common.{◌≡◌, inl, ℕ, Bool, true, false, List, [], ◌∷◌, ◌++◌, map, reverse, refl, sym, subst, ◌∙◌, ap, Result, Ok, Err, OnOk, Some, None, arith}
 use Rattle.msr_tree.specs.Calls.{Goes}
+use Rattle.msr_tree.specs.Folders.{ChangesFiles}
 use Rattle.msr_tree.specs.Steps.{IsReady, Path, Removed, Step, seen}
 use Rattle.msr_tree.specs.declared.tree.TreeFault.{TreeFault}
 use Rattle.msr_tree.specs.declared.tree.TreeFault.TheVariants as fault
 use Rattle.msr_tree.proofs.Acting.{goes_as}
 use Rattle.msr_tree.proofs.Changes.{ready_renamed}
-use Rattle.msr_tree.proofs.Filing.{changes_then, no_fewer, ready_kept}
+use Rattle.msr_tree.proofs.Filing.{changes_then, no_fewer, ready_kept, seen_kept}
 use Rattle.msr_tree.proofs.Moments.{at_end, joined}
 use Rattle.msr_naming.specs.declared.fallback.Naming.{Naming}
 use Rattle.msr_naming.specs.declared.files.DayFiles.{DayFiles}
@@ -16,16 +17,26 @@ use Rattle.msr_naming.specs.declared.naming.Act.TheVariants.{Remove, Store, Rena
 use Rattle.msr_naming.specs.declared.files.Name.TheVariants.{Records, RecordsPart, Report, ReportPart, Stamp}
 use Rattle.msr_naming.specs.Following.{FallsBack, FollowsPlan, FollowsPlanIf, last_acts, over_gone_acts, over_report_acts, report_acts, unstored_acts}
 use Rattle.msr_naming.specs.Naming.{AreDayNames, Performs, act_step, day_paths, told}
-use Rattle.msr_naming.specs.Promise.{AreReady, ClearsDay, GivesNames, HasReport, IsFree, IsFreeIf, NamesDay, SeesNames, SeesNone}
+use Rattle.msr_naming.specs.Promise.{AreNamed, AreReady, ClearsDay, GivesNames, HasReport, HaveDayNames, IsFree, IsFreeIf, IsUnseenIf, KeepsShown, NamesDay, SeesNames, SeesNone, ShowsDay, StoresNames}
 use Rattle.msr_naming.proofs.Changed.{only_named, only_some}
 use Rattle.msr_naming.proofs.Kills as kill
-use Rattle.msr_naming.proofs.Names.{not_renamed, ready_gone, ready_still, removed_leads, seen_nothing, seen_ready, seen_still}
+use Rattle.msr_naming.proofs.Names.{no_stamp_left, not_renamed, ready_gone, ready_still, removed_unseen, seen_nothing, seen_ready, seen_still}
 use Rattle.msr_naming.proofs.Plan.{does_some, doing, goes_later, goes_stopped, stopping, stops_first, then_later}
 use Rattle.msr_naming.proofs.Promises.{clear_acts, clear_keeps, clear_killed, day_acts, day_keeps, day_killed, gone, new_acts, new_day_keeps, new_day_killed, one, report_named, two}
 
 when_ok : {P : Type 0} {Q : Type 0} (result : Result (Unit {0}) TreeFault) → (P → Q) → OnOk result P → OnOk result Q
 when_ok (Ok x) so is = so is
 when_ok (Err why) so is = tt
+
+-- what has its names is seen, and its stamp cannot come back
+shows_named : (files : DayFiles) (r p : List ℕ) (past : List Step) → AreNamed files r p past → ShowsDay files past
+shows_named files r p past named = record {
+  free = λ none.
+      let gone = none.0 in
+      let has = seen_ready past files.records.path r named.records_are in
+      absurd (cc);
+  unstamped = λ unseen. named.unstamped;
+}
 
 -- the old stamp and the old records go
 abbrev pub gone_acts : List Act
@@ -64,30 +75,59 @@ module _ (files : DayFiles) where
         → (seen (two files are r p ∷ one files are r p ∷ past) files.records.path ≡ Some r) × (seen (two files are r p ∷ one files are r p ∷ past) files.report.path ≡ Some p)
     sees_anew past ready = let named = report_named files are r p past ready in sees_last (one files are r p ∷ past) named.1 named.2
 
+    -- they are on the disk then, and no stamp is seen that was not
+    has_last : (past : List Step) → IsReady files.report.path p past → IsReady files.records.part r past → seen past files.stamp.path ≡ None → HaveDayNames files r p (two files are r p ∷ past)
+    has_last past report records unseen = record {
+      records_are = ready_renamed files.records.part files.records.path r past records;
+      report_is = ready_still (two files are r p) past files.report.path p (not_renamed files.records.part files.records.path files.report.path (are.apart Report Records refl) (are.apart Report RecordsPart refl)) report;
+      unseen = seen_still (two files are r p) past files.stamp.path (not_renamed files.records.part files.records.path files.stamp.path (are.apart Stamp Records refl) (are.apart Stamp RecordsPart refl)) ∙ unseen;
+    }
+
+    unseen_then : (past : List Step) → seen past files.stamp.path ≡ None → seen (one files are r p ∷ past) files.stamp.path ≡ None
+    unseen_then past unseen = seen_still (one files are r p) past files.stamp.path (not_renamed files.report.part files.report.path files.stamp.path (are.apart Stamp Report refl) (are.apart Stamp ReportPart refl)) ∙ unseen
+
+    has_anew : (past : List Step) → AreReady files r p past → seen past files.stamp.path ≡ None → HaveDayNames files r p (two files are r p ∷ one files are r p ∷ past)
+    has_anew past ready unseen = let named = report_named files are r p past ready in has_last (one files are r p ∷ past) named.1 named.2 (unseen_then past unseen)
+
+    -- what is beside the names stays while the old ones go at once
+    ready_removed : (mid : List Step) → AreReady files r p mid → AreReady files r p (Removed files.records.path ∷ Removed files.stamp.path ∷ mid)
+    ready_removed mid ready =
+        let l1 = Removed files.stamp.path ∷ mid in
+        record {
+          records_are = ready_still (Removed files.records.path) l1 files.records.part r (are.apart RecordsPart Records refl) (ready_still (Removed files.stamp.path) mid files.records.part r (are.apart RecordsPart Stamp refl) ready.records_are);
+          report_is = ready_still (Removed files.records.path) l1 files.report.part p (are.apart ReportPart Records refl) (ready_still (Removed files.stamp.path) mid files.report.part p (are.apart ReportPart Stamp refl) ready.report_is);
+        }
+
+    has_unstored : (mid : List Step) → AreReady files r p mid → HaveDayNames files r p (two files are r p ∷ one files are r p ∷ Removed files.records.path ∷ Removed files.stamp.path ∷ mid)
+    has_unstored mid ready =
+        let l1 = Removed files.stamp.path ∷ mid in
+        has_anew (Removed files.records.path ∷ l1) (ready_removed mid ready)
+        (seen_still (Removed files.records.path) l1 files.stamp.path (are.apart Stamp Records refl) ∙ removed_unseen files.stamp.path mid)
+
     sees_unstored : (mid : List Step) → AreReady files r p mid
         → (seen (two files are r p ∷ one files are r p ∷ Removed files.records.path ∷ Removed files.stamp.path ∷ mid) files.records.path ≡ Some r)
         × (seen (two files are r p ∷ one files are r p ∷ Removed files.records.path ∷ Removed files.stamp.path ∷ mid) files.report.path ≡ Some p)
     sees_unstored mid ready =
-        let l1 = Removed files.stamp.path ∷ mid in
-        let l2 = Removed files.records.path ∷ l1 in
-        let ready2 : AreReady files r p l2 = record {
-          records_are = ready_still (Removed files.records.path) l1 files.records.part r (are.apart RecordsPart Records refl) (ready_still (Removed files.stamp.path) mid files.records.part r (are.apart RecordsPart Stamp refl) ready.records_are);
-          report_is = ready_still (Removed files.records.path) l1 files.report.part p (are.apart ReportPart Records refl) (ready_still (Removed files.stamp.path) mid files.report.part p (are.apart ReportPart Stamp refl) ready.report_is);
-        } in
-        let named = report_named files are r p l2 ready2 in
-        sees_last (one files are r p ∷ l2) named.1 named.2
+        let named = report_named files are r p (Removed files.records.path ∷ Removed files.stamp.path ∷ mid) (ready_removed mid ready) in
+        sees_last (one files are r p ∷ Removed files.records.path ∷ Removed files.stamp.path ∷ mid) named.1 named.2
+
+    -- a folder that is not stored changes no name
+    stores_none : (before mid : List Step) → Performs (act_step files (Store Report) ∷ []) stopped before mid → ChangesFiles [] before mid
+    stores_none before mid performs = only_some [] (act_step files (Store Report) ∷ []) before mid (λ n none. (tt, refl)) (tt, tt) performs.some
 
     -- once the report has its name, what fails leaves it
     kept_by_store : (before mid : List Step) → Performs (act_step files (Store Report) ∷ []) stopped before mid → (name : Path) (bytes : List ℕ) → IsReady name bytes before → IsReady name bytes mid
     kept_by_store before mid performs name bytes ready =
-        ready_kept [] name bytes before mid tt (only_some [] (act_step files (Store Report) ∷ []) before mid (λ n none. (tt, refl)) (tt, tt) performs.some) ready
+        ready_kept [] name bytes before mid tt (stores_none before mid performs) ready
 
     before_last : (old before mid : List Step) → before ≡ reverse (map (act_step files) before_acts) ++ old → Performs (act_step files (Store Report) ∷ []) stopped before mid
-        → AreReady files r p old → IsReady files.report.path p mid × IsReady files.records.part r mid
+        → AreReady files r p old → IsReady files.report.path p mid × IsReady files.records.part r mid × (seen mid files.stamp.path ≡ None)
     before_last old before mid is performs ready =
         let named = report_named files are r p (gone files are r p old) (ready_gone files are r p old ready) in (
           kept_by_store before mid performs files.report.path p (subst (λ (l : List Step). IsReady files.report.path p l) (sym is) named.1),
           kept_by_store before mid performs files.records.part r (subst (λ (l : List Step). IsReady files.records.part r l) (sym is) named.2),
+          seen_kept [] files.stamp.path before mid tt (stores_none before mid performs)
+          ∙ (ap (λ (l : List Step). seen l files.stamp.path) is ∙ unseen_then (gone files are r p old) (seen_nothing (gone files are r p old) files.stamp.path (no_stamp_left files are old))),
         )
 
   -- over older files, where no folder is stored from the first on
@@ -105,6 +145,10 @@ module _ (files : DayFiles) where
         let both = sees_unstored are r p mid (parts_kept are r p stopped old mid one ready) in
         (ap (λ (l : List Step). seen l files.records.path) is ∙ both.0, ap (λ (l : List Step). seen l files.report.path) is ∙ both.1)) two.all);
     gives = subst (λ (a : Result (Unit {0}) TreeFault). OnOk a (naming.is_stored ≡ true → AreDayNames files → IsFreeIf is_free files old → GivesNames files old new)) (sym same)
+        (when_ok answer (λ is. λ stored. absurd (cc)) two.all);
+    ready = subst (λ (a : Result (Unit {0}) TreeFault). OnOk a (AreDayNames files → IsUnseenIf is_free files old → StoresNames files old new)) (sym same)
+        (when_ok answer (λ is. λ are unseen r p ready. subst (λ (l : List Step). HaveDayNames files r p l) (sym is) (has_unstored are r p mid (parts_kept are r p stopped old mid one ready))) two.all);
+    leaves = subst (λ (a : Result (Unit {0}) TreeFault). OnOk a (naming.is_stored ≡ true → AreDayNames files → IsUnseenIf is_free files old → KeepsShown files old new)) (sym same)
         (when_ok answer (λ is. λ stored. absurd (cc)) two.all);
     changes = changes_then (day_paths files) old mid new (only_named files gone_acts old mid one.some) (only_named files unstored_acts mid new two.some);
     cause = λ is.
@@ -147,6 +191,12 @@ module _ (files : DayFiles) where
             (ap (λ (l : List Step). seen l files.records.path) is ∙ both.0, ap (λ (l : List Step). seen l files.report.path) is ∙ both.1)) falls.after.all);
         gives = subst (λ (a : Result (Unit {0}) TreeFault). OnOk a (naming.is_stored ≡ true → AreDayNames files → IsFreeIf false files old → GivesNames files old new)) (sym same)
             (when_ok answer (λ is. λ stored. absurd (cc)) falls.after.all);
+        ready = subst (λ (a : Result (Unit {0}) TreeFault). OnOk a (AreDayNames files → IsUnseenIf false files old → StoresNames files old new)) (sym same)
+            (when_ok answer (λ is. λ are unseen r p ready.
+            let last = before_last are r p old before mid falls.done falls.stopped ready in
+            subst (λ (l : List Step). HaveDayNames files r p l) (sym is) (has_last are r p mid last.0 last.1 last.2)) falls.after.all);
+        leaves = subst (λ (a : Result (Unit {0}) TreeFault). OnOk a (naming.is_stored ≡ true → AreDayNames files → IsUnseenIf false files old → KeepsShown files old new)) (sym same)
+            (when_ok answer (λ is. λ stored. absurd (cc)) falls.after.all);
         changes = changes_then (day_paths files) old mid new (only_named files day_acts old mid day.some) (only_named files last_acts mid new falls.after.some);
         cause = λ is.
             let few = no_fewer (day_paths files) old mid (only_named files day_acts old mid day.some) in
@@ -172,6 +222,12 @@ module _ (files : DayFiles) where
             (seen_ready new files.records.path r named.records_are, seen_ready new files.report.path p named.report_is)) keeps.done);
         gives = subst (λ (a : Result (Unit {0}) TreeFault). OnOk a (naming.is_stored ≡ true → AreDayNames files → IsFreeIf false files old → GivesNames files old new)) (sym same)
             (when_ok answer (λ gives. λ stored are free. gives are) keeps.done);
+        ready = subst (λ (a : Result (Unit {0}) TreeFault). OnOk a (AreDayNames files → IsUnseenIf false files old → StoresNames files old new)) (sym same)
+            (when_ok answer (λ gives. λ are unseen r p ready.
+            let named = (gives are).named r p ready in
+            record { records_are = named.records_are; report_is = named.report_is; unseen = seen_nothing new files.stamp.path named.unstamped }) keeps.done);
+        leaves = subst (λ (a : Result (Unit {0}) TreeFault). OnOk a (naming.is_stored ≡ true → AreDayNames files → IsUnseenIf false files old → KeepsShown files old new)) (sym same)
+            (when_ok answer (λ gives. λ stored are unseen r p ready shows. shows_named files r p new ((gives are).named r p ready)) keeps.done);
         changes = keeps.changes;
         cause = λ told_so. keeps.cause (sym same ∙ told_so);
         unstored = λ not. absurd cc;
@@ -191,6 +247,10 @@ module _ (files : DayFiles) where
             (ap (λ (l : List Step). seen l files.records.path) is_all ∙ both.0, ap (λ (l : List Step). seen l files.report.path) is_all ∙ both.1)) performs.all);
         gives = subst (λ (a : Result (Unit {0}) TreeFault). OnOk a (naming.is_stored ≡ true → AreDayNames files → IsFreeIf true files old → GivesNames files old new)) (sym same)
             (when_ok answer (λ gives. λ stored are free. gives are (free refl)) keeps.done);
+        ready = subst (λ (a : Result (Unit {0}) TreeFault). OnOk a (AreDayNames files → IsUnseenIf true files old → StoresNames files old new)) (sym same)
+            (when_ok answer (λ is_all. λ are unseen r p ready. subst (λ (l : List Step). HaveDayNames files r p l) (sym is_all) (has_anew are r p old ready (unseen refl).2)) performs.all);
+        leaves = subst (λ (a : Result (Unit {0}) TreeFault). OnOk a (naming.is_stored ≡ true → AreDayNames files → IsUnseenIf true files old → KeepsShown files old new)) (sym same)
+            (when_ok answer (λ gives. λ stored are unseen r p ready shows. shows_named files r p new ((gives are (shows.free (unseen refl))).named r p ready)) keeps.done);
         changes = keeps.changes;
         cause = λ told_so. keeps.cause (sym same ∙ told_so);
         unstored = λ not. absurd cc;
@@ -241,13 +301,10 @@ module _ (files : DayFiles) where
   sees_gone are mid =
       let l1 = Removed files.stamp.path ∷ mid in
       let l2 = Removed files.records.path ∷ l1 in (
-        seen_still (Removed files.report.path) l2 files.records.path (are.apart Records Report refl) ∙ unseen files.records.path l1,
-        unseen files.report.path l2,
-        seen_still (Removed files.report.path) l2 files.stamp.path (are.apart Stamp Report refl) ∙ (seen_still (Removed files.records.path) l1 files.stamp.path (are.apart Stamp Records refl) ∙ unseen files.stamp.path mid),
+        seen_still (Removed files.report.path) l2 files.records.path (are.apart Records Report refl) ∙ removed_unseen files.records.path l1,
+        removed_unseen files.report.path l2,
+        seen_still (Removed files.report.path) l2 files.stamp.path (are.apart Stamp Report refl) ∙ (seen_still (Removed files.records.path) l1 files.stamp.path (are.apart Stamp Records refl) ∙ removed_unseen files.stamp.path mid),
       )
-    where
-      unseen : (name : Path) (past : List Step) → seen (Removed name ∷ past) name ≡ None
-      unseen name past = ap (λ found. option_map (λ file. file.bytes) found) (removed_leads name past)
 
   -- also where a folder was not stored
   pub cleared_unstored : (answer : Result (Unit {0}) TreeFault) (naming : Naming) (old mid new : List Step) → naming.is_stored ≡ false → told naming.answer ≡ answer

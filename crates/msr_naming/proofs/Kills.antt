@@ -1,12 +1,12 @@
 -- The order in which the files of a day get their names: what a kill leaves.
-use Rattle.std.proofs.Common.{◌≡◌, Bool, true, false, List, [], ◌∷◌, ℕ, refl, sym, subst, ◌∙◌, ap, Option, Some, None, IfSome, IsSomeAnd, option_map}
+use Rattle.std.proofs.Common.{◌≡◌, Bool, true, false, List, [], ◌∷◌, ℕ, refl, sym, subst, ◌∙◌, Option, Some, None, IfSome, IsSomeAnd}
 use Rattle.msr_tree.specs.Steps.{Failed, FolderStored, Removed, Renamed, Step, Throughout, folder_above, seen, touches}
 use Rattle.msr_tree.proofs.Changes.{ready_renamed}
 use Rattle.msr_naming.specs.declared.files.DayFiles.{DayFiles}
 use Rattle.msr_naming.specs.declared.files.Name.TheVariants.{Records, RecordsPart, Report, ReportPart, Stamp}
 use Rattle.msr_naming.specs.Naming.{AreDayNames}
 use Rattle.msr_naming.specs.Promise.{AreReady, HasReport, SeesNone}
-use Rattle.msr_naming.proofs.Names.{not_renamed, ready_gone, ready_still, removed_leads, seen_ready, seen_still}
+use Rattle.msr_naming.proofs.Names.{not_renamed, ready_gone, ready_still, removed_unseen, seen_ready, seen_still}
 
 module _ (is_own : (records report : List ℕ) → Bool) (files : DayFiles) where
   abbrev K : List Step → Type 0
@@ -35,7 +35,7 @@ module _ (is_own : (records report : List ℕ) → Bool) (files : DayFiles) wher
 
   module _ (are : AreDayNames files) where
     pub unseen : (past : List Step) → seen (Removed files.records.path ∷ past) files.records.path ≡ None
-    unseen past = ap (λ found. option_map (λ file. file.bytes) found) (removed_leads files.records.path past)
+    unseen past = removed_unseen files.records.path past
 
     pub gone : (old : List Step) → K old → Throughout K old (FolderStored (folder_above files.records.path) ∷ Removed files.records.path ∷ FolderStored (folder_above files.report.path) ∷ Removed files.stamp.path ∷ [])
     gone old has =

@@ -50,6 +50,9 @@ none_shown past (Some file) after is shows = cc
 pub removed_leads : (name : Path) (past : List Step) → now (Removed name ∷ past) name ≡ None
 removed_leads name past = rw (is_self name) refl
 
+pub removed_unseen : (name : Path) (past : List Step) → seen (Removed name ∷ past) name ≡ None
+removed_unseen name past = ap (λ found. option_map (λ file. file.bytes) found) (removed_leads name past)
+
 -- what is left of a name that goes
 pub fewer_or_none : (name : Path) (past : List Step) (after : Option (List ℕ)) → MayLeave (Removed name ∷ past) name after → MayLeave past name after ⊎ (after ≡ None)
 fewer_or_none name past after may = ⊎_elim

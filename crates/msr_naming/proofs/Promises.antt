@@ -4,6 +4,7 @@ use Rattle.msr_tree.specs.Steps.{FolderStored, IsReady, Leaves, Path, Removed, R
 use Rattle.msr_tree.specs.declared.tree.TreeFault.{TreeFault}
 use Rattle.msr_tree.proofs.Changes.{ready_renamed}
 use Rattle.msr_tree.proofs.Crash.{is_self, still}
+use Rattle.msr_tree.proofs.Moments.{at_end}
 use Rattle.msr_naming.specs.declared.files.DayFiles.{DayFiles}
 use Rattle.msr_naming.specs.declared.naming.Act.{Act}
 use Rattle.msr_naming.specs.declared.naming.Act.TheVariants.{Remove, Store, Rename}
@@ -15,7 +16,7 @@ use Rattle.msr_naming.proofs.Changed.{only_named, only_stamped}
 use Rattle.msr_naming.proofs.Kills as kill
 use Rattle.msr_naming.proofs.Order as order
 use Rattle.msr_naming.proofs.Plan.{does_some}
-use Rattle.msr_naming.proofs.Stamps.{stamped, stamping, stamping_all}
+use Rattle.msr_naming.proofs.Stamps.{Shown, shown_fails, shown_gone, stamped, stamping, stamping_all, stamping_shown}
 
 abbrev pub new_acts : List Act
 new_acts = Rename ReportPart Report ∷ Rename RecordsPart Records ∷ []
@@ -140,6 +141,9 @@ stamps_named out reports days result old new performs = record {
   safe = λ is_own is_of files s r p are stand one awaits whole has. does_some (HasOwn is_own is_of files) (order.fails is_own is_of files) (FolderStored out ∷ FolderStored reports ∷ map stamping days) old new performs.some
       (stamping_all is_own is_of files are out reports stand s r p whole days old one awaits has);
   done = when_ok result (λ is. λ files s are one ready. ap (λ (l : List Step). seen l files.stamp.path) is ∙ stamped files out reports s days old one ready) performs.all;
+  unstamped = λ files one gone.
+      let each = does_some (Shown files) (shown_fails files) (FolderStored out ∷ FolderStored reports ∷ map stamping days) old new performs.some (stamping_shown files out reports days old one gone) in
+      shown_gone files new (at_end (Shown files) old new each);
   changes = only_stamped out reports days old new performs.some;
   cause = performs.cause;
 }

@@ -1,17 +1,17 @@
 -- The stamps of days get their names.
-use Rattle.std.proofs.Common.{◌≡◌, ◌⊎◌, inl, inr, ⊎_elim, Bool, true, List, [], ◌∷◌, ◌++◌, ℕ, map, reverse, refl, sym, subst, ◌∙◌, ap, append_assoc, Some, None, option_map}
+use Rattle.std.proofs.Common.{◌≡◌, ◌⊎◌, inl, inr, ⊎_elim, Bool, true, List, [], ◌∷◌, ◌++◌, ℕ, map, reverse, refl, sym, subst, ◌∙◌, ap, append_assoc, Option, Some, None, option_map}
 use Rattle.std.proofs.lemmas.List.{append_cancel_right, map-append, reverse-append}
 use Rattle.std.specs.List.{AllByRecursion}
-use Rattle.msr_tree.specs.Steps.{AtEachMoment, FolderStored, IsReady, Leaves, MayLeave, Path, Renamed, Step, Throughout, now, seen}
+use Rattle.msr_tree.specs.Steps.{AtEachMoment, Failed, File, FolderStored, IsReady, Leaves, MayLeave, Path, Renamed, Step, Throughout, now, seen, touches}
 use Rattle.msr_tree.proofs.Changes.{ready_settled}
 use Rattle.msr_tree.proofs.Crash.{is_self, leaves, leaves_seen, still, untouched}
-use Rattle.msr_tree.proofs.Moments.{done, joined}
+use Rattle.msr_tree.proofs.Moments.{at_end, done, joined}
 use Rattle.msr_naming.specs.declared.files.DayFiles.{DayFiles}
 use Rattle.msr_naming.specs.declared.files.Name.TheVariants.{Records, Report, Stamp, StampPart}
 use Rattle.msr_naming.specs.Naming.{AreDayNames, IsOther, name_path}
 use Rattle.msr_naming.specs.declared.files.Name.{Name}
 use Rattle.msr_naming.specs.Promise.{AreOthers, HasOwn, IsOneOf, IsToBeStamped, StandInFolders}
-use Rattle.msr_naming.proofs.Names.{MayHave, may_nothing, may_renamed, may_still, none_shown, not_renamed, ready_still, seen_ready}
+use Rattle.msr_naming.proofs.Names.{MayHave, may_nothing, may_renamed, may_still, none_shown, not_renamed, ready_still, seen_ready, seen_still}
 use Rattle.msr_naming.proofs.Order.{alone, has_both}
 
 abbrev pub stamping : DayFiles → Step
@@ -121,18 +121,24 @@ parted before files after past =
     ∙ (append_assoc (reverse (map stamping (files ∷ after))) (reverse (map stamping before)) past
     ∙ last_first files after (reverse (map stamping before) ++ past)))
 
+-- what comes before and after the stamp of a day
+parted_by : (files : DayFiles) (out reports : Path) (days : List DayFiles) (old : List Step) (one : IsOneOf files days)
+    → reverse (FolderStored out ∷ FolderStored reports ∷ map stamping days) ++ old
+    ≡ reverse (map stamping one.after) ++ (stamping files ∷ (reverse (map stamping one.before) ++ (FolderStored reports ∷ FolderStored out ∷ old)))
+parted_by files out reports days old one =
+    let past : List Step = FolderStored reports ∷ FolderStored out ∷ old in
+    stored_first out reports days old ∙ (ap (λ (l : List DayFiles). reverse (map stamping l) ++ past) one.are ∙ parted one.before files one.after past)
+
 -- a stamp that is ready is seen then
 pub stamped : (files : DayFiles) (out reports : Path) (s : List ℕ) (days : List DayFiles) (old : List Step) → IsOneOf files days → IsReady files.stamp.part s old
     → seen (reverse (FolderStored out ∷ FolderStored reports ∷ map stamping days) ++ old) files.stamp.path ≡ Some s
 stamped files out reports s days old one ready =
     let past : List Step = FolderStored reports ∷ FolderStored out ∷ old in
     let mid : List Step = reverse (map stamping one.before) ++ past in
-    let so : reverse (FolderStored out ∷ FolderStored reports ∷ map stamping days) ++ old ≡ reverse (map stamping one.after) ++ (stamping files ∷ mid) =
-    stored_first out reports days old ∙ (ap (λ (l : List DayFiles). reverse (map stamping l) ++ past) one.are ∙ parted one.before files one.after past) in
     let leads : now (reverse (map stamping one.after) ++ (stamping files ∷ mid)) files.stamp.path ≡ now old files.stamp.part =
     unmoved files Stamp one.after (stamping files ∷ mid) one.others_after
     ∙ (moved files.stamp.part files.stamp.path mid ∙ unmoved files StampPart one.before past one.others_before) in
-    ap (λ (l : List Step). seen l files.stamp.path) so
+    ap (λ (l : List Step). seen l files.stamp.path) (parted_by files out reports days old one)
     ∙ (ap (λ found. option_map (λ file. file.bytes) found) (leads ∙ ready.leads) ∙ ap (λ b. Some b) ready.has)
 
 -- it is one of these days, or another
@@ -181,3 +187,61 @@ module _ (is_own : (records report : List ℕ) → Bool) (is_of : (stamp records
       (all_stamped files are s r p days (stored old) each (awaiting old awaits)) in
       throughout P old (reverse (FolderStored out ∷ FolderStored reports ∷ map stamping days))
       (subst (λ (l : List Step). AtEachMoment P old l) (sym (stored_first out reports days old)) (joined P old (stored old) _ stores rest))
+
+module _ (files : DayFiles) where
+  -- the stamp of a day is seen, or cannot come back
+  abbrev pub Shown : List Step → Type 0
+  Shown past = Leaves past files.stamp.path None ⊎ ((bytes : List ℕ) × (seen past files.stamp.path ≡ Some bytes))
+
+  pub shown_gone : (past : List Step) → Shown past → seen past files.stamp.path ≡ None → Leaves past files.stamp.path None
+  shown_gone past shown unseen = ⊎_elim (λ gone. gone) (λ has. let some = has.1 in absurd (cc)) shown
+
+  shown_still : (step : Step) (past : List Step) → touches step files.stamp.path ≡ false → Shown past → Shown (step ∷ past)
+  shown_still step past not shown = ⊎_elim
+      (λ gone. inl (still step past files.stamp.path None not gone))
+      (λ has. inr (has.0, seen_still step past files.stamp.path not ∙ has.1))
+      shown
+
+  pub shown_fails : (past : List Step) → Shown past → Shown (Failed ∷ past)
+  shown_fails past shown = shown_still Failed past refl shown
+
+  -- what stands beside its name gets it, if something does
+  shown_own : (past : List Step) → Leaves past files.stamp.path None → (found : Option File) → now past files.stamp.part ≡ found → Shown (stamping files ∷ past)
+  shown_own past gone None is = inl (λ after may. ⊎_elim
+      (λ before. gone after before)
+      (λ shows. none_shown (stamping files ∷ past) _ after (moved files.stamp.part files.stamp.path past ∙ is) shows)
+      (leaves (stamping files) past files.stamp.path after may))
+  shown_own past gone (Some file) is = inr (file.bytes, ap (λ found. option_map (λ f. f.bytes) found) (moved files.stamp.part files.stamp.path past ∙ is))
+
+  other_spares : (day : DayFiles) → IsOther files day → touches (stamping day) files.stamp.path ≡ false
+  other_spares day apart = not_renamed day.stamp.part day.stamp.path files.stamp.path (apart Stamp Stamp) (apart Stamp StampPart)
+
+  -- while others get theirs
+  gone_others : (days : List DayFiles) (past : List Step) → AreOthers files days → Leaves past files.stamp.path None → Leaves (reverse (map stamping days) ++ past) files.stamp.path None
+  gone_others [] past others gone = gone
+  gone_others (day ∷ days) past others gone =
+      subst (λ (l : List Step). Leaves l files.stamp.path None) (sym (last_first day days past))
+      (gone_others days (stamping day ∷ past) others.1 (still (stamping day) past files.stamp.path None (other_spares day others.0) gone))
+
+  shown_others : (days : List DayFiles) (past : List Step) → AreOthers files days → Shown past → AtEachMoment Shown past (reverse (map stamping days) ++ past)
+  shown_others [] past others shown = done Shown past past [] refl shown
+  shown_others (day ∷ days) past others shown =
+      let first = shown_still (stamping day) past (other_spares day others.0) shown in
+      let rest = shown_others days (stamping day ∷ past) others.1 first in
+      subst (λ (l : List Step). AtEachMoment Shown past l) (sym (last_first day days past)) (joined Shown past (stamping day ∷ past) _ (done Shown past (stamping day ∷ past) (stamping day ∷ []) refl (shown, first)) rest)
+
+  pub stamping_shown : (out reports : Path) (days : List DayFiles) (old : List Step) → IsOneOf files days → Leaves old files.stamp.path None
+      → Throughout Shown old (reverse (FolderStored out ∷ FolderStored reports ∷ map stamping days))
+  stamping_shown out reports days old one gone =
+      let past : List Step = FolderStored reports ∷ FolderStored out ∷ old in
+      let mid : List Step = reverse (map stamping one.before) ++ past in
+      let gone1 = still (FolderStored out) old files.stamp.path None refl gone in
+      let gone2 = still (FolderStored reports) (FolderStored out ∷ old) files.stamp.path None refl gone1 in
+      let stores = done Shown old past (FolderStored reports ∷ FolderStored out ∷ []) refl ((inl gone, inl gone1), inl gone2) in
+      let sooner = shown_others one.before past one.others_before (inl gone2) in
+      let own = shown_own mid (gone_others one.before past one.others_before gone2) (now mid files.stamp.part) refl in
+      let step = done Shown mid (stamping files ∷ mid) (stamping files ∷ []) refl (at_end Shown past mid sooner, own) in
+      let later = shown_others one.after (stamping files ∷ mid) one.others_after own in
+      let all = joined Shown old mid _ (joined Shown old past mid stores sooner) (joined Shown mid (stamping files ∷ mid) _ step later) in
+      throughout Shown old (reverse (FolderStored out ∷ FolderStored reports ∷ map stamping days))
+      (subst (λ (l : List Step). AtEachMoment Shown old l) (sym (parted_by files out reports days old one)) all)

@@ -45,6 +45,12 @@ pub record AreNamed (files : DayFiles) (records report : List ℕ) (past : List 
   pub report_is : IsReady files.report.path report past
   pub unstamped : Leaves past files.stamp.path None
 
+-- They have their names, and no stamp is seen.
+pub record HaveDayNames (files : DayFiles) (records report : List ℕ) (past : List Step) : Type 0 where
+  pub records_are : IsReady files.records.path records past
+  pub report_is : IsReady files.report.path report past
+  pub unseen : seen past files.stamp.path ≡ None
+
 -- What was beside the names of a day has them.
 pub record GivesNames (files : DayFiles) (old new : List Step) : Type 0 where
   pub named : (records report : List ℕ) → AreReady files records report old → AreNamed files records report new
@@ -56,6 +62,11 @@ OverNothing files is_own past = HaveOwnParts files is_own past × IsFree files p
 -- nothing is seen under the names of a day
 abbrev pub SeesNone : DayFiles → List Step → Type 0
 SeesNone files past = (seen past files.records.path ≡ None) × (seen past files.report.path ≡ None) × (seen past files.stamp.path ≡ None)
+
+-- What is not seen of a day cannot come back.
+pub record ShowsDay (files : DayFiles) (past : List Step) : Type 0 where
+  pub free : SeesNone files past → IsFree files past
+  pub unstamped : seen past files.stamp.path ≡ None → Leaves past files.stamp.path None
 
 -- some are, and nothing is seen of the day
 abbrev pub OverUnseen : (files : DayFiles) → (is_own : (records report : List ℕ) → Bool) → List Step → Type 0
@@ -108,7 +119,7 @@ stamp_paths [] = []
 stamp_paths (files ∷ days) = files.stamp.path ∷ files.stamp.part ∷ stamp_paths days
 
 -- The stamps of days get their names, and no other name changes: each of these days that has its own before has it at each
--- moment since.
+-- moment since. A stamp that could not come back before, and is not seen, cannot.
 pub record NamesStamps (out reports : Path) (days : List DayFiles) (result : Result (Unit {0}) TreeFault) (old new : List Step) : Type 0 where
   pub safe : (is_own : (records report : List ℕ) → Bool) (is_of : (stamp records report : List ℕ) → Bool)
       (files : DayFiles) (stamp records report : List ℕ) → AreDayNames files → StandInFolders out reports files → IsOneOf files days
@@ -116,6 +127,8 @@ pub record NamesStamps (out reports : Path) (days : List DayFiles) (result : Res
       → HasOwn is_own is_of files old → AtEachMoment (HasOwn is_own is_of files) old new
   pub done : OnOk result ((files : DayFiles) (stamp : List ℕ) → AreDayNames files → IsOneOf files days
       → IsReady files.stamp.part stamp old → seen new files.stamp.path ≡ Some stamp)
+  pub unstamped : (files : DayFiles) → IsOneOf files days → Leaves old files.stamp.path None
+      → seen new files.stamp.path ≡ None → Leaves new files.stamp.path None
   pub changes : ChangesFiles (stamp_paths days) old new
   pub cause : IsErrOf result Failed → failures old < failures new
 
@@ -132,6 +145,14 @@ abbrev pub SeesNames : DayFiles → (old new : List Step) → Type 0
 SeesNames files old new = (records report : List ℕ) → AreReady files records report old
     → (seen new files.records.path ≡ Some records) × (seen new files.report.path ≡ Some report)
 
+-- on the disk, and no stamp is seen
+abbrev pub StoresNames : DayFiles → (old new : List Step) → Type 0
+StoresNames files old new = (records report : List ℕ) → AreReady files records report old → HaveDayNames files records report new
+
+-- nor can what is not seen come back, if it could not before
+abbrev pub KeepsShown : DayFiles → (old new : List Step) → Type 0
+KeepsShown files old new = (records report : List ℕ) → AreReady files records report old → ShowsDay files old → ShowsDay files new
+
 -- Records and report get their names. If the day has its own before, it has it at each moment since: whatever a crash leaves
 -- then, if each folder was stored; and in any case if the walk is killed then.
 pub record NamesDay (files : DayFiles) (is_free : Bool) (naming : Naming) (old new : List Step) : Type 0 where
@@ -142,6 +163,8 @@ pub record NamesDay (files : DayFiles) (is_free : Bool) (naming : Naming) (old n
       → HasReport is_own files old → AtEachMoment (HasReport is_own files) old new
   pub sees : OnOk (told naming.answer) (AreDayNames files → SeesNames files old new)
   pub gives : OnOk (told naming.answer) (naming.is_stored ≡ true → AreDayNames files → IsFreeIf is_free files old → GivesNames files old new)
+  pub ready : OnOk (told naming.answer) (AreDayNames files → IsUnseenIf is_free files old → StoresNames files old new)
+  pub leaves : OnOk (told naming.answer) (naming.is_stored ≡ true → AreDayNames files → IsUnseenIf is_free files old → KeepsShown files old new)
   pub changes : ChangesFiles (day_paths files) old new
   pub cause : IsErrOf (told naming.answer) Failed → failures old < failures new
   pub unstored : naming.is_stored ≡ false → failures old < failures new
