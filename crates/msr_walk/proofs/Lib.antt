@@ -10,4 +10,5 @@ pub mod Visited
 pub mod DayApart
 pub mod OtherDays
 pub mod Spared
+pub mod Standing
 pub mod Waits

@@ -28,13 +28,13 @@ stored_spared : (file : _) (old made : List Step) → IsStored old file → IsSt
 stored_spared file old [] stored = stored
 stored_spared file old (step ∷ made) stored = stays step (made ++ old) file (stored_spared file old made stored)
 
-ready_spared : (name : Path) (bytes : List ℕ) (old made : List Step) → Spares name made → IsReady name bytes old → IsReady name bytes (made ++ old)
-ready_spared name bytes old made spares ready = record {
+ready_after : (name : Path) (bytes : List ℕ) (old new made : List Step) → new ≡ made ++ old → Spares name made → IsReady name bytes old → IsReady name bytes new
+ready_after name bytes old new made since spares ready = subst (λ (l : List Step). IsReady name bytes l) (sym since) (record {
   file = ready.file;
   leads = same_now name old made spares ∙ ready.leads;
   has = ready.has;
   stored = stored_spared ready.file old made ready.stored;
-}
+})
 
 module _ (files : DayFiles) where
   own_made : (is_own : (records report : List ℕ) → Bool) (is_of : (stamp records report : List ℕ) → Bool) (old made : List Step)
@@ -82,10 +82,12 @@ module _ (files : DayFiles) where
     report = waits.report;
     has_input = seen_as input old new same ∙ waits.has_input;
     reported = waits.reported;
-    records_are = subst (λ (l : List Step). IsReady files.records.path waits.records l) (sym since) (ready_spared files.records.path waits.records old made spares.records waits.records_are);
-    report_is = subst (λ (l : List Step). IsReady files.report.path waits.text l) (sym since) (ready_spared files.report.path waits.text old made spares.report waits.report_is);
-    stamp_is = subst (λ (l : List Step). IsReady files.stamp.part _ l) (sym since) (ready_spared files.stamp.part _ old made part waits.stamp_is);
-    unseen = subst (λ (l : List Step). seen l files.stamp.path ≡ None) (sym since) (seen_spared files.stamp.path old made spares.stamp ∙ waits.unseen);
+    named = record {
+      records_are = ready_after files.records.path _ old new made since spares.records waits.named.records_are;
+      report_is = ready_after files.report.path _ old new made since spares.report waits.named.report_is;
+      unseen = subst (λ (l : List Step). seen l files.stamp.path ≡ None) (sym since) (seen_spared files.stamp.path old made spares.stamp ∙ waits.named.unseen);
+    };
+    stamp_is = ready_after files.stamp.part _ old new made since part waits.stamp_is;
   }
 
 -- whatever number its claim has

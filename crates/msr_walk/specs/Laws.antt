@@ -63,7 +63,7 @@ stamp_later days input is_of old new same stamp = record {
 }
 
 -- no call failed of those until then, nor of those after
-none_failed : (old mid new one two : List Step) → mid ≡ one ++ old → new ≡ two ++ mid → failures new ≡ failures old → (failures mid ≡ failures old) × (failures new ≡ failures mid)
+pub none_failed : (old mid new one two : List Step) → mid ≡ one ++ old → new ≡ two ++ mid → failures new ≡ failures old → (failures mid ≡ failures old) × (failures new ≡ failures mid)
 none_failed old mid new one two first second none =
     let few : failures old ≤ failures mid = subst (λ (l : List Step). failures old ≤ failures l) (sym first) (more_fail old one) in
     let more : failures mid ≤ failures new = subst (λ (l : List Step). failures mid ≤ failures l) (sym second) (more_fail mid two) in
