@@ -119,15 +119,15 @@ is_nothing items answer is empty = none_in items ((Decides-eqb (length items) 0)
 
 module _ {V L T : Type 0} (tells : V → List L → (out0 out : Device) → (tally0 tally : T) → Type 0)
     (stops : V → (out0 out : Device) → DeviceFault → Type 0) (says : V → (old new : List Step) → Visit → List L → Type 0)
-    (does : V → (old new : List Step) → Type 0) (listless : V → Type 0) (laws : VisitLaws tells stops does) (visitor : V) (root : Path) where
+    (does : V → Bool → (old new : List Step) → Type 0) (listless : V → Type 0) (laws : VisitLaws tells stops does) (visitor : V) (root : Path) where
   abbrev Walk : (Are : (old new : List Step) → List Visit → Type 0) (before after : List Step → Type 0) (out0 out : Device) (tally0 tally : T) → Type 0
-  Walk Are before after out0 out tally0 tally = TellsWalk (tells visitor) (says visitor) (does visitor) (listless visitor) root Are before after out0 out tally0 tally
+  Walk Are before after out0 out tally0 tally = TellsWalk (tells visitor) (says visitor) (does visitor true) (listless visitor) root Are before after out0 out tally0 tally
 
   abbrev Visited : Visit → (before after : List Step → Type 0) (out0 out : Device) (tally0 tally : T) → Type 0
-  Visited visit before after out0 out tally0 tally = TellsVisit (tells visitor) (says visitor) (does visitor) (listless visitor) visit before after out0 out tally0 tally
+  Visited visit before after out0 out tally0 tally = TellsVisit (tells visitor) (says visitor) (does visitor true) (listless visitor) visit before after out0 out tally0 tally
 
   abbrev Moment : (new past at : List Step) → Type 0
-  Moment new past at = IsMoment (does visitor) new past at
+  Moment new past at = IsMoment (does visitor true) new past at
 
   abbrev SoFar : (levels : ℕ) → (folder : Path) → (names taken : List Path) → (old new : List Step) → List Visit → Type 0
   SoFar levels folder names taken old new visits = AreSoFar (Moment new) root levels folder names taken old visits
@@ -142,18 +142,18 @@ module _ {V L T : Type 0} (tells : V → List L → (out0 out : Device) → (tal
   OfFolders folders old new visits = ForEach (AreEntriesBelow (Moment new) old root) folders visits
 
   walked_more : (One Two Both : (old new : List Step) → List Visit → Type 0) (visits more : List Visit) (lines others : List L) (old mid new : List Step)
-      → ((old mid new : List Step) (visits more : List Visit) → does visitor old mid → does visitor mid new → One old mid visits → Two mid new more → Both old new (visits ++ more))
-      → IsWalked (says visitor) (does visitor) (listless visitor) root One visits lines old mid → IsWalked (says visitor) (does visitor) (listless visitor) root Two more others mid new
-      → IsWalked (says visitor) (does visitor) (listless visitor) root Both (visits ++ more) (lines ++ others) old new
+      → ((old mid new : List Step) (visits more : List Visit) → does visitor true old mid → does visitor true mid new → One old mid visits → Two mid new more → Both old new (visits ++ more))
+      → IsWalked (says visitor) (does visitor true) (listless visitor) root One visits lines old mid → IsWalked (says visitor) (does visitor true) (listless visitor) root Two more others mid new
+      → IsWalked (says visitor) (does visitor true) (listless visitor) root Both (visits ++ more) (lines ++ others) old new
   walked_more One Two Both visits more lines others old mid new so one two = record {
     are = so old mid new visits more one.does two.does one.are two.are;
     says =
-        let Said : (old new : List Step) → Visit → List L → Type 0 = IsSaidBetween (says visitor) (does visitor) in
-        let wider = said_between (says visitor) (does visitor) (laws.onward visitor) in
+        let Said : (old new : List Step) → Visit → List L → Type 0 = IsSaidBetween (says visitor) (does visitor true) in
+        let wider = said_between (says visitor) (does visitor true) (laws.onward visitor true) in
         for_each_append (Said old new) visits more lines others
         (for_each_as (Said old mid) (Said old new) visits lines (wider old old mid new (laws.still visitor old) two.does) one.says)
         (for_each_as (Said mid new) (Said old new) more others (wider old mid new new one.does (laws.still visitor new)) two.says);
-    does = laws.onward visitor old mid new one.does two.does;
+    does = laws.onward visitor true old mid new one.does two.does;
     unlisted = λ none. two.unlisted none ∙ (ap (λ l. l ++ unlisted_in root more) (one.unlisted none)
         ∙ (append_assoc (unlisted_after old) (unlisted_in root visits) (unlisted_in root more)
         ∙ ap (λ l. unlisted_after old ++ l) (sym (unlisted_append root visits more))));
@@ -161,7 +161,7 @@ module _ {V L T : Type 0} (tells : V → List L → (out0 out : Device) → (tal
 
   -- one part of a walk, and then another
   pub walk_more : (One Two Both : (old new : List Step) → List Visit → Type 0) (before mid after : List Step → Type 0) (out0 out1 out : Device) (tally0 tally1 tally : T)
-      → ((old mid new : List Step) (visits more : List Visit) → does visitor old mid → does visitor mid new → One old mid visits → Two mid new more → Both old new (visits ++ more))
+      → ((old mid new : List Step) (visits more : List Visit) → does visitor true old mid → does visitor true mid new → One old mid visits → Two mid new more → Both old new (visits ++ more))
       → Walk One before mid out0 out1 tally0 tally1 → Walk Two mid after out1 out tally1 tally → Walk Both before after out0 out tally0 tally
   walk_more One Two Both before mid after out0 out1 out tally0 tally1 tally so one two = record {
     visits = one.visits ++ two.visits;
@@ -172,8 +172,8 @@ module _ {V L T : Type 0} (tells : V → List L → (out0 out : Device) → (tal
 
   -- what is done of which nothing is told
   pub walk_quiet : (Are : (old new : List Step) → List Visit → Type 0) (before after : List Step → Type 0) (out0 out : Device) (tally0 tally : T)
-      → ((old new : List Step) → after new → does visitor old new → Are old new []) → tells visitor [] out0 out tally0 tally
-      → Goes before after (VisitDoes (does visitor) (listless visitor)) → Walk Are before after out0 out tally0 tally
+      → ((old new : List Step) → after new → does visitor true old new → Are old new []) → tells visitor [] out0 out tally0 tally
+      → Goes before after (VisitDoes (does visitor true) (listless visitor)) → Walk Are before after out0 out tally0 tally
   walk_quiet Are before after out0 out tally0 tally so told goes = record {
     visits = [];
     lines = [];
@@ -206,7 +206,7 @@ module _ {V L T : Type 0} (tells : V → List L → (out0 out : Device) → (tal
         record {
           are = is.1;
           says = refl;
-          does = subst (λ l. does visitor old l) (sym is.0) (laws.still visitor old);
+          does = subst (λ l. does visitor true old l) (sym is.0) (laws.still visitor old);
           unlisted = λ none. ap unlisted_after is.0 ∙ sym (append-nil (unlisted_after old));
         }) goes;
   }
@@ -214,7 +214,7 @@ module _ {V L T : Type 0} (tells : V → List L → (out0 out : Device) → (tal
   -- one visit, of which no folder without a list is told
   pub walk_visit : (Are : (old new : List Step) → List Visit → Type 0) (visit : Visit) (before after : List Step → Type 0) (out0 out : Device) (tally0 tally : T)
       → unlisted_in root (visit ∷ []) ≡ []
-      → ((old new : List Step) → before old → does visitor old new → Are old new (visit ∷ []))
+      → ((old new : List Step) → before old → does visitor true old new → Are old new (visit ∷ []))
       → Visited visit before after out0 out tally0 tally → Walk Are before after out0 out tally0 tally
   walk_visit Are visit before after out0 out tally0 tally listed so made = record {
     visits = visit ∷ [];
@@ -222,7 +222,7 @@ module _ {V L T : Type 0} (tells : V → List L → (out0 out : Device) → (tal
     told = made.told;
     goes = goes_so _ _ before after (λ old new went is. record {
       are = so old new went is.done.does;
-      says = for_each_one (IsSaidBetween (says visitor) (does visitor) old new) visit made.lines (said_now (says visitor) (does visitor) (laws.still visitor) old new visit made.lines is.says);
+      says = for_each_one (IsSaidBetween (says visitor) (does visitor true) old new) visit made.lines (said_now (says visitor) (does visitor true) (laws.still visitor) old new visit made.lines is.says);
       does = is.done.does;
       unlisted = λ none. is.done.lists_none none ∙ (sym (append-nil (unlisted_after old)) ∙ ap (λ l. unlisted_after old ++ l) (sym listed));
     }) made.goes;
@@ -240,13 +240,13 @@ module _ {V L T : Type 0} (tells : V → List L → (out0 out : Device) → (tal
     told = visit.told;
     goes = goes_then _ _ _ before mid after (λ old middle new fails is.
         let so = without place old middle fails in
-        let done = subst (λ l. does visitor old l) (sym so) (laws.unlisted visitor old place) in
+        let done = subst (λ l. does visitor true old l) (sym so) (laws.unlisted visitor old place) in
         record {
           are = inl refl;
-          says = for_each_one (IsSaidBetween (says visitor) (does visitor) old new) (WithoutList folder) visit.lines
-              (said_between (says visitor) (does visitor) (laws.onward visitor) old middle new new done (laws.still visitor new) (WithoutList folder) visit.lines
-              (said_now (says visitor) (does visitor) (laws.still visitor) middle new (WithoutList folder) visit.lines is.says));
-          does = laws.onward visitor old middle new done is.done.does;
+          says = for_each_one (IsSaidBetween (says visitor) (does visitor true) old new) (WithoutList folder) visit.lines
+              (said_between (says visitor) (does visitor true) (laws.onward visitor true) old middle new new done (laws.still visitor new) (WithoutList folder) visit.lines
+              (said_now (says visitor) (does visitor true) (laws.still visitor) middle new (WithoutList folder) visit.lines is.says));
+          does = laws.onward visitor true old middle new done is.done.does;
           unlisted = λ none. is.done.lists_none none ∙ (ap unlisted_after so ∙ ap (λ p. unlisted_after old ++ p ∷ []) at);
         }) lists visit.goes;
   }
@@ -263,8 +263,8 @@ module _ {V L T : Type 0} (tells : V → List L → (out0 out : Device) → (tal
 
   -- a walk, after something of which nothing is told
   walk_after : (Are Seen : (old new : List Step) → List Visit → Type 0) (before mid after : List Step → Type 0) (out0 out1 out : Device) (tally0 tally1 tally : T)
-      → ((old mid new : List Step) (visits : List Visit) → does visitor old mid → Are mid new visits → Seen old new visits)
-      → tells visitor [] out0 out1 tally0 tally1 → Goes before mid (VisitDoes (does visitor) (listless visitor))
+      → ((old mid new : List Step) (visits : List Visit) → does visitor true old mid → Are mid new visits → Seen old new visits)
+      → tells visitor [] out0 out1 tally0 tally1 → Goes before mid (VisitDoes (does visitor true) (listless visitor))
       → Walk Are mid after out1 out tally1 tally → Walk Seen before after out0 out tally0 tally
   walk_after Are Seen before mid after out0 out1 out tally0 tally1 tally so told goes walk =
       walk_more (λ old new visits. visits ≡ []) Are Seen before mid after out0 out1 out tally0 tally1 tally
@@ -280,7 +280,7 @@ module _ {V L T : Type 0} (tells : V → List L → (out0 out : Device) → (tal
 
   -- one that is begun with, and has no list
   pub opens_unlisted : (levels : ℕ) (folder place : Path) (before mid listed_at after : List Step → Type 0) (out0 out1 out : Device) (tally0 tally1 tally : T)
-      → tells visitor [] out0 out1 tally0 tally1 → Goes before mid (VisitDoes (does visitor) (listless visitor))
+      → tells visitor [] out0 out1 tally0 tally1 → Goes before mid (VisitDoes (does visitor true) (listless visitor))
       → place ≡ joined root folder → Goes mid listed_at (IsUnlisted place)
       → Visited (WithoutList folder) listed_at after out1 out tally1 tally
       → Walk (OfFolder levels folder) before after out0 out tally0 tally
@@ -288,19 +288,19 @@ module _ {V L T : Type 0} (tells : V → List L → (out0 out : Device) → (tal
       walk_after (OfFolder levels folder) (OfFolder levels folder)
       before mid after out0 out1 out tally0 tally1 tally
       (λ old middle new visits done are.
-      entries_seen root (Moment new) (Moment new) old middle (earlier (does visitor) (laws.onward visitor) root old middle new done) levels folder visits are)
+      entries_seen root (Moment new) (Moment new) old middle (earlier (does visitor true) (laws.onward visitor true) root old middle new done) levels folder visits are)
       told goes (walk_unlisted levels folder place mid listed_at after out1 out tally1 tally at lists visit)
 
   -- one that has a list
   pub opens_listed : (levels : ℕ) (folder place : Path) (names : List Path) (before mid after : List Step → Type 0) (out0 out1 : Device) (tally0 tally1 : T)
-      → tells visitor [] out0 out1 tally0 tally1 → Goes before mid (VisitDoes (does visitor) (listless visitor))
+      → tells visitor [] out0 out1 tally0 tally1 → Goes before mid (VisitDoes (does visitor true) (listless visitor))
       → place ≡ joined root folder → Goes mid after (λ old new. (new ≡ old) × IsListing old place names)
       → Walk (SoFar levels folder names []) before after out0 out1 tally0 tally1
   opens_listed levels folder place names before mid after out0 out1 tally0 tally1 told goes at lists =
       walk_after (SoFar levels folder names []) (SoFar levels folder names []) before mid after out0 out1 out1 tally0 tally1 tally1
       (λ old middle new visits done are. record {
         at = are.at;
-        since = record { since = laws.onward visitor old middle are.at done are.since.since; until = are.since.until };
+        since = record { since = laws.onward visitor true old middle are.at done are.since.since; until = are.since.until };
         listing = are.listing;
         each = are.each;
       })
@@ -310,21 +310,21 @@ module _ {V L T : Type 0} (tells : V → List L → (out0 out : Device) → (tal
         is.0,
         record {
           at = old;
-          since = record { since = laws.still visitor old; until = subst (λ l. does visitor old l) (sym is.0) (laws.still visitor old) };
+          since = record { since = laws.still visitor old; until = subst (λ l. does visitor true old l) (sym is.0) (laws.still visitor old) };
           listing = subst (λ p. IsListing old p names) at is.1;
           each = refl;
         },
       )) lists)
 
   -- what was visited so far was so until later
-  far_later : (levels : ℕ) (folder : Path) (names taken : List Path) (old mid new : List Step) (visits : List Visit) → does visitor mid new
+  far_later : (levels : ℕ) (folder : Path) (names taken : List Path) (old mid new : List Step) (visits : List Visit) → does visitor true mid new
       → SoFar levels folder names taken old mid visits → SoFar levels folder names taken old new visits
   far_later levels folder names taken old mid new visits next are = record {
     at = are.at;
-    since = record { since = are.since.since; until = laws.onward visitor are.at mid new are.since.until next };
+    since = record { since = are.since.since; until = laws.onward visitor true are.at mid new are.since.until next };
     listing = are.listing;
     each = for_each_as (λ n. OfEntry levels (below folder n) old mid) (λ n. OfEntry levels (below folder n) old new) taken visits
-        (λ n part one. entry_seen root (Moment mid) (Moment new) old old (later (does visitor) (laws.onward visitor) root old mid new next) levels (below folder n) part one)
+        (λ n part one. entry_seen root (Moment mid) (Moment new) old old (later (does visitor true) (laws.onward visitor true) root old mid new next) levels (below folder n) part one)
         are.each;
   }
 
@@ -343,7 +343,7 @@ module _ {V L T : Type 0} (tells : V → List L → (out0 out : Device) → (tal
         since = far.since;
         listing = far.listing;
         each = for_each_push (λ n. OfEntry levels (below folder n) old new) taken name visits more far.each
-            (entry_seen root (Moment new) (Moment new) old middle (earlier (does visitor) (laws.onward visitor) root old middle new done) levels (below folder name) more entry);
+            (entry_seen root (Moment new) (Moment new) old middle (earlier (does visitor true) (laws.onward visitor true) root old middle new done) levels (below folder name) more entry);
       })
       one two
 
@@ -384,19 +384,19 @@ module _ {V L T : Type 0} (tells : V → List L → (out0 out : Device) → (tal
 
   -- what is done at the end of a walk, of which nothing is told
   walked_left : (Are : (old new : List Step) → List Visit → Type 0) (visits : List Visit) (lines : List L) (old mid new : List Step)
-      → (Are old mid visits → Are old new visits) → IsWalked (says visitor) (does visitor) (listless visitor) root Are visits lines old mid → VisitDoes (does visitor) (listless visitor) mid new
-      → IsWalked (says visitor) (does visitor) (listless visitor) root Are visits lines old new
+      → (Are old mid visits → Are old new visits) → IsWalked (says visitor) (does visitor true) (listless visitor) root Are visits lines old mid → VisitDoes (does visitor true) (listless visitor) mid new
+      → IsWalked (says visitor) (does visitor true) (listless visitor) root Are visits lines old new
   walked_left Are visits lines old mid new so one two = record {
     are = so one.are;
-    says = for_each_as (IsSaidBetween (says visitor) (does visitor) old mid) (IsSaidBetween (says visitor) (does visitor) old new) visits lines
-        (said_between (says visitor) (does visitor) (laws.onward visitor) old old mid new (laws.still visitor old) two.does) one.says;
-    does = laws.onward visitor old mid new one.does two.does;
+    says = for_each_as (IsSaidBetween (says visitor) (does visitor true) old mid) (IsSaidBetween (says visitor) (does visitor true) old new) visits lines
+        (said_between (says visitor) (does visitor true) (laws.onward visitor true) old old mid new (laws.still visitor old) two.does) one.says;
+    does = laws.onward visitor true old mid new one.does two.does;
     unlisted = λ none. two.lists_none none ∙ one.unlisted none;
   }
 
   pub walk_left : (Are : (old new : List Step) → List Visit → Type 0) (before mid after : List Step → Type 0) (out0 out : Device) (tally0 tally1 tally : T)
       → ((old mid new : List Step) (visits : List Visit) → Are old mid visits → Are old new visits) → Walk Are before mid out0 out tally0 tally1 → ((at : Device) → tells visitor [] at at tally1 tally)
-      → Goes mid after (VisitDoes (does visitor) (listless visitor)) → Walk Are before after out0 out tally0 tally
+      → Goes mid after (VisitDoes (does visitor true) (listless visitor)) → Walk Are before after out0 out tally0 tally
   walk_left Are before mid after out0 out tally0 tally1 tally so walk told goes = record {
     visits = walk.visits;
     lines = walk.lines;
@@ -404,17 +404,22 @@ module _ {V L T : Type 0} (tells : V → List L → (out0 out : Device) → (tal
     goes = goes_then _ _ _ before mid after (λ old middle new first second. walked_left Are walk.visits walk.lines old middle new (so old middle new walk.visits) first second) walk.goes goes;
   }
 
-  pub does_then : (before mid after : List Step → Type 0) → Goes before mid (does visitor) → Goes mid after (VisitDoes (does visitor) (listless visitor)) → Goes before after (does visitor)
-  does_then before mid after one two = goes_then _ _ _ before mid after (λ old middle new first second. laws.onward visitor old middle new first second.does) one two
+  pub does_then : (goes_on : Bool) (before mid after : List Step → Type 0) → Goes before mid (does visitor true) → Goes mid after (VisitDoes (does visitor goes_on) (listless visitor))
+      → Goes before after (does visitor goes_on)
+  does_then goes_on before mid after one two = goes_then _ _ _ before mid after (λ old middle new first second. laws.onward visitor goes_on old middle new first second.does) one two
 
-  pub does_both : (before mid after : List Step → Type 0) → Goes before mid (does visitor) → Goes mid after (does visitor) → Goes before after (does visitor)
-  does_both before mid after one two = goes_then _ _ _ before mid after (λ old middle new first second. laws.onward visitor old middle new first second) one two
+  pub does_both : (goes_on : Bool) (before mid after : List Step → Type 0) → Goes before mid (does visitor true) → Goes mid after (does visitor goes_on) → Goes before after (does visitor goes_on)
+  does_both goes_on before mid after one two = goes_then _ _ _ before mid after (λ old middle new first second. laws.onward visitor goes_on old middle new first second) one two
 
-  pub does_visit : (before after : List Step → Type 0) → Goes before after (VisitDoes (does visitor) (listless visitor)) → Goes before after (does visitor)
-  does_visit before after goes = goes_so _ _ before after (λ old new went is. is.does) goes
+  pub does_visit : (goes_on : Bool) (before after : List Step → Type 0) → Goes before after (VisitDoes (does visitor goes_on) (listless visitor)) → Goes before after (does visitor goes_on)
+  does_visit goes_on before after goes = goes_so _ _ before after (λ old new went is. is.does) goes
+
+  -- the walk stops after it
+  pub does_end : (before after : List Step → Type 0) → Goes before after (does visitor true) → Goes before after (does visitor false)
+  does_end before after goes = goes_so _ _ before after (λ old new went is. laws.ends visitor old new is) goes
 
   pub does_walk : (Are : (old new : List Step) → List Visit → Type 0) (before after : List Step → Type 0) (out0 out : Device) (tally0 tally : T)
-      → Walk Are before after out0 out tally0 tally → Goes before after (does visitor)
+      → Walk Are before after out0 out tally0 tally → Goes before after (does visitor true)
   does_walk Are before after out0 out tally0 tally walk = goes_so _ _ before after (λ old new went is. is.does) walk.goes
 
   -- a visit that stops after others stops these too, and so does memory that is refused
@@ -428,30 +433,30 @@ module _ {V L T : Type 0} (tells : V → List L → (out0 out : Device) → (tal
 
   -- a folder was listed, whatever is answered
   does_listed : {N : Type 0} (place : Path) (names : N → List Path) (result : Result N TreeFault) (before after : List Step → Type 0)
-      → Goes before after (ListsFolder place names result) → Goes before after (does visitor)
+      → Goes before after (ListsFolder place names result) → Goes before after (does visitor true)
   does_listed {N = N} place names result before after goes = goes_so _ _ before after (λ old new went lists. by result old new lists) goes
     where
-      same : (old new : List Step) → new ≡ old → does visitor old new
-      same old new is = subst (λ l. does visitor old l) (sym is) (laws.still visitor old)
+      same : (old new : List Step) → new ≡ old → does visitor true old new
+      same old new is = subst (λ l. does visitor true old l) (sym is) (laws.still visitor old)
 
-      by : (answer : Result N TreeFault) (old new : List Step) → ListsFolder place names answer old new → does visitor old new
+      by : (answer : Result N TreeFault) (old new : List Step) → ListsFolder place names answer old new → does visitor true old new
       by (Ok x) old new lists = same old new lists.0
       by (Err tree_fault.Memory) old new lists = same old new lists
       by (Err tree_fault.Failed) old new lists =
-          subst (λ l. does visitor old l) (sym (lists.2 ∙ ap (λ l. Failed ∷ l) lists.1)) (laws.unlisted visitor old place)
+          subst (λ l. does visitor true old l) (sym (lists.2 ∙ ap (λ l. Failed ∷ l) lists.1)) (laws.unlisted visitor old place)
 
   -- it was entered before, and then visited as one that has no list
-  pub does_entered : {N : Type 0} (place : Path) (names : N → List Path) (result : Result N TreeFault) (before one two after : List Step → Type 0)
-      → Goes before one (VisitDoes (does visitor) (listless visitor)) → Goes one two (ListsFolder place names result)
-      → Goes two after (VisitDoes (does visitor) (listless visitor)) → Goes before after (does visitor)
-  does_entered place names result before one two after enters lists visits =
-      does_then before two after (does_both before one two (does_visit before one enters) (does_listed place names result one two lists)) visits
+  pub does_entered : {N : Type 0} (goes_on : Bool) (place : Path) (names : N → List Path) (result : Result N TreeFault) (before one two after : List Step → Type 0)
+      → Goes before one (VisitDoes (does visitor true) (listless visitor)) → Goes one two (ListsFolder place names result)
+      → Goes two after (VisitDoes (does visitor goes_on) (listless visitor)) → Goes before after (does visitor goes_on)
+  does_entered goes_on place names result before one two after enters lists visits =
+      does_then goes_on before two after (does_both true before one two (does_visit true before one enters) (does_listed place names result one two lists)) visits
 
   -- it was entered before, and then listed
   pub does_opened : {N : Type 0} (place : Path) (names : N → List Path) (result : Result N TreeFault) (before one two : List Step → Type 0)
-      → Goes before one (VisitDoes (does visitor) (listless visitor)) → Goes one two (ListsFolder place names result) → Goes before two (does visitor)
+      → Goes before one (VisitDoes (does visitor true) (listless visitor)) → Goes one two (ListsFolder place names result) → Goes before two (does visitor true)
   does_opened place names result before one two enters lists =
-      does_both before one two (does_visit before one enters) (does_listed place names result one two lists)
+      does_both true before one two (does_visit true before one enters) (does_listed place names result one two lists)
 
   -- before the first folder that is asked for
   pub no_folder_yet : (before : List Step → Type 0) (out : Device) (tally : T) → Walk (OfFolders []) before before out out tally tally
@@ -469,11 +474,11 @@ module _ {V L T : Type 0} (tells : V → List L → (out0 out : Device) → (tal
       (OfFolders (taken ++ folder ∷ []))
       before mid after out0 out1 out tally0 tally1 tally
       (λ old middle new visits more done next are entries.
-      let there = entries_seen root (Moment new) (Moment new) old middle (earlier (does visitor) (laws.onward visitor) root old middle new done) levels folder.now more entries in
+      let there = entries_seen root (Moment new) (Moment new) old middle (earlier (does visitor true) (laws.onward visitor true) root old middle new done) levels folder.now more entries in
       let far = for_each_as (AreEntriesBelow (Moment middle) old root) (AreEntriesBelow (Moment new) old root) taken visits (λ item part is. (
         is.0,
         is.1,
-        entries_seen root (Moment middle) (Moment new) old old (later (does visitor) (laws.onward visitor) root old middle new next) (unwrap_or is.0 0) item.now part is.2,
+        entries_seen root (Moment middle) (Moment new) old old (later (does visitor true) (laws.onward visitor true) root old middle new next) (unwrap_or is.0 0) item.now part is.2,
       )) are in
       for_each_push (AreEntriesBelow (Moment new) old root) taken folder visits more far (depth, deep, subst (λ n. AreEntries (Moment new) old root n folder.now more) so_deep there))
       one two
@@ -482,7 +487,7 @@ module _ {V L T : Type 0} (tells : V → List L → (out0 out : Device) → (tal
   pub walked_folders : (folders : List (Bor Path)) (answer : Bool) → answer ≡ (length folders == 0) → answer ≡ false
       → (before after : List Step → Type 0) (out0 out : Device) (tally0 tally : T)
       → Walk (OfFolders folders) before after out0 out tally0 tally
-      → Walk (λ old new. AreEntriesBetween (does visitor) old new root folders) before after out0 out tally0 tally
+      → Walk (λ old new. AreEntriesBetween (does visitor true) old new root folders) before after out0 out tally0 tally
   walked_folders [] answer is some before after out0 out tally0 tally walk = absurd cc
   walked_folders (folder ∷ folders) answer is some before after out0 out tally0 tally walk = walk
 

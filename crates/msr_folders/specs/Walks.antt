@@ -1,5 +1,5 @@
 -- What a walk does, and what it tells.
-use Rattle.std.specs.Prelude.{◌≡◌, List, [], ◌∷◌, ◌++◌, Option, None, Some}
+use Rattle.std.specs.Prelude.{◌≡◌, Bool, true, false, List, [], ◌∷◌, ◌++◌, Option, None, Some}
 use Rattle.msr_devices.specs.Device.{Device, IsCalm}
 use Rattle.msr_devices.specs.declared.fault.DeviceFault.{DeviceFault}
 use Rattle.msr_devices.specs.declared.fault.DeviceFault.TheVariants.{Memory}
@@ -64,9 +64,10 @@ pub record TellsWalk {L T : Type 0} (Tells : List L → (out0 out : Device) → 
 
 -- What is told of visits that follow one another is told of all of them; a visit that stops after others stops these too,
 -- and if memory is refused none needs to be made. What is done one after another is done, a call that gives no list
--- included.
+-- included: by visits after which the walk goes on (`true`), up to the last, which may stop it. It may also stop where
+-- nothing more is done.
 pub record VisitLaws {V L T : Type 0} (tells : V → List L → (out0 out : Device) → (tally0 tally : T) → Type 0)
-    (stops : V → (out0 out : Device) → DeviceFault → Type 0) (does : V → (old new : List Step) → Type 0) : Type 0 where
+    (stops : V → (out0 out : Device) → DeviceFault → Type 0) (does : V → Bool → (old new : List Step) → Type 0) : Type 0 where
   pub calm : (visitor : V) (lines : List L) (out0 out : Device) (tally0 tally : T) → tells visitor lines out0 out tally0 tally
       → IsCalm out0 out
   pub none : (visitor : V) (out : Device) (tally : T) → tells visitor [] out out tally tally
@@ -76,9 +77,11 @@ pub record VisitLaws {V L T : Type 0} (tells : V → List L → (out0 out : Devi
   pub refused : (visitor : V) (out : Device) → stops visitor out out Memory
   pub later : (visitor : V) (lines : List L) (out0 out1 out : Device) (tally0 tally1 : T) (fault : DeviceFault)
       → tells visitor lines out0 out1 tally0 tally1 → stops visitor out1 out fault → stops visitor out0 out fault
-  pub still : (visitor : V) (past : List Step) → does visitor past past
-  pub onward : (visitor : V) (old mid new : List Step) → does visitor old mid → does visitor mid new → does visitor old new
-  pub unlisted : (visitor : V) (past : List Step) (folder : Path) → does visitor past (Failed ∷ Unlisted folder ∷ past)
+  pub still : (visitor : V) (past : List Step) → does visitor true past past
+  pub onward : (visitor : V) (goes_on : Bool) (old mid new : List Step) → does visitor true old mid → does visitor goes_on mid new
+      → does visitor goes_on old new
+  pub ends : (visitor : V) (old new : List Step) → does visitor true old new → does visitor false old new
+  pub unlisted : (visitor : V) (past : List Step) (folder : Path) → does visitor true past (Failed ∷ Unlisted folder ∷ past)
 
 -- it holds whichever of these the steps so far are
 abbrev pub HoldsAt : (went Holds : List Step → Type 0) → Type 0

@@ -1,5 +1,5 @@
 //! The walk through the folders of a tree, in the order of the names.
-ghost use Rattle.std.specs.Prelude.{◌≡◌, List, IfErr, IfOk, OnOk};
+ghost use Rattle.std.specs.Prelude.{◌≡◌, Bool, true, List, IfErr, IfOk, OnOk, is_ok};
 ghost use Rattle.msr_devices.specs.Device.{CanCountCall, Device};
 ghost use Rattle.msr_devices.specs.declared.fault.DeviceFault.{DeviceFault};
 ghost use Rattle.msr_tree.specs.Calls.{Goes};
@@ -36,8 +36,8 @@ pub trait EntryVisitor {
     /// What lines say of a visit that is made between these moments.
     ghost says: { Self → List Step → List Step → Visit → List Line → Type 0 };
 
-    /// What is done to the tree.
-    ghost does: { Self → List Step → List Step → Type 0 };
+    /// What is done to the tree, by visits after which the walk goes on (`true`), or the last of which stops it.
+    ghost does: { Self → Bool → List Step → List Step → Type 0 };
 
     /// No visit lists a folder.
     ghost listless: { Self → Type 0 };
@@ -59,10 +59,10 @@ pub trait EntryVisitor {
     ) -> Result<Option<Self::Folder>, DeviceFault>
         requires count { CanCountCall (O.device out.old) }
         requires holds { HoldsAt (T.went tree.old) (holds self.now tally.old) }
-        ensures told { IfOk result (λ entered. TellsEntering (tells self.now) (says self.now) (does self.now) (listless self.now)
+        ensures told { IfOk result (λ entered. TellsEntering (tells self.now) (says self.now) (does self.now true) (listless self.now)
             folder.now entered (T.went tree.old) (T.went tree.new) (O.device out.old) (O.device out.new) tally.old tally.new) }
         ensures stops { IfErr result (stops self.now (O.device out.old) (O.device out.new)) }
-        ensures does { Goes (T.went tree.old) (T.went tree.new) (VisitDoes (does self.now) (listless self.now)) }
+        ensures does { Goes (T.went tree.old) (T.went tree.new) (VisitDoes (does self.now (is_ok result)) (listless self.now)) }
         ensures holds { HoldsAt (T.went tree.new) (holds self.now tally.new) };
 
     /// Handles an entry that is no folder of the walk.
@@ -77,10 +77,10 @@ pub trait EntryVisitor {
     ) -> Result<(), DeviceFault>
         requires count { CanCountCall (O.device out.old) }
         requires holds { HoldsAt (T.went tree.old) (holds self.now tally.old) }
-        ensures told { OnOk result (TellsVisit (tells self.now) (says self.now) (does self.now) (listless self.now) (Entry path.now kind)
+        ensures told { OnOk result (TellsVisit (tells self.now) (says self.now) (does self.now true) (listless self.now) (Entry path.now kind)
             (T.went tree.old) (T.went tree.new) (O.device out.old) (O.device out.new) tally.old tally.new) }
         ensures stops { IfErr result (stops self.now (O.device out.old) (O.device out.new)) }
-        ensures does { Goes (T.went tree.old) (T.went tree.new) (VisitDoes (does self.now) (listless self.now)) }
+        ensures does { Goes (T.went tree.old) (T.went tree.new) (VisitDoes (does self.now (is_ok result)) (listless self.now)) }
         ensures holds { HoldsAt (T.went tree.new) (holds self.now tally.new) };
 
     /// Handles a folder that has no list, and stands in that place.
@@ -95,10 +95,10 @@ pub trait EntryVisitor {
         requires count { CanCountCall (O.device out.old) }
         requires place { place.now ≡ joined (root self.now) folder.now }
         requires holds { HoldsAt (T.went tree.old) (holds self.now tally.old) }
-        ensures told { OnOk result (TellsVisit (tells self.now) (says self.now) (does self.now) (listless self.now) (WithoutList folder.now)
+        ensures told { OnOk result (TellsVisit (tells self.now) (says self.now) (does self.now true) (listless self.now) (WithoutList folder.now)
             (T.went tree.old) (T.went tree.new) (O.device out.old) (O.device out.new) tally.old tally.new) }
         ensures stops { IfErr result (stops self.now (O.device out.old) (O.device out.new)) }
-        ensures does { Goes (T.went tree.old) (T.went tree.new) (VisitDoes (does self.now) (listless self.now)) }
+        ensures does { Goes (T.went tree.old) (T.went tree.new) (VisitDoes (does self.now (is_ok result)) (listless self.now)) }
         ensures holds { HoldsAt (T.went tree.new) (holds self.now tally.new) };
 
     /// Ends with a folder whose entries were visited.
@@ -112,10 +112,10 @@ pub trait EntryVisitor {
     ) -> Result<(), DeviceFault>
         requires count { CanCountCall (O.device out.old) }
         requires holds { HoldsAt (T.went tree.old) (holds self.now tally.old) }
-        ensures told { OnOk result (TellsVisit (tells self.now) (says self.now) (does self.now) (listless self.now) (Left folder.now)
+        ensures told { OnOk result (TellsVisit (tells self.now) (says self.now) (does self.now true) (listless self.now) (Left folder.now)
             (T.went tree.old) (T.went tree.new) (O.device out.old) (O.device out.new) tally.old tally.new) }
         ensures stops { IfErr result (stops self.now (O.device out.old) (O.device out.new)) }
-        ensures does { Goes (T.went tree.old) (T.went tree.new) (VisitDoes (does self.now) (listless self.now)) }
+        ensures does { Goes (T.went tree.old) (T.went tree.new) (VisitDoes (does self.now (is_ok result)) (listless self.now)) }
         ensures holds { HoldsAt (T.went tree.new) (holds self.now tally.new) };
 
     ghost laws: { VisitLaws tells stops does };
@@ -164,10 +164,10 @@ impl<V: EntryVisitor> EntryWalk<'_, V> {
         requires root { V.root self.now.visitor.now ≡ self.now.root.now }
         requires holds { HoldsAt (T.went tree.old) (V.holds self.now.visitor.now tally.old) }
         ensures told { IfOk result (λ opened. OpensFolder (V.tells self.now.visitor.now) (V.says self.now.visitor.now)
-            (V.does self.now.visitor.now) (V.listless self.now.visitor.now) self.now.root.now levels folder.now opened
+            (V.does self.now.visitor.now true) (V.listless self.now.visitor.now) self.now.root.now levels folder.now opened
             (T.went tree.old) (T.went tree.new) (O.device out.old) (O.device out.new) tally.old tally.new) }
         ensures stops { IfErr result (V.stops self.now.visitor.now (O.device out.old) (O.device out.new)) }
-        ensures does { Goes (T.went tree.old) (T.went tree.new) (V.does self.now.visitor.now) }
+        ensures does { Goes (T.went tree.old) (T.went tree.new) (V.does self.now.visitor.now (is_ok result)) }
         ensures holds { HoldsAt (T.went tree.new) (V.holds self.now.visitor.now tally.new) }
     {
         let Some(entered) = self.visitor.enter_folder(tree, folder, levels, out, tally)? else {
@@ -200,11 +200,11 @@ impl<V: EntryVisitor> EntryWalk<'_, V> {
         requires root { V.root self.now.visitor.now ≡ self.now.root.now }
         requires holds { HoldsAt (T.went tree.old) (V.holds self.now.visitor.now tally.old) }
         ensures told { OnOk result (TellsWalk (V.tells self.now.visitor.now) (V.says self.now.visitor.now)
-            (V.does self.now.visitor.now) (V.listless self.now.visitor.now) self.now.root.now
-            (λ past new. AreOfEntry (IsMoment (V.does self.now.visitor.now) new) past self.now.root.now levels path.now)
+            (V.does self.now.visitor.now true) (V.listless self.now.visitor.now) self.now.root.now
+            (λ past new. AreOfEntry (IsMoment (V.does self.now.visitor.now true) new) past self.now.root.now levels path.now)
             (T.went tree.old) (T.went tree.new) (O.device out.old) (O.device out.new) tally.old tally.new) }
         ensures stops { IfErr result (V.stops self.now.visitor.now (O.device out.old) (O.device out.new)) }
-        ensures does { Goes (T.went tree.old) (T.went tree.new) (V.does self.now.visitor.now) }
+        ensures does { Goes (T.went tree.old) (T.went tree.new) (V.does self.now.visitor.now (is_ok result)) }
         ensures holds { HoldsAt (T.went tree.new) (V.holds self.now.visitor.now tally.new) }
     {
         let kind = kind_at(self.alloc, &*tree, self.root, path, levels)?;
@@ -229,11 +229,11 @@ impl<V: EntryVisitor> EntryWalk<'_, V> {
         requires root { V.root self.now.visitor.now ≡ self.now.root.now }
         requires holds { HoldsAt (T.went tree.old) (V.holds self.now.visitor.now tally.old) }
         ensures told { OnOk result (TellsWalk (V.tells self.now.visitor.now) (V.says self.now.visitor.now)
-            (V.does self.now.visitor.now) (V.listless self.now.visitor.now) self.now.root.now
-            (λ past new. AreEntries (IsMoment (V.does self.now.visitor.now) new) past self.now.root.now levels folder.now)
+            (V.does self.now.visitor.now true) (V.listless self.now.visitor.now) self.now.root.now
+            (λ past new. AreEntries (IsMoment (V.does self.now.visitor.now true) new) past self.now.root.now levels folder.now)
             (T.went tree.old) (T.went tree.new) (O.device out.old) (O.device out.new) tally.old tally.new) }
         ensures stops { IfErr result (V.stops self.now.visitor.now (O.device out.old) (O.device out.new)) }
-        ensures does { Goes (T.went tree.old) (T.went tree.new) (V.does self.now.visitor.now) }
+        ensures does { Goes (T.went tree.old) (T.went tree.new) (V.does self.now.visitor.now (is_ok result)) }
         ensures holds { HoldsAt (T.went tree.new) (V.holds self.now.visitor.now tally.new) }
     {
         let Some(opened) = self.open_folder(tree, folder, levels, out, tally)? else {
@@ -258,11 +258,11 @@ pub fn visit_entries<T: Tree, V: EntryVisitor, O: Sink>(
     requires root { V.root walk.now.visitor.now ≡ walk.now.root.now }
     requires holds { HoldsAt (T.went tree.old) (V.holds walk.now.visitor.now tally.old) }
     ensures told { OnOk result (TellsWalk (V.tells walk.now.visitor.now) (V.says walk.now.visitor.now)
-        (V.does walk.now.visitor.now) (V.listless walk.now.visitor.now) walk.now.root.now
-        (λ past new. AreEntriesBetween (V.does walk.now.visitor.now) past new walk.now.root.now walk.now.below.now)
+        (V.does walk.now.visitor.now true) (V.listless walk.now.visitor.now) walk.now.root.now
+        (λ past new. AreEntriesBetween (V.does walk.now.visitor.now true) past new walk.now.root.now walk.now.below.now)
         (T.went tree.old) (T.went tree.new) (O.device out.old) (O.device out.new) tally.old tally.new) }
     ensures stops { IfErr result (V.stops walk.now.visitor.now (O.device out.old) (O.device out.new)) }
-    ensures does { Goes (T.went tree.old) (T.went tree.new) (V.does walk.now.visitor.now) }
+    ensures does { Goes (T.went tree.old) (T.went tree.new) (V.does walk.now.visitor.now (is_ok result)) }
     ensures holds { HoldsAt (T.went tree.new) (V.holds walk.now.visitor.now tally.new) }
 {
     if walk.below.is_empty() {

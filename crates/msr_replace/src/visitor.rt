@@ -296,7 +296,7 @@ where
 
     ghost says = { λ replacer. IsSaid replacer.course replacer.work };
 
-    ghost does = { λ _. ComesAfter };
+    ghost does = { λ _ _. ComesAfter };
 
     ghost listless = { λ _. ⊥ };
 

@@ -134,7 +134,7 @@ impl EntryVisitor for Trier<'_> {
 
     ghost says = { λ trier. IsTrialOfVisit trier.asked.now.root.now trier.asked.now.days };
 
-    ghost does = { λ _. OnlyReads };
+    ghost does = { λ _ _. OnlyReads };
 
     ghost holds = { λ _ _ _. Unit {0} };
 

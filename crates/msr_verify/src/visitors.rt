@@ -87,7 +87,7 @@ impl EntryVisitor for Judging<'_> {
 
     ghost says = { λ judging. IsToldOfRoot judging.archive.now.known (names_asked judging.archive.now.names) judging.archive.now.folders.root.now judging.archive.now.folders.out.now judging.archive.now.folders.reports.now };
 
-    ghost does = { λ _. OnlyReads };
+    ghost does = { λ _ _. OnlyReads };
 
     ghost holds = { λ _ _ _. Unit {0} };
 
@@ -202,7 +202,7 @@ impl EntryVisitor for Searching<'_> {
 
     ghost says = { λ searching. IsToldOfOut searching.archive.now.known searching.archive.now.folders.root.now searching.archive.now.folders.out.now };
 
-    ghost does = { λ _. OnlyReads };
+    ghost does = { λ _ _. OnlyReads };
 
     ghost holds = { λ _ _ _. Unit {0} };
 

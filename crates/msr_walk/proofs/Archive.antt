@@ -84,7 +84,7 @@ told_and_left tally archive apart below before mid after out0 out of0 of1 of is 
     subst (λ b. TellsVisits (TellsOutcomesOf tally archive) says (ChangesWithin outf reports) (Unit {0}) root (λ past new. AreEntriesOf past root b) before after out0 out of0 of) is
     (walk_as (TellsOutcomesOf tally archive) says (ChangesDays archive) (ChangesWithin outf reports) (Unit {0}) root (λ past new. AreEntriesOf past root below) before after out0 out of0 of
     (λ old new changes. changes.within)
-    (walk_left {V = Unit {0}} (λ v. TellsOutcomesOf tally archive) (λ v. StopsTellingOutcomes archive) (λ v. says) (λ v. ChangesDays archive) (λ v. Unit {0})
+    (walk_left {V = Unit {0}} (λ v. TellsOutcomesOf tally archive) (λ v. StopsTellingOutcomes archive) (λ v. says) (λ v goes_on. ChangesDays archive) (λ v. Unit {0})
     (days_laws {V = Unit {0}} (λ v. IsEntry archive) (λ v. IsEntryLine archive) (λ entries counted. IsTally entries (tally counted)) (λ v. archive) (λ v. separate archive.folders apart))
     tt root (λ past new. AreEntriesOf past root below) before mid after out0 out of0 of1 of (λ old middle new visits are. are)
     (tells_now (TellsOutcomesOf tally archive) says (ChangesDays archive) (Unit {0}) root below before mid out0 out of0 of1

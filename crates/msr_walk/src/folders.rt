@@ -293,7 +293,7 @@ impl<'a, C: Claims> EntryVisitor for Walker<'a, C> {
 
     ghost says = { λ walker. IsToldOfVisit walker.archive.now.folders.root.now walker.archive.now.folders.out.now walker.archive.now.folders.reports.now walker.archive.now };
 
-    ghost does = { λ walker. ChangesDays walker.archive.now };
+    ghost does = { λ walker _. ChangesDays walker.archive.now };
 
     ghost holds = { λ walker progress past. AllWaitWithin walker.archive.now.folders.reports.now progress.batch.days.items };
 

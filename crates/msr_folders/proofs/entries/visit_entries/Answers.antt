@@ -1,4 +1,4 @@
-use Rattle.std.proofs.Common.{◌≡◌, ◌+◌, ◌++◌, ◌∙◌, List, ℕ, [], ◌∷◌, sym, ap, subst, take, get_or, length, arith}
+use Rattle.std.proofs.Common.{◌≡◌, ◌+◌, ◌++◌, ◌∙◌, false, true, List, ℕ, [], ◌∷◌, sym, ap, subst, take, get_or, length, arith}
 use Rattle.std.proofs.Math.Seq.{take-length}
 use Rattle.std.proofs.lemmas.List.{take_more}
 use Rattle.std.proofs.lemmas.Result.{err_from_is_err_and}
@@ -15,7 +15,7 @@ returns-then-is_empty-clause-told g c =
     let root : Path = c.args.walk.now.root.now in
     let none : c.args.walk.now.below.now ≡ [] = is_nothing c.args.walk.now.below.now c.is_empty.result c.is_empty.ensures c.if-is_empty.true in
     on_ok_as c.visit_folder.result (λ told. subst (λ folders. TellsWalk (g.V.EntryVisitor.tells visitor) (g.V.EntryVisitor.says visitor)
-    (g.V.EntryVisitor.does visitor) (g.V.EntryVisitor.listless visitor) root (λ past new. AreEntriesBetween (g.V.EntryVisitor.does visitor) past new root folders)
+    (g.V.EntryVisitor.does visitor true) (g.V.EntryVisitor.listless visitor) root (λ past new. AreEntriesBetween (g.V.EntryVisitor.does visitor true) past new root folders)
     (g.T.Tree.went c.args.tree.now) (g.T.Tree.went c.visit_folder.new.tree)
     (g.O.Sink.device c.args.out.now) (g.O.Sink.device c.visit_folder.new.out) c.args.tally.now c.visit_folder.new.tally) (sym none) told)
     c.visit_folder.ensures.told
@@ -68,21 +68,22 @@ returns-in_err-visit_folder-clause-stops g c =
     let p = err_from_is_err_and c.from_residual.result c.from_residual.ensures.1 in
     rw (p.1, p.2) (stops_later g.V.EntryVisitor.tells g.V.EntryVisitor.stops g.V.EntryVisitor.says g.V.EntryVisitor.does g.V.EntryVisitor.listless
     g.met.V.EntryVisitor.laws c.args.walk.now.visitor.now c.args.walk.now.root.now
-    (λ past new. ForEach (AreEntriesBelow (IsMoment (g.V.EntryVisitor.does c.args.walk.now.visitor.now) new) past c.args.walk.now.root.now) (take c.loop-folder.folder-index c.args.walk.now.below.now))
+    (λ past new. ForEach (AreEntriesBelow (IsMoment (g.V.EntryVisitor.does c.args.walk.now.visitor.now true) new) past c.args.walk.now.root.now) (take c.loop-folder.folder-index c.args.walk.now.below.now))
     (g.T.Tree.went c.args.tree.now) (g.T.Tree.went c.loop-folder.tree) (g.O.Sink.device c.args.out.now) (g.O.Sink.device c.loop-folder.out)
     (g.O.Sink.device c.visit_folder-in-loop-folder.new.out) c.args.tally.now c.loop-folder.tally c.loop-folder.invariant.visited _ c.in_err-visit_folder.ensures.stops)
 
 pub returns-in_err-visit_folder-clause-does : goal.returns-in_err-visit_folder-clause-does
 returns-in_err-visit_folder-clause-does g c =
-    does_both g.V.EntryVisitor.tells g.V.EntryVisitor.stops g.V.EntryVisitor.says g.V.EntryVisitor.does g.V.EntryVisitor.listless
-    g.met.V.EntryVisitor.laws c.args.walk.now.visitor.now c.args.walk.now.root.now
+    let p = err_from_is_err_and c.from_residual.result c.from_residual.ensures.1 in
+    rw p.1 (does_both g.V.EntryVisitor.tells g.V.EntryVisitor.stops g.V.EntryVisitor.says g.V.EntryVisitor.does g.V.EntryVisitor.listless
+    g.met.V.EntryVisitor.laws c.args.walk.now.visitor.now c.args.walk.now.root.now false
     (g.T.Tree.went c.args.tree.now) (g.T.Tree.went c.loop-folder.tree) (g.T.Tree.went c.visit_folder-in-loop-folder.new.tree)
     (does_walk g.V.EntryVisitor.tells g.V.EntryVisitor.stops g.V.EntryVisitor.says g.V.EntryVisitor.does g.V.EntryVisitor.listless
     g.met.V.EntryVisitor.laws c.args.walk.now.visitor.now c.args.walk.now.root.now
-    (λ past new. ForEach (AreEntriesBelow (IsMoment (g.V.EntryVisitor.does c.args.walk.now.visitor.now) new) past c.args.walk.now.root.now) (take c.loop-folder.folder-index c.args.walk.now.below.now))
+    (λ past new. ForEach (AreEntriesBelow (IsMoment (g.V.EntryVisitor.does c.args.walk.now.visitor.now true) new) past c.args.walk.now.root.now) (take c.loop-folder.folder-index c.args.walk.now.below.now))
     (g.T.Tree.went c.args.tree.now) (g.T.Tree.went c.loop-folder.tree) (g.O.Sink.device c.args.out.now) (g.O.Sink.device c.loop-folder.out)
     c.args.tally.now c.loop-folder.tally c.loop-folder.invariant.visited)
-    c.visit_folder-in-loop-folder.ensures.does
+    c.in_err-visit_folder.ensures.does)
 
 pub returns-in_err-visit_folder-clause-holds : goal.returns-in_err-visit_folder-clause-holds
 returns-in_err-visit_folder-clause-holds g c = c.visit_folder-in-loop-folder.ensures.holds
@@ -97,8 +98,8 @@ returns-clause-told g c =
     (g.T.Tree.went c.args.tree.now) (g.T.Tree.went c.loop-folder.tree) (g.O.Sink.device c.args.out.now) (g.O.Sink.device c.loop-folder.out)
     c.args.tally.now c.loop-folder.tally
     (subst (λ some. TellsWalk (g.V.EntryVisitor.tells c.args.walk.now.visitor.now) (g.V.EntryVisitor.says c.args.walk.now.visitor.now)
-    (g.V.EntryVisitor.does c.args.walk.now.visitor.now) (g.V.EntryVisitor.listless c.args.walk.now.visitor.now) c.args.walk.now.root.now
-    (λ past new. ForEach (AreEntriesBelow (IsMoment (g.V.EntryVisitor.does c.args.walk.now.visitor.now) new) past c.args.walk.now.root.now) some)
+    (g.V.EntryVisitor.does c.args.walk.now.visitor.now true) (g.V.EntryVisitor.listless c.args.walk.now.visitor.now) c.args.walk.now.root.now
+    (λ past new. ForEach (AreEntriesBelow (IsMoment (g.V.EntryVisitor.does c.args.walk.now.visitor.now true) new) past c.args.walk.now.root.now) some)
     (g.T.Tree.went c.args.tree.now) (g.T.Tree.went c.loop-folder.tree) (g.O.Sink.device c.args.out.now) (g.O.Sink.device c.loop-folder.out)
     c.args.tally.now c.loop-folder.tally) all c.loop-folder.invariant.visited)
 
@@ -106,7 +107,7 @@ pub returns-clause-does : goal.returns-clause-does
 returns-clause-does g c =
     does_walk g.V.EntryVisitor.tells g.V.EntryVisitor.stops g.V.EntryVisitor.says g.V.EntryVisitor.does g.V.EntryVisitor.listless
     g.met.V.EntryVisitor.laws c.args.walk.now.visitor.now c.args.walk.now.root.now
-    (λ past new. ForEach (AreEntriesBelow (IsMoment (g.V.EntryVisitor.does c.args.walk.now.visitor.now) new) past c.args.walk.now.root.now) (take c.loop-folder.folder-index c.args.walk.now.below.now))
+    (λ past new. ForEach (AreEntriesBelow (IsMoment (g.V.EntryVisitor.does c.args.walk.now.visitor.now true) new) past c.args.walk.now.root.now) (take c.loop-folder.folder-index c.args.walk.now.below.now))
     (g.T.Tree.went c.args.tree.now) (g.T.Tree.went c.loop-folder.tree) (g.O.Sink.device c.args.out.now) (g.O.Sink.device c.loop-folder.out)
     c.args.tally.now c.loop-folder.tally c.loop-folder.invariant.visited
 

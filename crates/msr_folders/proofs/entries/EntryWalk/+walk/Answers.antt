@@ -1,8 +1,8 @@
-use Rattle.std.proofs.Common.{◌≡◌, ◌≢◌, ◌<◌, ◌+◌, ◌++◌, ◌∙◌, List, ℕ, [], ◌∷◌, sym, ap, subst, take, get_or, length, arith, rules}
+use Rattle.std.proofs.Common.{◌≡◌, ◌≢◌, ◌<◌, ◌+◌, ◌++◌, ◌∙◌, false, true, List, ℕ, [], ◌∷◌, sym, ap, subst, take, get_or, length, arith, rules}
 use Rattle.std.proofs.lemmas.List.{length-map, take_more}
 use Rattle.std.proofs.Math.Seq.{take-length}
 use Rattle.std.proofs.lemmas.Result.{err_from_is_err_and}
-use Rattle.std.specs.Prelude.{string_bytes}
+use Rattle.std.specs.Prelude.{is_ok, string_bytes}
 use Rattle.msr_devices.specs.declared.fault.DeviceFault.TheVariants.{Memory}
 use Rattle.msr_tree.specs.Listing.{listed}
 use Rattle.msr_tree.specs.Steps.{Path}
@@ -11,7 +11,7 @@ use Rattle.msr_folders.specs.Entries.{AreOfEntry, IsMoment}
 use Rattle.msr_folders.specs.Opening.{AreSoFar}
 use Rattle.msr_folders.specs.Paths.{below}
 use Rattle.msr_folders.specs.Walks.{TellsWalk}
-use Rattle.msr_folders.proofs.WalkedLemmas.{all_names, does_both, does_then, does_visit, does_walk, goes_none, if_err_as, name_at, next_entry, next_folder, next_name, on_ok_as, stops_later, told_can_count}
+use Rattle.msr_folders.proofs.WalkedLemmas.{all_names, does_both, does_end, does_then, does_visit, does_walk, goes_none, if_err_as, name_at, next_entry, next_folder, next_name, on_ok_as, stops_later, told_can_count}
 use Rattle.msr_folders.proofs.entries.EntryWalk.+walk.Goals as goal
 
 pub visit_path-returns-then-eq-clause-told : goal.visit_path-returns-then-eq-clause-told
@@ -33,7 +33,7 @@ visit_path-returns-clause-told g t c =
 pub visit_path-returns-clause-does : goal.visit_path-returns-clause-does
 visit_path-returns-clause-does g t c =
     does_visit g.V.EntryVisitor.tells g.V.EntryVisitor.stops g.V.EntryVisitor.says g.V.EntryVisitor.does
-    g.V.EntryVisitor.listless g.met.V.EntryVisitor.laws c.args.self.now.visitor.now c.args.self.now.root.now
+    g.V.EntryVisitor.listless g.met.V.EntryVisitor.laws c.args.self.now.visitor.now c.args.self.now.root.now (is_ok c.visit_entry.result)
     (g.T.Tree.went c.args.tree.now) (g.T.Tree.went c.visit_entry.new.tree) c.visit_entry.ensures.does
 
 pub visit_folder-returns-in_default-clause-told : goal.visit_folder-returns-in_default-clause-told
@@ -45,8 +45,8 @@ visit_folder-loop-name-init g t c =
     let root : Path = c.args.self.now.root.now in
     let opened = rw c.in-Some.is at c.in_ok-opened.ensures.told in
     record {
-      visited = subst (λ items. TellsWalk (g.V.EntryVisitor.tells visitor) (g.V.EntryVisitor.says visitor) (g.V.EntryVisitor.does visitor) (g.V.EntryVisitor.listless visitor) root
-          (λ past new. AreSoFar (IsMoment (g.V.EntryVisitor.does visitor) new) root c.args.levels c.args.folder.now (listed items) [] past)
+      visited = subst (λ items. TellsWalk (g.V.EntryVisitor.tells visitor) (g.V.EntryVisitor.says visitor) (g.V.EntryVisitor.does visitor true) (g.V.EntryVisitor.listless visitor) root
+          (λ past new. AreSoFar (IsMoment (g.V.EntryVisitor.does visitor true) new) root c.args.levels c.args.folder.now (listed items) [] past)
           (g.T.Tree.went c.args.tree.now) (g.T.Tree.went c.open_folder.new.tree)
           (g.O.Sink.device c.args.out.now) (g.O.Sink.device c.open_folder.new.out) c.args.tally.now c.open_folder.new.tally)
           (sym c.deref-name-items.ensures.value) opened;
@@ -71,8 +71,8 @@ visit_folder-loop-name-preserved g t c =
     let named : name ≡ string_bytes c.name-item.result = name_at items i c.name-item.result c.loop-name-test.true (sym c.name-item.is) in
     let path : c.as_str-in-loop-name.result.now ≡ below folder name =
     c.as_str-in-loop-name.ensures.value ∙ (c.in_ok-path.ensures ∙ ap (λ n. below folder n) (c.as_str.ensures.value ∙ sym named)) in
-    let visited = subst (λ p. TellsWalk (g.V.EntryVisitor.tells visitor) (g.V.EntryVisitor.says visitor) (g.V.EntryVisitor.does visitor) (g.V.EntryVisitor.listless visitor) root
-    (λ past new. AreOfEntry (IsMoment (g.V.EntryVisitor.does visitor) new) past root levels p) (g.T.Tree.went c.loop-name.tree) (g.T.Tree.went c.visit_path.new.tree)
+    let visited = subst (λ p. TellsWalk (g.V.EntryVisitor.tells visitor) (g.V.EntryVisitor.says visitor) (g.V.EntryVisitor.does visitor true) (g.V.EntryVisitor.listless visitor) root
+    (λ past new. AreOfEntry (IsMoment (g.V.EntryVisitor.does visitor true) new) past root levels p) (g.T.Tree.went c.loop-name.tree) (g.T.Tree.went c.visit_path.new.tree)
     (g.O.Sink.device c.loop-name.out) (g.O.Sink.device c.visit_path.new.out) c.loop-name.tally c.visit_path.new.tally) path c.in_ok-visit_path.ensures.told in
     record {
       visited = rw one_more (next_name g.V.EntryVisitor.tells g.V.EntryVisitor.stops g.V.EntryVisitor.says g.V.EntryVisitor.does
@@ -101,8 +101,8 @@ visit_folder-returns-clause-told g t c =
     (g.T.Tree.went c.args.tree.now) (g.T.Tree.went c.loop-name.tree) (g.T.Tree.went c.leave_folder.new.tree)
     (g.O.Sink.device c.args.out.now) (g.O.Sink.device c.loop-name.out) (g.O.Sink.device c.leave_folder.new.out)
     c.args.tally.now c.loop-name.tally c.leave_folder.new.tally
-    (subst (λ taken. TellsWalk (g.V.EntryVisitor.tells visitor) (g.V.EntryVisitor.says visitor) (g.V.EntryVisitor.does visitor) (g.V.EntryVisitor.listless visitor) root
-    (λ past new. AreSoFar (IsMoment (g.V.EntryVisitor.does visitor) new) root levels folder names taken past) (g.T.Tree.went c.args.tree.now) (g.T.Tree.went c.loop-name.tree)
+    (subst (λ taken. TellsWalk (g.V.EntryVisitor.tells visitor) (g.V.EntryVisitor.says visitor) (g.V.EntryVisitor.does visitor true) (g.V.EntryVisitor.listless visitor) root
+    (λ past new. AreSoFar (IsMoment (g.V.EntryVisitor.does visitor true) new) root levels folder names taken past) (g.T.Tree.went c.args.tree.now) (g.T.Tree.went c.loop-name.tree)
     (g.O.Sink.device c.args.out.now) (g.O.Sink.device c.loop-name.out) c.args.tally.now c.loop-name.tally) all c.loop-name.invariant.visited) left)
     c.leave_folder.ensures.told
 
@@ -111,11 +111,11 @@ visit_folder-returns-clause-does g t c =
     let visitor = c.args.self.now.visitor.now in
     let root : Path = c.args.self.now.root.now in
     does_then g.V.EntryVisitor.tells g.V.EntryVisitor.stops g.V.EntryVisitor.says g.V.EntryVisitor.does
-    g.V.EntryVisitor.listless g.met.V.EntryVisitor.laws visitor root
+    g.V.EntryVisitor.listless g.met.V.EntryVisitor.laws visitor root (is_ok c.leave_folder.result)
     (g.T.Tree.went c.args.tree.now) (g.T.Tree.went c.loop-name.tree) (g.T.Tree.went c.leave_folder.new.tree)
     (does_walk g.V.EntryVisitor.tells g.V.EntryVisitor.stops g.V.EntryVisitor.says g.V.EntryVisitor.does
     g.V.EntryVisitor.listless g.met.V.EntryVisitor.laws visitor root
-    (λ past new. AreSoFar (IsMoment (g.V.EntryVisitor.does visitor) new) root c.args.levels c.args.folder.now
+    (λ past new. AreSoFar (IsMoment (g.V.EntryVisitor.does visitor true) new) root c.args.levels c.args.folder.now
     (listed c.deref-name-items.result.now) (take c.loop-name.name-index (listed c.deref-name-items.result.now)) past)
     (g.T.Tree.went c.args.tree.now) (g.T.Tree.went c.loop-name.tree)
     (g.O.Sink.device c.args.out.now) (g.O.Sink.device c.loop-name.out) c.args.tally.now c.loop-name.tally c.loop-name.invariant.visited)
@@ -125,7 +125,7 @@ pub visit_folder-returns-clause-stops : goal.visit_folder-returns-clause-stops
 visit_folder-returns-clause-stops g t c =
     if_err_as c.leave_folder.result (stops_later g.V.EntryVisitor.tells g.V.EntryVisitor.stops g.V.EntryVisitor.says g.V.EntryVisitor.does
     g.V.EntryVisitor.listless g.met.V.EntryVisitor.laws c.args.self.now.visitor.now c.args.self.now.root.now
-    (λ past new. AreSoFar (IsMoment (g.V.EntryVisitor.does c.args.self.now.visitor.now) new) c.args.self.now.root.now c.args.levels c.args.folder.now
+    (λ past new. AreSoFar (IsMoment (g.V.EntryVisitor.does c.args.self.now.visitor.now true) new) c.args.self.now.root.now c.args.levels c.args.folder.now
     (listed c.deref-name-items.result.now) (take c.loop-name.name-index (listed c.deref-name-items.result.now)) past)
     (g.T.Tree.went c.args.tree.now) (g.T.Tree.went c.loop-name.tree)
     (g.O.Sink.device c.args.out.now) (g.O.Sink.device c.loop-name.out) (g.O.Sink.device c.leave_folder.new.out) c.args.tally.now c.loop-name.tally
@@ -150,7 +150,7 @@ visit_folder-returns-in_err-path-clause-stops g t c =
     let p = err_from_is_err_and c.from_residual-in_err-path.result c.from_residual-in_err-path.ensures.1 in
     rw (p.1, p.2) (stops_later g.V.EntryVisitor.tells g.V.EntryVisitor.stops g.V.EntryVisitor.says g.V.EntryVisitor.does
     g.V.EntryVisitor.listless g.met.V.EntryVisitor.laws c.args.self.now.visitor.now c.args.self.now.root.now
-    (λ past new. AreSoFar (IsMoment (g.V.EntryVisitor.does c.args.self.now.visitor.now) new) c.args.self.now.root.now c.args.levels c.args.folder.now
+    (λ past new. AreSoFar (IsMoment (g.V.EntryVisitor.does c.args.self.now.visitor.now true) new) c.args.self.now.root.now c.args.levels c.args.folder.now
     (listed c.deref-name-items.result.now) (take c.loop-name.name-index (listed c.deref-name-items.result.now)) past)
     (g.T.Tree.went c.args.tree.now) (g.T.Tree.went c.loop-name.tree)
     (g.O.Sink.device c.args.out.now) (g.O.Sink.device c.loop-name.out) (g.O.Sink.device c.loop-name.out) c.args.tally.now c.loop-name.tally
@@ -158,12 +158,16 @@ visit_folder-returns-in_err-path-clause-stops g t c =
 
 pub visit_folder-returns-in_err-path-clause-does : goal.visit_folder-returns-in_err-path-clause-does
 visit_folder-returns-in_err-path-clause-does g t c =
-    does_walk g.V.EntryVisitor.tells g.V.EntryVisitor.stops g.V.EntryVisitor.says g.V.EntryVisitor.does
+    let p = err_from_is_err_and c.from_residual-in_err-path.result c.from_residual-in_err-path.ensures.1 in
+    rw p.1 (does_end g.V.EntryVisitor.tells g.V.EntryVisitor.stops g.V.EntryVisitor.says g.V.EntryVisitor.does
     g.V.EntryVisitor.listless g.met.V.EntryVisitor.laws c.args.self.now.visitor.now c.args.self.now.root.now
-    (λ past new. AreSoFar (IsMoment (g.V.EntryVisitor.does c.args.self.now.visitor.now) new) c.args.self.now.root.now c.args.levels c.args.folder.now
+    (g.T.Tree.went c.args.tree.now) (g.T.Tree.went c.loop-name.tree)
+    (does_walk g.V.EntryVisitor.tells g.V.EntryVisitor.stops g.V.EntryVisitor.says g.V.EntryVisitor.does
+    g.V.EntryVisitor.listless g.met.V.EntryVisitor.laws c.args.self.now.visitor.now c.args.self.now.root.now
+    (λ past new. AreSoFar (IsMoment (g.V.EntryVisitor.does c.args.self.now.visitor.now true) new) c.args.self.now.root.now c.args.levels c.args.folder.now
     (listed c.deref-name-items.result.now) (take c.loop-name.name-index (listed c.deref-name-items.result.now)) past)
     (g.T.Tree.went c.args.tree.now) (g.T.Tree.went c.loop-name.tree)
-    (g.O.Sink.device c.args.out.now) (g.O.Sink.device c.loop-name.out) c.args.tally.now c.loop-name.tally c.loop-name.invariant.visited
+    (g.O.Sink.device c.args.out.now) (g.O.Sink.device c.loop-name.out) c.args.tally.now c.loop-name.tally c.loop-name.invariant.visited))
 
 pub visit_folder-returns-in_err-path-clause-holds : goal.visit_folder-returns-in_err-path-clause-holds
 visit_folder-returns-in_err-path-clause-holds g t c = c.loop-name.invariant.holds
@@ -178,7 +182,7 @@ visit_folder-returns-in_err-visit_path-clause-stops g t c =
     let p = err_from_is_err_and c.from_residual-in_err-visit_path.result c.from_residual-in_err-visit_path.ensures.1 in
     rw (p.1, p.2) (stops_later g.V.EntryVisitor.tells g.V.EntryVisitor.stops g.V.EntryVisitor.says g.V.EntryVisitor.does
     g.V.EntryVisitor.listless g.met.V.EntryVisitor.laws c.args.self.now.visitor.now c.args.self.now.root.now
-    (λ past new. AreSoFar (IsMoment (g.V.EntryVisitor.does c.args.self.now.visitor.now) new) c.args.self.now.root.now c.args.levels c.args.folder.now
+    (λ past new. AreSoFar (IsMoment (g.V.EntryVisitor.does c.args.self.now.visitor.now true) new) c.args.self.now.root.now c.args.levels c.args.folder.now
     (listed c.deref-name-items.result.now) (take c.loop-name.name-index (listed c.deref-name-items.result.now)) past)
     (g.T.Tree.went c.args.tree.now) (g.T.Tree.went c.loop-name.tree)
     (g.O.Sink.device c.args.out.now) (g.O.Sink.device c.loop-name.out) (g.O.Sink.device c.visit_path.new.out) c.args.tally.now c.loop-name.tally
@@ -186,16 +190,17 @@ visit_folder-returns-in_err-visit_path-clause-stops g t c =
 
 pub visit_folder-returns-in_err-visit_path-clause-does : goal.visit_folder-returns-in_err-visit_path-clause-does
 visit_folder-returns-in_err-visit_path-clause-does g t c =
-    does_both g.V.EntryVisitor.tells g.V.EntryVisitor.stops g.V.EntryVisitor.says g.V.EntryVisitor.does
-    g.V.EntryVisitor.listless g.met.V.EntryVisitor.laws c.args.self.now.visitor.now c.args.self.now.root.now
+    let p = err_from_is_err_and c.from_residual-in_err-visit_path.result c.from_residual-in_err-visit_path.ensures.1 in
+    rw p.1 (does_both g.V.EntryVisitor.tells g.V.EntryVisitor.stops g.V.EntryVisitor.says g.V.EntryVisitor.does
+    g.V.EntryVisitor.listless g.met.V.EntryVisitor.laws c.args.self.now.visitor.now c.args.self.now.root.now false
     (g.T.Tree.went c.args.tree.now) (g.T.Tree.went c.loop-name.tree) (g.T.Tree.went c.visit_path.new.tree)
     (does_walk g.V.EntryVisitor.tells g.V.EntryVisitor.stops g.V.EntryVisitor.says g.V.EntryVisitor.does
     g.V.EntryVisitor.listless g.met.V.EntryVisitor.laws c.args.self.now.visitor.now c.args.self.now.root.now
-    (λ past new. AreSoFar (IsMoment (g.V.EntryVisitor.does c.args.self.now.visitor.now) new) c.args.self.now.root.now c.args.levels c.args.folder.now
+    (λ past new. AreSoFar (IsMoment (g.V.EntryVisitor.does c.args.self.now.visitor.now true) new) c.args.self.now.root.now c.args.levels c.args.folder.now
     (listed c.deref-name-items.result.now) (take c.loop-name.name-index (listed c.deref-name-items.result.now)) past)
     (g.T.Tree.went c.args.tree.now) (g.T.Tree.went c.loop-name.tree)
     (g.O.Sink.device c.args.out.now) (g.O.Sink.device c.loop-name.out) c.args.tally.now c.loop-name.tally c.loop-name.invariant.visited)
-    c.visit_path.ensures.does
+    c.in_err-visit_path.ensures.does)
 
 pub visit_folder-returns-in_err-visit_path-clause-holds : goal.visit_folder-returns-in_err-visit_path-clause-holds
 visit_folder-returns-in_err-visit_path-clause-holds g t c = c.visit_path.ensures.holds
@@ -211,7 +216,10 @@ visit_path-returns-in_err-kind-clause-stops g t c =
 
 pub visit_path-returns-in_err-kind-clause-does : goal.visit_path-returns-in_err-kind-clause-does
 visit_path-returns-in_err-kind-clause-does g t c =
-    goes_none (g.V.EntryVisitor.does c.args.self.now.visitor.now) (g.T.Tree.went c.args.tree.now) (g.met.V.EntryVisitor.laws.still c.args.self.now.visitor.now)
+    let p = err_from_is_err_and c.from_residual.result c.from_residual.ensures.1 in
+    rw p.1 (does_end g.V.EntryVisitor.tells g.V.EntryVisitor.stops g.V.EntryVisitor.says g.V.EntryVisitor.does
+    g.V.EntryVisitor.listless g.met.V.EntryVisitor.laws c.args.self.now.visitor.now c.args.self.now.root.now (g.T.Tree.went c.args.tree.now) (g.T.Tree.went c.args.tree.now)
+    (goes_none (g.V.EntryVisitor.does c.args.self.now.visitor.now true) (g.T.Tree.went c.args.tree.now) (g.met.V.EntryVisitor.laws.still c.args.self.now.visitor.now)))
 
 pub visit_path-overflow_sub-levels : goal.visit_path-overflow_sub-levels
 visit_path-overflow_sub-levels g t c =
