@@ -127,7 +127,7 @@ module _ (files : DayFiles) where
           kept_by_store before mid performs files.report.path p (subst (λ (l : List Step). IsReady files.report.path p l) (sym is) named.1),
           kept_by_store before mid performs files.records.part r (subst (λ (l : List Step). IsReady files.records.part r l) (sym is) named.2),
           seen_kept [] files.stamp.path before mid tt (stores_none before mid performs)
-          ∙ (ap (λ (l : List Step). seen l files.stamp.path) is ∙ unseen_then (gone files are r p old) (seen_nothing (gone files are r p old) files.stamp.path (no_stamp_left files are old))),
+              ∙ (ap (λ (l : List Step). seen l files.stamp.path) is ∙ unseen_then (gone files are r p old) (seen_nothing (gone files are r p old) files.stamp.path (no_stamp_left files are old))),
         )
 
   -- over older files, where no folder is stored from the first on
