@@ -31,16 +31,18 @@ lacks_more : (b : ℕ) (text : List ℕ) → b ≢ dot → Lacks dot text → La
 lacks_more b text not lacks zero d inside = not
 lacks_more b text not lacks (suc k) d inside = lacks k d (omega (arith, inside))
 
+glyph_more : (n : ℕ) (text : List ℕ) → Lacks dot text → Lacks dot (digit_glyph false (n % 10) ∷ text)
+glyph_more n text lacks = lacks_more (digit_glyph false (n % 10)) text (glyph_lacks (n % 10) (omega arith)) lacks
+
+either_lacks : (last : Bool) (one other : List ℕ) → Lacks dot one → Lacks dot other → Lacks dot (if last then one else other)
+either_lacks true one other a b = a
+either_lacks false one other a b = b
+
 onto_lacks : (k n : ℕ) (text : List ℕ) → Lacks dot text → Lacks dot (digits_onto k 10 false n text)
 onto_lacks zero n text lacks = lacks
-onto_lacks (suc k) n text lacks = by (n / 10 == 0)
-  where
-    more : Lacks dot (digit_glyph false (n % 10) ∷ text)
-    more = lacks_more (digit_glyph false (n % 10)) text (glyph_lacks (n % 10) (omega arith)) lacks
-
-    by : (last : Bool) → Lacks dot (if last then digit_glyph false (n % 10) ∷ text else digits_onto k 10 false (n / 10) (digit_glyph false (n % 10) ∷ text))
-    by true = more
-    by false = onto_lacks k (n / 10) (digit_glyph false (n % 10) ∷ text) more
+onto_lacks (suc k) n text lacks =
+    either_lacks (n / 10 == 0) (digit_glyph false (n % 10) ∷ text) (digits_onto k 10 false (n / 10) (digit_glyph false (n % 10) ∷ text))
+    (glyph_more n text lacks) (onto_lacks k (n / 10) (digit_glyph false (n % 10) ∷ text) (glyph_more n text lacks))
 
 decimal_lacks : (n : ℕ) → Lacks dot (decimal n)
 unfolding digits

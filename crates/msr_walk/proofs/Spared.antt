@@ -56,8 +56,8 @@ module _ (files : DayFiles) where
     free = λ none.
         let free = shows.free (
           sym (seen_spared files.records.path old made spares.records) ∙ none.0,
-          sym (seen_spared files.report.path old made spares.report) ∙ none.1.0,
-          sym (seen_spared files.stamp.path old made spares.stamp) ∙ none.1.1,
+          sym (seen_spared files.report.path old made spares.report) ∙ none.1,
+          sym (seen_spared files.stamp.path old made spares.stamp) ∙ none.2,
         ) in
         record {
           records = leaves_spared files.records.path None old made spares.records free.records;

@@ -39,7 +39,7 @@ some_taken zero path few some = absurd (omega (arith, few))
 some_taken (suc n) [] few some = absurd (omega (arith, some))
 some_taken (suc n) (b ∷ path) few some = omega arith
 
-joined_some : (folder path : Path) → folder ≢ [] → 0 < length path → joined folder path ≡ folder ++ 47 ∷ path
+pub joined_some : (folder path : Path) → folder ≢ [] → 0 < length path → joined folder path ≡ folder ++ 47 ∷ path
 joined_some [] path named some = absurd (named refl)
 joined_some (f ∷ folder) [] named some = absurd (omega (arith, some))
 joined_some (f ∷ folder) (p ∷ path) named some = refl

@@ -27,7 +27,7 @@ pub other_back : (files other : DayFiles) → IsOther files other → IsOther ot
 other_back files other apart one two =
     differ _ _ (λ is. let yes = (bytes_eq-Decides (name_path files two) (name_path other one)).1 (sym is) in let no = apart two one in absurd cc)
 
-all_so : {X : Type 0} (P Q : X → Type 0) (xs : List X) → ((x : X) → P x → Q x) → AllByRecursion P xs → AllByRecursion Q xs
+pub all_so : {X : Type 0} (P Q : X → Type 0) (xs : List X) → ((x : X) → P x → Q x) → AllByRecursion P xs → AllByRecursion Q xs
 all_so P Q [] so all = tt
 all_so P Q (x ∷ xs) so all = (so x all.0, all_so P Q xs so all.1)
 
@@ -125,16 +125,32 @@ module _ (archive : Archiving) where
     each_spared folder list old new made since same (λ have. (spares have).1) all.1,
   )
 
-  module _ {C : Type 0} (folder : Path) where
-    -- while another day is handled
-    day_spares : (names : DayNames) (list : List DayFiles) (old new : List Step) (changes : ChangesNames day_paths names old new)
-        → ((number : ℕ) → AllByRecursion (λ files. IsOther files (files_of names number)) list) → AllByRecursion (λ files. SparesWaiting files changes.made) list
-    day_spares names [] old new changes others = tt
-    day_spares names (files ∷ list) old new changes others = (
-      spares_by files changes.made (λ name. changes.spares (name_path files name) (λ number. none_of_other files (files_of names number) name (others number).0)),
-      day_spares names list old new changes (λ number. (others number).1),
-    )
+  -- while another day is handled
+  day_spares : (names : DayNames) (list : List DayFiles) (old new : List Step) (changes : ChangesNames day_paths names old new)
+      → ((number : ℕ) → AllByRecursion (λ files. IsOther files (files_of names number)) list) → AllByRecursion (λ files. SparesWaiting files changes.made) list
+  day_spares names [] old new changes others = tt
+  day_spares names (files ∷ list) old new changes others = (
+    spares_by files changes.made (λ name. changes.spares (name_path files name) (λ number. none_of_other files (files_of names number) name (others number).0)),
+    day_spares names list old new changes (λ number. (others number).1),
+  )
 
+  -- while one waits no more
+  part_spares : (files : DayFiles) (list : List DayFiles) (old new : List Step) (changes : ChangesOnly (files.stamp.part ∷ []) old new)
+      → AllByRecursion (λ other. IsOther other files) list → AllByRecursion (λ other. SparesWaiting other changes.made) list
+  part_spares files [] old new changes others = tt
+  part_spares files (other ∷ list) old new changes others = (
+    spares_by other changes.made (λ name. changes.spares (name_path other name) (others.0 name StampPart, tt)),
+    part_spares files list old new changes others.1,
+  )
+
+  -- while others get their stamps
+  pub waits_beside : (path : Path) (files : DayFiles) (days : List DayFiles) (old new : List Step) → SameInputs old new → ChangesOnly (stamp_paths days) old new
+      → (Named → AllByRecursion (λ other. IsOther other files) days) → WaitsAs archive path files old → WaitsAs archive path files new
+  waits_beside path files days old new same changes others waits =
+      waits_as_spared path files old new changes.made changes.since same
+      (λ have. spares_by files changes.made (λ name. changes.spares (name_path files name) (none_of_stamps_by files name days (all_so _ _ days (λ other apart. other_back other files apart) (others have))))) waits
+
+  module _ {C : Type 0} (folder : Path) where
     pub waiting_beside : (path : Path) (days : List (Waiting C)) (old new : List Step) → SameInputs old new → ChangesNames day_paths (day_names_in archive path) old new
         → IsNoneWaiting archive path days → AreWaiting archive folder days old → AreWaiting archive folder days new
     waiting_beside path days old new same changes none wait = record {
@@ -142,15 +158,6 @@ module _ (archive : Archiving) where
           (λ have. day_spares (day_names_in archive path) (files_waiting days) old new changes (none.others have)) wait.each;
       apart = wait.apart;
     }
-
-    -- while one waits no more
-    part_spares : (files : DayFiles) (list : List DayFiles) (old new : List Step) (changes : ChangesOnly (files.stamp.part ∷ []) old new)
-        → AllByRecursion (λ other. IsOther other files) list → AllByRecursion (λ other. SparesWaiting other changes.made) list
-    part_spares files [] old new changes others = tt
-    part_spares files (other ∷ list) old new changes others = (
-      spares_by other changes.made (λ name. changes.spares (name_path other name) (others.0 name StampPart, tt)),
-      part_spares files list old new changes others.1,
-    )
 
     pub waiting_dropped : (day : Waiting C) (before after : List (Waiting C)) (old new : List Step) → SameInputs old new → ChangesOnly (day.files.stamp.part ∷ []) old new
         → AreWaiting archive folder (before ++ day ∷ after) old → AreWaiting archive folder (before ++ after) new
@@ -161,12 +168,13 @@ module _ (archive : Archiving) where
       apart = λ have. (apart_but day before after (wait.apart have)).0;
     }
 
-    -- while others get their stamps
-    pub waits_beside : (path : Path) (files : DayFiles) (days : List DayFiles) (old new : List Step) → SameInputs old new → ChangesOnly (stamp_paths days) old new
-        → (Named → AllByRecursion (λ other. IsOther other files) days) → WaitsAs archive path files old → WaitsAs archive path files new
-    waits_beside path files days old new same changes others waits =
-        waits_as_spared path files old new changes.made changes.since same
-        (λ have. spares_by files changes.made (λ name. changes.spares (name_path files name) (none_of_stamps_by files name days (all_so _ _ days (λ other apart. other_back other files apart) (others have))))) waits
+    -- while another one does
+    pub waiting_apart : (day : Waiting C) (days : List (Waiting C)) (old new : List Step) → SameInputs old new → ChangesOnly (day.files.stamp.part ∷ []) old new
+        → (Named → AllByRecursion (λ files. IsOther files day.files) (files_waiting days)) → AreWaiting archive folder days old → AreWaiting archive folder days new
+    waiting_apart day days old new same changes others wait = record {
+      each = each_spared folder (files_waiting days) old new changes.made changes.since same (λ have. part_spares day.files (files_waiting days) old new changes (others have)) wait.each;
+      apart = wait.apart;
+    }
 
     pub waiting_none : (past : List Step) → AreWaiting {C = C} archive folder [] past
     waiting_none past = record { each = tt; apart = λ have. tt }

@@ -105,8 +105,8 @@ module _ (archive : Archiving) where
   works_none goes_on past = record { does = days_none archive goes_on past; lists_none = λ none. refl }
 
   -- the walk goes on, or stops
-  pub works_end : (goes_on : Bool) (old new : List Step) → WorksFor true archive old new → WorksFor goes_on archive old new
-  works_end goes_on old new works = record { does = days_end archive goes_on old new works.does; lists_none = works.lists_none }
+  pub works_end : (goes_on ends : Bool) (old new : List Step) → (ends ≡ true → goes_on ≡ true) → WorksFor goes_on archive old new → WorksFor ends archive old new
+  works_end goes_on ends old new so works = record { does = days_end archive goes_on ends old new so works.does; lists_none = works.lists_none }
 
   pub settled_works : (goes_on : Bool) (old new : List Step) → Settled old new → WorksFor goes_on archive old new
   settled_works goes_on old new settled = record {
@@ -169,7 +169,7 @@ module _ (archive : Archiving) where
   goes_works_none goes_on before = goes_none (WorksFor goes_on archive) before (works_none goes_on)
 
   pub goes_end : (goes_on : Bool) (before after : List Step → Type 0) → Goes before after (WorksFor true archive) → Goes before after (WorksFor goes_on archive)
-  goes_end goes_on before after goes = goes_so _ _ before after (λ old new went works. works_end goes_on old new works) goes
+  goes_end goes_on before after goes = goes_so _ _ before after (λ old new went works. works_end true goes_on old new (λ on. refl) works) goes
 
   pub goes_settled : (goes_on : Bool) (names : List Path) (before after : List Step → Type 0) → Goes before after (SettlesNames archive names) → Goes before after (WorksFor goes_on archive)
   goes_settled goes_on names before after goes = goes_so _ _ before after (λ old new went settles. settled_works goes_on old new settles.works) goes
@@ -278,11 +278,11 @@ module _ (archive : Archiving) where
         let here = λ (name : Path) (none : bytes_eq name (files_of (day_names_in archive of.path) of.number).stamp.part ≡ false).
         subst (λ (f : DayFiles). IsNoneOf name (f.stamp.part ∷ [])) (sym of.are) (none, tt) in
         settles_by (files.stamp.part ∷ []) old new (λ name lacks none. (apart_from reports_of name files.stamp.part (stamp_within files of).part none, tt))
-        (λ have named day. let apart = aside have named day 0 in (here _ apart.0, here _ apart.1.0))
+        (λ have named day. let apart = aside have named day 0 in (here _ apart.0, here _ apart.1))
         (λ have named day. safe_spared named old new changes.made changes.since (λ number. let apart = aside have named day number in record {
           records = changes.spares _ (here _ apart.0);
-          report = changes.spares _ (here _ apart.1.0);
-          stamp = changes.spares _ (here _ apart.1.1);
+          report = changes.spares _ (here _ apart.1);
+          stamp = changes.spares _ (here _ apart.2);
         }))
         changes (leaves_does (Removed files.stamp.part) result old new tt at)) goes
 

@@ -10,7 +10,7 @@ use Rattle.msr_making.specs.declared.answer.DayOutcome.{DayOutcome}
 use Rattle.msr_making.specs.declared.answer.DayOutcome.TheVariants.{Refused}
 use Rattle.msr_making.specs.Making.{WaitsForStamp}
 use Rattle.msr_naming.specs.Naming.{IsOther}
-use Rattle.msr_naming.specs.Promise.{AreOthers}
+use Rattle.msr_naming.specs.Promise.{AreOthers, stamp_paths}
 use Rattle.msr_naming.specs.declared.batch.Waiting.{Waiting}
 use Rattle.msr_naming.specs.declared.files.DayFiles.{DayFiles}
 use Rattle.msr_options.specs.declared.days.DayOptions.{DayOptions}
@@ -92,6 +92,10 @@ AreApart (files ∷ days) = AreOthers files days × AreApart days
 abbrev pub files_waiting : {C : Type 0} → List (Waiting C) → List DayFiles
 files_waiting days = map (λ day. day.files) days
 
+-- the names beside those of their stamps
+abbrev pub parts_waiting : {C : Type 0} → List (Waiting C) → List Path
+parts_waiting days = map (λ day. day.files.stamp.part) days
+
 -- Days of a folder wait, each once.
 pub record AreWaiting {C : Type 0} (archive : Archiving) (folder : Path) (days : List (Waiting C)) (past : List Step) : Type 0 where
   pub each : AllByRecursion (λ files. IsWaiting archive folder files past) (files_waiting days)
@@ -114,6 +118,10 @@ pub record IsNoneWaiting {C : Type 0} (archive : Archiving) (path : Path) (days 
 pub record WaitsOn {C : Type 0} (before after : List Step → Type 0) (archive : Archiving) (day : Waiting C) (ours0 ours : List (Waiting C)) : Type 0 where
   pub on : (folder : Path) (days : List (Waiting C)) → AreWaitingAt before archive folder (days ++ day ∷ reverse ours0)
       → AreWaitingAt after archive folder (days ++ reverse ours)
+
+-- What is no name of the stamps of the first is none of those of the others.
+pub record AreSome {C : Type 0} (days ours : List (Waiting C)) : Type 0 where
+  pub fewer : (name : Path) → IsNoneOf name (stamp_paths (files_waiting days)) → IsNoneOf name (stamp_paths (files_waiting ours))
 
 -- Of those that wait some wait on.
 pub record WaitOn {C : Type 0} (before after : List Step → Type 0) (archive : Archiving) (days ours : List (Waiting C)) : Type 0 where

@@ -1,5 +1,6 @@
 -- The laws of the walker's visits. They are proved here, since an `impl` can cite nothing else of its own crate.
 use Rattle.std.proofs.Common.{◌≡◌, ◌≤◌, inl, inr, ℕ, Bool, true, false, List, [], ◌∷◌, ◌++◌, refl, sym, ◌∙◌, ap, subst, arith, IfSome, IsSomeAnd, length, option_map}
+use Rattle.std.specs.List.{AllByRecursion}
 use Rattle.msr_folders.proofs.WithinLemmas.{root_spares, within_laws, within_none, within_then, within_unlisted}
 use Rattle.msr_folders.specs.Entries.{StandsWithin}
 use Rattle.msr_folders.specs.Paths.{joined}
@@ -7,16 +8,20 @@ use Rattle.msr_folders.specs.Visits.{StopsAt, TellsInPart, TellsThese}
 use Rattle.msr_folders.specs.Walks.{VisitLaws}
 use Rattle.msr_folders.specs.Within.{ChangesWithin, IsSeparate}
 use Rattle.msr_naming.specs.Promise.{HasOwn, HasReport}
+use Rattle.msr_making.specs.Making.{WaitsForStamp}
+use Rattle.msr_naming.specs.declared.batch.Waiting.{Waiting}
 use Rattle.msr_naming.specs.declared.files.DayFiles.{DayFiles}
+use Rattle.msr_options.specs.Choice.{Choice}
 use Rattle.msr_options.specs.declared.days.DayOptions.{DayOptions}
 use Rattle.msr_options.specs.declared.task.Archiving.{Archiving}
 use Rattle.msr_tree.proofs.Acting.{more_fail}
 use Rattle.msr_tree.proofs.Changes.{same_now}
 use Rattle.msr_tree.proofs.Moments.{at_end, joined as joined_moments}
 use Rattle.msr_tree.specs.Calls.{IsFoundAs}
-use Rattle.msr_tree.specs.Steps.{AtEachMoment, Failed, Path, Spares, Step, Throughout, Unlisted, failures, now, seen}
+use Rattle.msr_tree.specs.Steps.{AtEachMoment, Failed, IsReady, Path, Spares, Step, Throughout, Unlisted, failures, now, seen}
 use Rattle.msr_tree.specs.declared.facts.Facts.{Facts}
 use Rattle.msr_walk.specs.Files.{files_of}
+use Rattle.msr_walk.specs.Handling.{AreWaiting, IsWaiting, files_waiting}
 use Rattle.msr_walk.specs.Kills.{IsOwnOfDay, KeepsReports, day_names_in}
 use Rattle.msr_walk.specs.Losses.{ChangesDays, IsStampOfDay, KeepsDays}
 
@@ -113,14 +118,14 @@ module _ (archive : Archiving) where
   }
 
   -- the walk may stop after it
-  pub days_end : (goes_on : Bool) (old new : List Step) → ChangesDays true archive old new → ChangesDays goes_on archive old new
-  days_end goes_on old new changes = record {
+  pub days_end : (goes_on ends : Bool) (old new : List Step) → (ends ≡ true → goes_on ≡ true) → ChangesDays goes_on archive old new → ChangesDays ends archive old new
+  days_end goes_on ends old new so changes = record {
     within = changes.within;
     reports = changes.reports;
     safe = record {
       each = λ none have path day.
           let keeps = changes.safe.each none have path day in
-          record { safe = keeps.safe; shows = λ on. keeps.shows refl };
+          record { safe = keeps.safe; shows = λ on. keeps.shows (so on) };
     };
   }
 
@@ -168,6 +173,58 @@ module _ (archive : Archiving) where
       safe = safe_then goes_on old mid new one two;
     }
 
+-- a folder that gives no list leaves what waits
+module _ (place : Path) where
+  abbrev listed : List Step → List Step
+  listed past = Failed ∷ Unlisted place ∷ past
+
+  ready_listed : (name : Path) (bytes : List ℕ) (past : List Step) → IsReady name bytes past → IsReady name bytes (listed past)
+  ready_listed name bytes past ready = record { file = ready.file; leads = ready.leads; has = ready.has; stored = ready.stored }
+
+  waits_listed : (input : Path) (files : DayFiles) (choice : Choice) (past : List Step) → WaitsForStamp input files choice past past
+      → WaitsForStamp input files choice (listed past) (listed past)
+  waits_listed input files choice past waits = record {
+    facts = waits.facts;
+    looked = record { regular = waits.looked.regular; other = waits.looked.other };
+    bytes = waits.bytes;
+    records = waits.records;
+    text = waits.text;
+    report = waits.report;
+    has_input = waits.has_input;
+    reported = waits.reported;
+    named = record {
+      records_are = ready_listed files.records.path _ past waits.named.records_are;
+      report_is = ready_listed files.report.path _ past waits.named.report_is;
+      unseen = waits.named.unseen;
+    };
+    stamp_is = ready_listed files.stamp.part _ past waits.stamp_is;
+  }
+
+  each_listed : (archive : Archiving) (folder : Path) (list : List DayFiles) (past : List Step) → AllByRecursion (λ files. IsWaiting archive folder files past) list
+      → AllByRecursion (λ files. IsWaiting archive folder files (listed past)) list
+  each_listed archive folder [] past all = tt
+  each_listed archive folder (files ∷ list) past all =
+      let waits = all.0.waits in
+      (
+        record {
+          path = all.0.path;
+          day = all.0.day;
+          beside = all.0.beside;
+          waits = record {
+            number = waits.number;
+            are = waits.are;
+            asked = waits.asked;
+            for_day = waits.for_day;
+            waits = λ have. waits_listed (day_names_in archive all.0.path).input files waits.asked.options past (waits.waits have);
+          };
+        },
+        each_listed archive folder list past all.1,
+      )
+
+  pub waiting_listed : {C : Type 0} (archive : Archiving) (folder : Path) (days : List (Waiting C)) (past : List Step) → AreWaiting archive folder days past
+      → AreWaiting archive folder days (listed past)
+  waiting_listed archive folder days past wait = record { each = each_listed archive folder (files_waiting days) past wait.each; apart = wait.apart }
+
 -- the laws of a visitor of days
 pub days_laws : {V E T : Type 0} (is_entry : V → E → Type 0) (is_line : V → E → List ℕ → Type 0) (is_tally : List E → T → Type 0)
     (archive : V → Archiving) → ((visitor : V) → IsSeparate (archive visitor).folders.root.now (archive visitor).folders.out.now (archive visitor).folders.reports.now) →
@@ -184,6 +241,6 @@ days_laws is_entry is_line is_tally archive separate =
       later = laws.later;
       still = λ visitor. days_none (archive visitor) true;
       onward = λ visitor. days_then (archive visitor) (separate visitor);
-      ends = λ visitor. days_end (archive visitor) false;
+      ends = λ visitor old new changes. days_end (archive visitor) true false old new (λ on. refl) changes;
       unlisted = λ visitor. days_unlisted (archive visitor) true;
     }

@@ -55,6 +55,11 @@ pub record SettlesNames (archive : Archiving) (names : List Path) (old new : Lis
   pub works : VisitDoes (SettlesDays archive) (Unit {0}) old new
   pub only : ChangesOnly names old new
 
+-- Days wait no more. Nothing that is made of this one is touched.
+pub record DropsWaiting (archive : Archiving) (path : Path) (old new : List Step) : Type 0 where
+  pub works : VisitDoes (SettlesDays archive) (Unit {0}) old new
+  pub still : HaveNames archive.folders.out.now archive.folders.reports.now → AreUntouched (paths_of_names (day_names_in archive path)) old new
+
 -- An outcome was so of a day between two moments. Before, nothing was touched of what is made of it.
 pub record ToldBetween (asked : DayOptions) (names : DayNames) (out reports : Path) (outcome : DayOutcome) (old new : List Step) : Type 0 where
   pub from : List Step
