@@ -51,15 +51,16 @@ use Rattle.msr_walk.proofs.DayPaths.{day_within}
 use Rattle.msr_walk.proofs.Kept.{each_so}
 use Rattle.msr_walk.proofs.OtherDays.{none_of_other, other_day}
 use Rattle.msr_walk.proofs.Spared.{SparesNames, own_as, own_spared, shows_as, shows_spared}
-use Rattle.msr_walk.proofs.Working.{looks_work, none_of_day, works_end, works_then}
+use Rattle.msr_walk.proofs.Waits.{waiting_beside}
+use Rattle.msr_walk.proofs.Working.{inputs_same, looks_work, none_of_day, settled_works, works_end, works_then}
 use Rattle.msr_outcomes.specs.Entries.{IsDayOf, IsOutcomeOf}
 use Rattle.msr_walk.specs.Files.{AreNamesOfDay, DayNames, HaveNames, files_of, paths_of_names}
-use Rattle.msr_walk.specs.Handling.{AreNamesWithin, AwaitsName, ChangesNames, IsSameBut, IsUnclaimed, WaitsAs}
+use Rattle.msr_walk.specs.Handling.{AreNamesWithin, AreWaitingAt, AwaitsName, ChangesNames, IsNoneWaiting, IsSameBut, IsUnclaimed, WaitsAs}
 use Rattle.msr_walk.specs.Kills.{KeepsReport, day_names_in}
 use Rattle.msr_walk.specs.Laws.{found_as, none_failed, seen_as, spared}
 use Rattle.msr_walk.specs.Losses.{KeepsDay, KeepsDays}
 use Rattle.msr_outcomes.specs.Outcomes.{IsOutcomeOfDay, of_day}
-use Rattle.msr_walk.specs.Told.{HandlesDay, IsDayTold, IsToldThere, TellsDay, ToldBetween, WorksFor}
+use Rattle.msr_walk.specs.Told.{DropsWaiting, HandlesDay, IsDayTold, IsToldThere, TellsDay, ToldBetween, WorksFor}
 use Rattle.msr_outcomes.specs.declared.outcome.Outcome.{Outcome}
 use Rattle.msr_outcomes.specs.declared.outcome.Outcome.TheVariants.{Refused, Young}
 
@@ -589,6 +590,38 @@ module _ (archive : Archiving) (days : DayOptions) (path : Path) where
           there = λ are. told_from is.asked (day_names_in archive path) archive.folders.out.now archive.folders.reports.now is.of old middle new works.does.within (still_there (paths_of_names (day_names_in archive path)) old middle first) (is.there are);
         }) second.says;
       }) one two
+
+-- What is told of a day of which nothing was touched before.
+pub record SaysOfDay {H E : Type 0} (outcome : H → Outcome) (archive : Archiving) (days : DayOptions) (path : Path) (result : Result H E) (old new : List Step) : Type 0 where
+  pub works : WorksFor (is_ok result) archive old new
+  pub says : IfOk result (λ told. IsDayTold days (day_names_in archive path) archive.folders.out.now archive.folders.reports.now (outcome told) old new)
+
+-- others that waited wait no more
+pub drops_works : (archive : Archiving) (path : Path) (before after : List Step → Type 0) → Goes before after (DropsWaiting archive path) → Goes before after (WorksFor true archive)
+drops_works archive path before after goes = goes_so _ _ before after (λ old new went drops. settled_works archive true old new drops.works) goes
+
+pub says_dropped : {H E : Type 0} (outcome : H → Outcome) (archive : Archiving) (apart : StandApart archive.folders) (days : DayOptions) (path : Path) (result : Result H E) (before mid after : List Step → Type 0)
+    → Goes before mid (DropsWaiting archive path) → Goes mid after (TellsDay outcome archive days path result) → Goes before after (SaysOfDay outcome archive days path result)
+says_dropped outcome archive apart days path result before mid after one two = goes_then _ _ _ before mid after (λ old middle new first second.
+    let works = settled_works archive true old middle first.works in
+    record {
+      works = works_then archive apart (is_ok result) old middle new works second.works;
+      says = if_ok_as result (λ t is. record {
+        asked = is.asked;
+        for_day = is.for_day;
+        of = is.of;
+        same = is.same;
+        there = λ have. told_from is.asked (day_names_in archive path) archive.folders.out.now archive.folders.reports.now is.of old middle new works.does.within (first.still have) (is.there have);
+      }) second.says;
+    }) one two
+
+-- what waits is left while another day is handled
+pub waiting_handled : {H E C : Type 0} (outcome : H → Outcome) (archive : Archiving) (apart : StandApart archive.folders) (days : DayOptions) (path folder : Path) (result : Result H E) (waiting : List (Waiting C))
+    (before after : List Step → Type 0) → Goes before after (TellsDay outcome archive days path result) → HoldsAt before (λ past. IsNoneWaiting archive path waiting) → AreWaitingAt before archive folder waiting
+    → AreWaitingAt after archive folder waiting
+waiting_handled outcome archive apart days path folder result waiting before after goes none wait past went =
+    let sooner = goes.from past went in
+    waiting_beside archive folder path waiting sooner.0 past (inputs_same archive apart sooner.0 past sooner.2.works.does.within) sooner.2.changes (none sooner.0 sooner.1) (wait sooner.0 sooner.1)
 
 -- by other names for the same
 pub handles_named : {H E : Type 0} (outcome : H → DayOutcome) (names others : DayNames) (out reports : Path) (asked given : DayOptions) (result : Result H E) (before after : List Step → Type 0)

@@ -21,7 +21,7 @@ use Rattle.msr_walk.proofs.DayPaths.{long}
 use Rattle.msr_walk.proofs.OtherDays.{part_apart}
 use Rattle.msr_walk.proofs.Standing.{joined_some}
 use Rattle.msr_walk.proofs.Waits.{all_but, all_so, none_waiting, of_days, waiting_apart, waiting_dropped, waiting_more, waiting_none, waiting_turned, waits_beside}
-use Rattle.msr_walk.proofs.Working.{goes_settles_more, goes_settles_none, goes_settles_then, inputs_same, settles_none}
+use Rattle.msr_walk.proofs.Working.{goes_settles_more, goes_settles_none, goes_settles_then, held_after, inputs_same, settles_none}
 use Rattle.msr_walk.specs.Files.{HaveNames, files_of}
 use Rattle.msr_walk.specs.Handling.{AreOfDay, AreOfDaysAt, AreSome, AreWaiting, AreWaitingAt, IsNoneWaiting, WaitOn, WaitsAs, WaitsOn, files_waiting, parts_waiting}
 use Rattle.msr_walk.specs.Kills.{day_names_in}
@@ -163,6 +163,10 @@ module _ {C : Type 0} where
       (λ name none. subst (λ (l : List (Waiting C)). IsNoneOf name (stamp_paths (files_waiting l))) (sym same) (some.fewer name none)) two)
       (goes_settles_more archive (parts_waiting released) names later after
       (λ name none. subst (λ (l : List (Waiting C)). IsNoneOf name (parts_waiting l)) (sym too) (parts_among name ours (some.fewer name none))) three)))
+
+  pub none_after : (archive : Archiving) (path : Path) (days : List (Waiting C)) (Does : (old new : List Step) → Type 0) (before after : List Step → Type 0) → Goes before after Does
+      → HoldsAt before (λ past. IsNoneWaiting archive path days) → HoldsAt after (λ past. IsNoneWaiting archive path days)
+  none_after archive path days Does before after goes none = held_after (IsNoneWaiting archive path days) Does before after goes none
 
   -- another day, once those that wait are settled
   module _ (archive : Archiving) (apart : StandApart archive.folders) (path : Path) (day : Waiting C) (days : List (Waiting C)) where

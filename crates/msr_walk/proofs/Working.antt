@@ -356,10 +356,10 @@ module _ (archive : Archiving) where
           names.changes.changes names.changes.folders
 
     pub stamps_work : {C : Type 0} (folder at_out at_reports : Path) (days : List (Waiting C)) (result : Result (Unit {0}) TreeFault) (before after : List Step → Type 0)
-        → at_out ≡ joined out_of folder → at_reports ≡ joined reports_of folder
         → AreWaitingAt before archive folder days → Goes before after (NamesStamps at_out at_reports (files_waiting days) result)
+        → at_out ≡ joined out_of folder → at_reports ≡ joined reports_of folder
         → Goes before after (SettlesNames archive (stamp_paths (files_waiting days)))
-    stamps_work folder at_out at_reports days result before after out_is reports_is wait goes = goes_so _ _ before after (λ old new went names.
+    stamps_work folder at_out at_reports days result before after wait goes out_is reports_is = goes_so _ _ before after (λ old new went names.
         let waiting = wait old went in
         stamps_settle folder (files_waiting days) result old new waiting.each waiting.apart
         (subst (λ p. NamesStamps (joined out_of folder) p (files_waiting days) result old new) reports_is (subst (λ p. NamesStamps p at_reports (files_waiting days) result old new) out_is names))) goes
@@ -403,3 +403,7 @@ goes_keeps archive goes_on before after goes = goes_so _ _ before after (λ old 
 
 pub goes_safe : (archive : Archiving) (goes_on : Bool) (before after : List Step → Type 0) → Goes before after (ChangesDays goes_on archive) → Goes before after (KeepsDays goes_on archive)
 goes_safe archive goes_on before after goes = goes_so _ _ before after (λ old new went changes. changes.safe) goes
+
+-- whether it went on or not
+pub goes_ended : (archive : Archiving) (goes_on : Bool) (before after : List Step → Type 0) → Goes before after (ChangesDays goes_on archive) → Goes before after (ChangesDays false archive)
+goes_ended archive goes_on before after goes = goes_so _ _ before after (λ old new went changes. days_end archive goes_on false old new (λ on. cc) changes) goes

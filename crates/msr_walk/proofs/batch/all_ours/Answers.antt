@@ -1,4 +1,3 @@
-use Rattle.std.proofs.Common.{[], ◌++◌, ap, append-nil, sym, subst}
 use Rattle.msr_walk.proofs.Ours.{begun, some_ours, step_taken, taken_of, wait_ours}
 use Rattle.msr_walk.proofs.batch.all_ours.Goals as goal
 
@@ -13,3 +12,9 @@ loop-day-preserved g c =
     let before = c.loop-day.invariant in
     step_taken c.args.walker.now.archive.now c.args.walker.now.apart c.args.days.items c.loop-day.days.items _ c.loop-day.ours.items c.in-Some.day c.in-Some.ensures.items _ _ _ _
     before.0 before.1 before.2 before.3 c.keep_ours.ensures.ours c.keep_ours.ensures.waits c.keep_ours.ensures.works
+
+pub returns-clause-some : goal.returns-clause-some
+returns-clause-some g c = ?
+
+pub returns-clause-wait : goal.returns-clause-wait
+returns-clause-wait g c = ?
