@@ -1,5 +1,5 @@
 -- Days that wait, one after the other.
-use Rattle.std.proofs.Common.{◌≡◌, ◌≢◌, ◌⊎◌, ◌<◌, ◌-◌, ⊎_elim, arith, ℕ, zero, suc, true, false, nat_eq, List, [], ◌∷◌, ◌++◌, length, length-append, get_or, drop, reverse, refl, sym, ◌∙◌, ap, subst, append_assoc}
+use Rattle.std.proofs.Common.{◌≡◌, ◌≢◌, ◌⊎◌, ◌<◌, ◌+◌, ◌-◌, ⊎_elim, arith, ℕ, zero, suc, true, false, nat_eq, List, [], ◌∷◌, ◌++◌, length, length-append, get_or, drop, reverse, take, refl, sym, ◌∙◌, ap, subst, append_assoc}
 use Rattle.std.proofs.lemmas.List.{append-nil, drop_at, reverse-append}
 use Rattle.std.proofs.lemmas.Slice.Eq.{bytes_eq-Decides}
 use Rattle.std.specs.List.{AllByRecursion, ends_with}
@@ -39,6 +39,16 @@ module _ {C : Type 0} where
   none_of_part name [] i day lt is none = absurd (omega (arith, lt))
   none_of_part name (first ∷ days) zero day lt is none = subst (λ (d : Waiting C). IsNoneOf name (d.files.stamp.part ∷ [])) (sym is) (none.0, tt)
   none_of_part name (first ∷ days) (suc i) day lt is none = none_of_part name days i day (omega (arith, lt)) is none.1
+
+  -- so far
+  pub all_more : (P : DayFiles → Type 0) (days : List (Waiting C)) (i : ℕ) (day : Waiting C) → i < length days → day ≡ get_or days i day
+      → AllByRecursion P (files_waiting (take i days)) → P day.files → AllByRecursion P (files_waiting (take (i + 1) days))
+  all_more P days i day lt is all one = subst (λ n. AllByRecursion P (files_waiting (take n days))) (let n : suc i ≡ i + 1 = omega arith in n) (go days i lt is all)
+    where
+      go : (list : List (Waiting C)) (k : ℕ) → k < length list → day ≡ get_or list k day → AllByRecursion P (files_waiting (take k list)) → AllByRecursion P (files_waiting (take (suc k) list))
+      go [] k lt is all = absurd (omega (arith, lt))
+      go (first ∷ list) zero lt is all = (subst (λ (d : Waiting C). P d.files) is one, tt)
+      go (first ∷ list) (suc k) lt is all = (all.0, go list k (omega (arith, lt)) is all.1)
 
   -- names of stamps
   stamps_but : (name : Path) (day : Waiting C) (before after : List (Waiting C)) → IsNoneOf name (stamp_paths (files_waiting (before ++ day ∷ after)))
@@ -257,7 +267,7 @@ module _ {C : Type 0} (archive : Archiving) (apart : StandApart archive.folders)
     still = λ have.
         let only : ChangesOnly (parts_waiting days) old new = subst (λ (l : List (Waiting C)). ChangesOnly (parts_waiting l) old new) is settles.only in
         let aside = parts_aside have days (of old went) in
-        (now_kept (parts_waiting days) _ old new aside.0 only, now_kept (parts_waiting days) _ old new aside.1.0 only, now_kept (parts_waiting days) _ old new aside.1.1 only);
+        (now_kept (parts_waiting days) _ old new aside.0 only, now_kept (parts_waiting days) _ old new aside.1 only, now_kept (parts_waiting days) _ old new aside.2 only);
   }) goes
 
   pub none_of_none : (went : List Step → Type 0) → days ≡ [] → HoldsAt went (λ past. IsNoneWaiting archive path days)

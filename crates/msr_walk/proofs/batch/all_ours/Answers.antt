@@ -1,3 +1,5 @@
+use Rattle.std.proofs.Common.{◌≡◌, ◌-◌, ◌∙◌, [], ap, arith, take, vec_len}
+use Rattle.std.proofs.lemmas.List.{append-nil}
 use Rattle.msr_walk.proofs.Ours.{begun, some_ours, step_taken, taken_of, wait_ours}
 use Rattle.msr_walk.proofs.batch.all_ours.Goals as goal
 
@@ -14,7 +16,13 @@ loop-day-preserved g c =
     before.0 before.1 before.2 before.3 c.keep_ours.ensures.ours c.keep_ours.ensures.waits c.keep_ours.ensures.works
 
 pub returns-clause-some : goal.returns-clause-some
-returns-clause-some g c = ?
+returns-clause-some g c =
+    let none : vec_len c.loop-day.days - 1 ≡ 0 = omega (arith, c.in_default.ensures.cases.0) in
+    let empty : c.loop-day.days.items ≡ [] = c.in_default.ensures.items ∙ (append-nil c.pop.new.self.items ∙ (c.in_default.ensures.rest ∙ ap (λ n. take n c.loop-day.days.items) none)) in
+    some_ours c.loop-day.days.items c.loop-day.ours.items empty c.args.days.items c.loop-day.invariant.1
 
 pub returns-clause-wait : goal.returns-clause-wait
-returns-clause-wait g c = ?
+returns-clause-wait g c =
+    let none : vec_len c.loop-day.days - 1 ≡ 0 = omega (arith, c.in_default.ensures.cases.0) in
+    let empty : c.loop-day.days.items ≡ [] = c.in_default.ensures.items ∙ (append-nil c.pop.new.self.items ∙ (c.in_default.ensures.rest ∙ ap (λ n. take n c.loop-day.days.items) none)) in
+    wait_ours c.loop-day.days.items c.loop-day.ours.items empty c.args.walker.now.archive.now c.args.days.items _ _ c.loop-day.invariant.2
