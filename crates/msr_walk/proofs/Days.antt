@@ -227,6 +227,13 @@ pub if_ok_as : {A E : Type 0} {P Q : A → Type 0} (result : Result A E) → ((x
 if_ok_as (Ok x) so p = so x p
 if_ok_as (Err why) so p = tt
 
+-- each folder was stored, if no call failed
+was_stored : (end : DayEnd) (old new : List Step) → (end.is_stored ≡ false → failures old < failures new) → failures new ≡ failures old → end.is_stored ≡ true
+was_stored end old new unstored none = elim (cases_Bool end.is_stored) [
+  | inl stored ↦ stored
+  | inr not ↦ let fails = unstored not in absurd (omega (arith, none, fails))
+]
+
 -- a day that was done
 module _ {H E : Type 0} (outcome : H → DayOutcome) (names : DayNames) (out reports : Path) (asked : DayOptions) where
   -- as its end tells, perhaps with another reason
@@ -236,13 +243,6 @@ module _ {H E : Type 0} (outcome : H → DayOutcome) (names : DayNames) (out rep
   ended_well : (end : DayEnd) (result : Result H E) → EndsAs end result → IsOk result → IsOk end.outcome
   ended_well end (Ok handled) same ok = ap is_ok same.1
   ended_well end (Err why) same ok = cc
-
-  -- each folder was stored, if no call failed
-  was_stored : (end : DayEnd) (old new : List Step) → (end.is_stored ≡ false → failures old < failures new) → failures new ≡ failures old → end.is_stored ≡ true
-  was_stored end old new unstored none = elim (cases_Bool end.is_stored) [
-    | inl stored ↦ stored
-    | inr not ↦ let fails = unstored not in absurd (omega (arith, none, fails))
-  ]
 
   pub handles_done : (number : ℕ) (was_left : Bool) (end : DayEnd) (result : Result H E) (before after : List Step → Type 0)
       → EndsAs end result → Goes before after (DoesDay names.input (files_of names number) was_left asked end) → Goes before after (HandlesDay outcome names out reports asked result)
@@ -518,7 +518,7 @@ pub waits_as : {C : Type 0} (archive : Archiving) (apart : StandApart archive.fo
     → names ≡ day_names_in archive path → asked ≡ in_length record_length (with_name name archive.days)
     → IfSome waiting (λ day. HoldsAt after (AwaitsName names asked day.files)) → IfSome waiting (λ day. HoldsAt after (WaitsAs archive path day.files))
 waits_as archive apart path day name record_length own_length names asked None after is same waits = tt
-waits_as archive apart path day name record_length own_length names asked (Some waiting) after is same waits past went =
+waits_as archive apart path day name record_length own_length names asked (Some waiting) after is same waits = λ past went.
     let w : AwaitsName (day_names_in archive path) (in_length record_length (with_name name archive.days)) waiting.files past =
     subst (λ (n : DayNames). AwaitsName n (in_length record_length (with_name name archive.days)) waiting.files past) is (subst (λ (a : DayOptions). AwaitsName names a waiting.files past) same (waits past went)) in
     record {
@@ -546,6 +546,9 @@ module _ (archive : Archiving) (days : DayOptions) (path : Path) where
     works = looks_work archive goes_on old new leaves;
     changes = names_still day_paths (day_names_in archive path) old new leaves;
   }) goes
+
+  pub works_on_as : (one other : Bool) (before after : List Step → Type 0) → one ≡ other → Goes before after (WorksOn one archive path) → Goes before after (WorksOn other archive path)
+  works_on_as one other before after is goes = subst (λ g. Goes before after (WorksOn g archive path)) is goes
 
   pub works_on_then : (apart : StandApart archive.folders) (goes_on : Bool) (before mid after : List Step → Type 0)
       → Goes before mid (WorksOn true archive path) → Goes mid after (WorksOn goes_on archive path) → Goes before after (WorksOn goes_on archive path)

@@ -1,10 +1,10 @@
-use Rattle.std.proofs.Common.{◌≡◌, ◌∙◌, ap, false, true, Err, Ok, refl, subst, sym}
+use Rattle.std.proofs.Common.{◌≡◌, ◌∙◌, ap, false, true, is_ok, Ok, refl, subst, sym}
 use Rattle.std.proofs.lemmas.Result.{err_from_is_err_and}
 use Rattle.msr_belonging.specs.Names.{day_name}
 use Rattle.msr_options.specs.Days.{in_length, with_name}
 use Rattle.msr_options.specs.declared.days.DayOptions.{DayOptions}
 use Rattle.msr_walk.proofs.DayPaths.{day_within}
-use Rattle.msr_walk.proofs.Days.{day_goes, day_told, handles_named, looks_on, tells_after, tells_nothing, tells_untouched, tells_young, untouched, waits_as, works_on_then, young_outcome}
+use Rattle.msr_walk.proofs.Days.{day_goes, day_told, handles_named, looks_on, tells_after, tells_nothing, tells_untouched, tells_young, untouched, waits_as, works_on_as, works_on_then, young_outcome}
 use Rattle.msr_walk.specs.Handling.{AreNamesWithin}
 use Rattle.msr_walk.specs.Kills.{day_names_in}
 use Rattle.msr_walk.proofs.walker.Walker.handle.Goals as goal
@@ -58,11 +58,11 @@ returns-in_err-handled-clause-goes g c =
     rw p.1 (tells_nothing archive (with_name (day_name c.args.name.now) archive.days) c.args.path.now (λ told. told.outcome) _ _ _
     (works_on_then archive days c.args.path.now c.args.self.now.apart false _ _ _ (looks_on archive days c.args.path.now true _ _ c.in_ok-is_young.ensures.goes)
     (works_on_then archive days c.args.path.now c.args.self.now.apart false _ _ _ (looks_on archive days c.args.path.now true _ _ c.day_length.ensures.goes)
-    (day_goes archive c.args.self.now.apart c.args.path.now (c.args.name.now, c.requires) (λ handled. handled.outcome) (day_name c.args.name.now) c.in_ok-length.length
-    (subst (λ (d : DayOptions). d.same_length ≡ false → c.in_ok-length.length ≡ d.options.record_length) asked c.in_ok-length.ensures.own) (Err c.in_err-handled.field-0) _ _
-    (handles_named (λ handled. handled.outcome) (day_names_in archive c.args.path.now) _ folders.out.now folders.reports.now _ _ (Err c.in_err-handled.field-0) _ _ c.in_ok-day.ensures
+    (works_on_as archive days c.args.path.now _ false _ _ (ap is_ok c.in_err-handled.was) (day_goes archive c.args.self.now.apart c.args.path.now (c.args.name.now, c.requires) (λ handled. handled.outcome) (day_name c.args.name.now) c.in_ok-length.length
+    (subst (λ (d : DayOptions). d.same_length ≡ false → c.in_ok-length.length ≡ d.options.record_length) asked c.in_ok-length.ensures.own) c.handle.result _ _
+    (handles_named (λ handled. handled.outcome) (day_names_in archive c.args.path.now) _ folders.out.now folders.reports.now _ _ c.handle.result _ _ c.in_ok-day.ensures
     (c.in_length.ensures ∙ ap (λ (d : DayOptions). in_length c.in_ok-length.length d) asked)
-    (c.in_err-handled.ensures.goes folders.out.now folders.reports.now (subst (λ n. AreNamesWithin folders.out.now folders.reports.now n) (sym c.in_ok-day.ensures) within)))))))
+    (c.handle.ensures.goes folders.out.now folders.reports.now (subst (λ n. AreNamesWithin folders.out.now folders.reports.now n) (sym c.in_ok-day.ensures) within))))))))
 
 pub returns-clause-told : goal.returns-clause-told
 returns-clause-told g c =

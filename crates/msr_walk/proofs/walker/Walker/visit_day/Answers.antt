@@ -1,4 +1,7 @@
-use Rattle.std.proofs.Common.{rules, refl, true, false, [], ◌∷◌}
+use Rattle.std.proofs.Common.{rules, refl, true, false, subst, sym, [], ◌∷◌}
+use Rattle.std.specs.String.{string_bytes}
+use Rattle.msr_folders.specs.Walks.{HoldsAt}
+use Rattle.msr_walk.specs.Handling.{AreWaitingAt, IsNoneWaiting}
 use Rattle.std.proofs.lemmas.Result.{err_from_is_err_and}
 use Rattle.msr_folders.proofs.WalkedLemmas.{on_ok_as}
 use Rattle.msr_walk.proofs.Days.{drops_works, outcome_of, says_dropped, tells_works, waiting_handled}
@@ -37,14 +40,15 @@ returns-in_err-handled-clause-days g c =
     waiting_handled _ c.args.self.now.archive.now c.args.self.now.apart _ c.args.path.now _ _ _ _ _ c.in_err-handled.ensures.goes c.make_way.ensures.none c.make_way.ensures.days
 
 pub wait-requires-clause-days : goal.wait-requires-clause-days
-wait-requires-clause-days g c =
-    waiting_handled _ c.args.self.now.archive.now c.args.self.now.apart _ c.args.path.now _ _ _ _ _ c.in_ok-handled.ensures.goes c.make_way.ensures.none c.make_way.ensures.days
+wait-requires-clause-days g c = subst (λ (b : _). AreWaitingAt (g.T.Tree.went c.handle.new.tree) c.args.self.now.archive.now (string_bytes b.folder) b.days.items) (sym c.tell-told.ensures.batch)
+    (waiting_handled _ c.args.self.now.archive.now c.args.self.now.apart _ c.args.path.now _ _ _ _ _ c.in_ok-handled.ensures.goes c.make_way.ensures.none c.make_way.ensures.days)
 
 pub wait-requires-clause-path : goal.wait-requires-clause-path
 wait-requires-clause-path g c = (c.args.name.now, c.requires.day)
 
 pub wait-requires-clause-none : goal.wait-requires-clause-none
-wait-requires-clause-none g c = none_after c.args.self.now.archive.now c.args.path.now _ _ _ _ c.in_ok-handled.ensures.goes c.make_way.ensures.none
+wait-requires-clause-none g c = subst (λ (b : _). HoldsAt (g.T.Tree.went c.handle.new.tree) (λ past. IsNoneWaiting c.args.self.now.archive.now c.args.path.now b.days.items)) (sym c.tell-told.ensures.batch)
+    (none_after c.args.self.now.archive.now c.args.path.now _ _ _ _ c.in_ok-handled.ensures.goes c.make_way.ensures.none)
 
 pub returns-clause-told : goal.returns-clause-told
 returns-clause-told g c =
