@@ -1,5 +1,5 @@
 -- The stamps of days get their names.
-use Rattle.std.proofs.Common.{◌≡◌, ◌⊎◌, inl, inr, ⊎_elim, Bool, true, false, List, [], ◌∷◌, ◌++◌, ℕ, map, reverse, refl, sym, subst, ◌∙◌, ap, append_assoc, Option, Some, None, IfSome, IsSomeAnd, option_map}
+use Rattle.std.proofs.Common.{◌≡◌, ◌⊎◌, inl, inr, ⊎_elim, Bool, true, false, List, [], ◌∷◌, ◌++◌, ℕ, map, reverse, refl, sym, subst, ◌∙◌, ap, append_assoc, Option, Some, None, IfSome, option_map}
 use Rattle.std.proofs.lemmas.List.{append_cancel_right, map-append, reverse-append}
 use Rattle.std.specs.List.{AllByRecursion}
 use Rattle.msr_tree.specs.Steps.{AtEachMoment, Failed, File, FolderStored, IsReady, Leaves, MayLeave, Path, Renamed, Step, Throughout, now, seen, touches}

@@ -1,6 +1,6 @@
 -- The names of a day are apart, if the folders of an archive are, and have names.
-use Rattle.std.proofs.Common.{◌≡◌, ◌≢◌, ◌+◌, ◌-◌, ◌≤◌, ℕ, true, false, not, [], ◌∷◌, ◌++◌, ap, sym, ◌∙◌, subst, arith, append_assoc, length, take, reverse, codes}
-use Rattle.std.proofs.lemmas.List.{append_cancel_left, append_cancel_right, length-append, reverse-append, take-append-le}
+use Rattle.std.proofs.Common.{◌≡◌, ◌≢◌, ◌+◌, ◌-◌, ◌≤◌, ℕ, true, false, not, ◌∷◌, ◌++◌, ap, sym, ◌∙◌, subst, arith, append_assoc, length, take, reverse, codes}
+use Rattle.std.proofs.lemmas.List.{append_cancel_left, length-append, reverse-append, take-append-le}
 use Rattle.std.proofs.lemmas.List.Sums.{suffix_len-le-length}
 use Rattle.std.proofs.lemmas.Slice.Eq.{bytes_eq-Decides}
 use Rattle.std.specs.Fmt.{decimal}
@@ -9,16 +9,16 @@ use Rattle.std.specs.Str.{bytes_eq}
 use Rattle.msr_folders.specs.Days.{IsDay}
 use Rattle.msr_folders.specs.Entries.{StandsWithin}
 use Rattle.msr_folders.specs.Paths.{ended, joined}
-use Rattle.msr_naming.specs.Naming.{day_paths, is_name, name_path}
+use Rattle.msr_naming.specs.Naming.{is_name, name_path}
 use Rattle.msr_naming.specs.declared.files.DayFiles.{DayFiles}
 use Rattle.msr_naming.specs.declared.files.Name.{Name}
 use Rattle.msr_naming.specs.declared.files.Name.TheVariants.{Records, RecordsPart, Report, ReportPart, Stamp, StampPart}
 use Rattle.msr_options.specs.Tasks.{StandApart}
 use Rattle.msr_options.specs.declared.task.Folders.{Folders}
-use Rattle.msr_tree.specs.Steps.{IsNoneOf, Path, folder_above, is_separator, stands_in}
+use Rattle.msr_tree.specs.Steps.{Path, folder_above, is_separator, stands_in}
 use Rattle.msr_walk.proofs.Aside.{overlaps_within}
-use Rattle.msr_walk.proofs.DayPaths.{day_within, long}
-use Rattle.msr_walk.proofs.Endings.{day_not_part, differ, ended_some, part_end, same_joined, some_joined, text_not_from, text_not_part}
+use Rattle.msr_walk.proofs.DayPaths.{day_within}
+use Rattle.msr_walk.proofs.Endings.{differ, ended_some, some_joined}
 use Rattle.msr_walk.specs.Files.{AreNamesOfDay, HaveNames, day_names, files_of}
 use Rattle.msr_walk.specs.Handling.{AreWithin}
 use Rattle.msr_walk.specs.Laws.{within_joined}

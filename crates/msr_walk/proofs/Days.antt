@@ -421,13 +421,13 @@ module _ (archive : Archiving) (apart : StandApart archive.folders) (path : Path
           shows = λ on number shows. handles.shows none (day_apart archive.folders path apart have day) on number shows;
         })
         | inr differ ↦
-          let unlike : path ≢ other = λ same. let yes = (bytes_eq-Decides path other).1 same in absurd cc in
-          record {
-            safe = λ number is_own is_of own stamp shows has. own_spared (files_of (day_names_in archive other) number) is_own is_of old new handles.changes.made handles.changes.since
-                (spares_other have other another unlike old new handles.changes number) has;
-            shows = λ on number shows. shows_spared (files_of (day_names_in archive other) number) old new handles.changes.made handles.changes.since
-                (spares_other have other another unlike old new handles.changes number) shows;
-          }
+            let unlike : path ≢ other = λ same. let yes = (bytes_eq-Decides path other).1 same in absurd cc in
+            record {
+              safe = λ number is_own is_of own stamp shows has. own_spared (files_of (day_names_in archive other) number) is_own is_of old new handles.changes.made handles.changes.since
+                  (spares_other have other another unlike old new handles.changes number) has;
+              shows = λ on number shows. shows_spared (files_of (day_names_in archive other) number) old new handles.changes.made handles.changes.since
+                  (spares_other have other another unlike old new handles.changes number) shows;
+            }
       ];
     }
 

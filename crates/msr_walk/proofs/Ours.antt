@@ -23,7 +23,7 @@ use Rattle.msr_walk.proofs.Standing.{joined_some}
 use Rattle.msr_walk.proofs.Waits.{all_but, all_so, none_waiting, of_days, waiting_apart, waiting_dropped, waiting_more, waiting_none, waiting_turned, waits_beside}
 use Rattle.msr_walk.proofs.Working.{goes_settles_more, goes_settles_none, goes_settles_then, held_after, inputs_same, settles_none}
 use Rattle.msr_walk.specs.Files.{HaveNames, files_of}
-use Rattle.msr_walk.specs.Handling.{AreOfDay, AreOfDaysAt, AreSome, AreWaiting, AreWaitingAt, IsNoneWaiting, WaitOn, WaitsAs, WaitsOn, files_waiting, parts_waiting}
+use Rattle.msr_walk.specs.Handling.{AreOfDay, AreOfDaysAt, AreSome, AreWaiting, AreWaitingAt, IsNoneWaiting, SomeWait, WaitsAs, TakenWaits, files_waiting, parts_waiting}
 use Rattle.msr_walk.specs.Kills.{day_names_in}
 use Rattle.msr_walk.specs.Told.{DropsWaiting, SettlesNames}
 
@@ -82,7 +82,7 @@ module _ {C : Type 0} where
   module _ (archive : Archiving) (day : Waiting C) (ours : List (Waiting C)) (before after : List Step → Type 0) where
     -- it waits no more
     pub drops_waiting : (apart : StandApart archive.folders) (others : List (Waiting C)) → others ≡ ours → Goes before after (SettlesNames archive (day.files.stamp.part ∷ []))
-        → WaitsOn before after archive day ours others
+        → TakenWaits before after archive day ours others
     drops_waiting apart others is goes = record {
       on = λ folder days wait past went.
           let sooner = goes.from past went in
@@ -91,14 +91,14 @@ module _ {C : Type 0} where
     }
 
   -- or waits on
-  pub keeps_waiting : (archive : Archiving) (day : Waiting C) (ours others : List (Waiting C)) (went : List Step → Type 0) → others ≡ ours ++ day ∷ [] → WaitsOn went went archive day ours others
+  pub keeps_waiting : (archive : Archiving) (day : Waiting C) (ours others : List (Waiting C)) (went : List Step → Type 0) → others ≡ ours ++ day ∷ [] → TakenWaits went went archive day ours others
   keeps_waiting archive day ours others went is = record {
     on = λ folder days wait. subst (λ (l : List (Waiting C)). AreWaitingAt went archive folder (days ++ l)) (sym (ap reverse is ∙ reverse-append ours (day ∷ []))) wait;
   }
 
   -- none was taken yet
   pub begun : (archive : Archiving) (days ours : List (Waiting C)) (went : List Step → Type 0) → AreOfDaysAt went archive days → ours ≡ []
-      → AreOfDaysAt went archive days × AreSome days (days ++ reverse ours) × WaitOn went went archive days (days ++ reverse ours)
+      → AreOfDaysAt went archive days × AreSome days (days ++ reverse ours) × SomeWait went went archive days (days ++ reverse ours)
       × Goes went went (SettlesNames archive (stamp_paths (files_waiting days)))
   begun archive days ours went of none =
       let same : days ++ reverse ours ≡ days = ap (λ l. days ++ reverse l) none ∙ append-nil days in (
@@ -133,9 +133,9 @@ module _ {C : Type 0} where
     }
 
     pub step_taken : (before mid after : List Step → Type 0) (others : List (Waiting C)) → AreOfDaysAt mid archive days → AreSome days0 (days ++ reverse ours)
-        → WaitOn before mid archive days0 (days ++ reverse ours) → Goes before mid (SettlesNames archive (stamp_paths (files_waiting days0)))
-        → (others ≡ ours ++ day ∷ []) ⊎ (others ≡ ours) → WaitsOn mid after archive day ours others → Goes mid after (SettlesNames archive (day.files.stamp.part ∷ []))
-        → AreOfDaysAt after archive rest × AreSome days0 (rest ++ reverse others) × WaitOn before after archive days0 (rest ++ reverse others)
+        → SomeWait before mid archive days0 (days ++ reverse ours) → Goes before mid (SettlesNames archive (stamp_paths (files_waiting days0)))
+        → (others ≡ ours ++ day ∷ []) ⊎ (others ≡ ours) → TakenWaits mid after archive day ours others → Goes mid after (SettlesNames archive (day.files.stamp.part ∷ []))
+        → AreOfDaysAt after archive rest × AreSome days0 (rest ++ reverse others) × SomeWait before after archive days0 (rest ++ reverse others)
         × Goes before after (SettlesNames archive (stamp_paths (files_waiting days0)))
     step_taken before mid after others of some wait first which on goes = (
       rest_of mid after _ goes of,
@@ -154,7 +154,7 @@ module _ {C : Type 0} where
     pub some_ours : (days0 : List (Waiting C)) → AreSome days0 (days ++ reverse ours) → AreSome days0 ours
     some_ours days0 some = record { fewer = λ name clear. stamps_turned name ours (subst (λ (l : List (Waiting C)). IsNoneOf name (stamp_paths (files_waiting l))) left (some.fewer name clear)) }
 
-    pub wait_ours : (archive : Archiving) (days0 : List (Waiting C)) (before after : List Step → Type 0) → WaitOn before after archive days0 (days ++ reverse ours) → WaitOn before after archive days0 ours
+    pub wait_ours : (archive : Archiving) (days0 : List (Waiting C)) (before after : List Step → Type 0) → SomeWait before after archive days0 (days ++ reverse ours) → SomeWait before after archive days0 ours
     wait_ours archive days0 before after wait = record {
       on = λ folder held past went. waiting_turned archive folder ours past (subst (λ (l : List (Waiting C)). AreWaiting archive folder l past) left (wait.on folder held past went));
     }

@@ -1,13 +1,13 @@
 -- What stays of a day while names of others change.
-use Rattle.std.proofs.Common.{◌≡◌, ℕ, Bool, List, [], ◌∷◌, ◌++◌, refl, sym, ◌∙◌, ap, subst, Option, None, option_map}
+use Rattle.std.proofs.Common.{◌≡◌, ℕ, Bool, List, [], ◌∷◌, ◌++◌, sym, ◌∙◌, subst, Option, None}
 use Rattle.msr_making.specs.Making.{WaitsForStamp}
 use Rattle.msr_naming.proofs.Order.{alone}
-use Rattle.msr_naming.specs.Promise.{HasOwn, IsFree, SeesNone, ShowsDay}
+use Rattle.msr_naming.specs.Promise.{HasOwn, ShowsDay}
 use Rattle.msr_naming.specs.declared.files.DayFiles.{DayFiles}
 use Rattle.msr_options.specs.Choice.{Choice}
 use Rattle.msr_tree.proofs.Changes.{same_now}
-use Rattle.msr_tree.proofs.Crash.{stays, still, untouched}
-use Rattle.msr_tree.specs.Steps.{AtEachMoment, IsNoneOf, IsReady, IsStored, Leaves, Path, Spares, Step, Throughout, now, seen}
+use Rattle.msr_tree.proofs.Crash.{stays, still}
+use Rattle.msr_tree.specs.Steps.{AtEachMoment, IsReady, IsStored, Leaves, Path, Spares, Step, Throughout, now, seen}
 use Rattle.msr_walk.specs.Files.{DayNames, files_of}
 use Rattle.msr_walk.specs.Laws.{found_as, seen_as}
 

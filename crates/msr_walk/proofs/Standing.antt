@@ -1,5 +1,5 @@
 -- The files of the days of a folder stand in its folders of records and reports.
-use Rattle.std.proofs.Common.{◌≡◌, ◌≢◌, ◌+◌, ◌-◌, ◌<◌, ◌≤◌, ℕ, zero, suc, true, not, cond, [], ◌∷◌, ◌++◌, refl, sym, ◌∙◌, ap, append_assoc, arith, length, length-append, take, reverse, codes}
+use Rattle.std.proofs.Common.{◌≡◌, ◌≢◌, ◌+◌, ◌-◌, ◌<◌, ℕ, zero, suc, not, cond, [], ◌∷◌, ◌++◌, refl, sym, ◌∙◌, ap, append_assoc, arith, length, length-append, take, reverse, codes}
 use Rattle.std.proofs.lemmas.List.{reverse-append}
 use Rattle.std.proofs.lemmas.List.Sums.{suffix_len-le-length}
 use Rattle.std.proofs.lemmas.Slice.Eq.{bytes_eq-Decides}
@@ -10,7 +10,6 @@ use Rattle.msr_folders.specs.Paths.{folder_of, joined}
 use Rattle.msr_naming.specs.Promise.{StandInFolders}
 use Rattle.msr_options.specs.Tasks.{StandApart}
 use Rattle.msr_options.specs.declared.task.Folders.{Folders}
-use Rattle.msr_sds.specs.SdsPath.{SdsPath, in_folders}
 use Rattle.msr_tree.specs.Steps.{Path, folder_above, is_separator}
 use Rattle.msr_walk.proofs.DayApart.{above_same, report_is, text_above}
 use Rattle.msr_walk.specs.Files.{HaveNames, day_names, files_of}

@@ -1,12 +1,12 @@
 -- Days that wait for their stamps to get their names.
-use Rattle.std.proofs.Common.{◌≡◌, ◌≢◌, ◌⊎◌, inl, inr, ⊎_elim, ℕ, Bool, true, false, List, [], ◌∷◌, ◌++◌, map, reverse, refl, sym, ◌∙◌, ap, subst}
+use Rattle.std.proofs.Common.{◌≡◌, ◌≢◌, ◌⊎◌, inl, inr, ⊎_elim, ℕ, List, [], ◌∷◌, ◌++◌, reverse, refl, sym, ◌∙◌, ap, subst}
 use Rattle.std.proofs.lemmas.Bool.{cases_Bool}
 use Rattle.std.proofs.lemmas.List.{append-nil, reverse-append}
 use Rattle.std.proofs.lemmas.Slice.Eq.{bytes_eq-Decides}
 use Rattle.std.specs.List.{AllByRecursion}
 use Rattle.std.specs.Str.{bytes_eq}
 use Rattle.msr_folders.specs.Days.{IsDay}
-use Rattle.msr_folders.specs.Paths.{folder_of, joined}
+use Rattle.msr_folders.specs.Paths.{folder_of}
 use Rattle.msr_naming.specs.Naming.{IsOther, day_paths, name_path}
 use Rattle.msr_naming.specs.Promise.{AreOthers, IsOneOf, stamp_paths}
 use Rattle.msr_naming.specs.declared.batch.Waiting.{Waiting}
@@ -216,13 +216,13 @@ module _ (archive : Archiving) where
   found_waiting apart have folder path day [] past all others = inr tt
   found_waiting apart have folder path day (files ∷ list) past all others = elim (cases_Bool (bytes_eq path all.0.path)) [
     | inl same ↦
-      let is : all.0.path ≡ path = sym ((bytes_eq-Decides path all.0.path).0 same) in
-      inl (record {
-        files = files;
-        one = record { before = []; after = list; are = refl; others_before = tt; others_after = others.0 };
-        beside = subst (λ p. folder_of p ≡ folder) is all.0.beside;
-        waits = subst (λ p. WaitsAs archive p files past) is all.0.waits;
-      })
+        let is : all.0.path ≡ path = sym ((bytes_eq-Decides path all.0.path).0 same) in
+        inl (record {
+          files = files;
+          one = record { before = []; after = list; are = refl; others_before = tt; others_after = others.0 };
+          beside = subst (λ p. folder_of p ≡ folder) is all.0.beside;
+          waits = subst (λ p. WaitsAs archive p files past) is all.0.waits;
+        })
     | inr unlike ↦ ⊎_elim
         (λ found. inl (record {
           files = found.files;

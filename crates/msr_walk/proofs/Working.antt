@@ -1,5 +1,5 @@
 -- What is done within two folders.
-use Rattle.std.proofs.Common.{◌<◌, ◌≡◌, ◌≢◌, ℕ, zero, suc, arith, length, get_or, codes, inl, inr, ⊎_elim, Bool, true, false, List, [], ◌∷◌, ◌++◌, refl, sym, ◌∙◌, ap, subst, Some, None, Result, Ok, Err}
+use Rattle.std.proofs.Common.{◌≡◌, ◌≢◌, ℕ, codes, inl, inr, ⊎_elim, Bool, true, false, List, [], ◌∷◌, ◌++◌, refl, sym, ◌∙◌, ap, subst, Some, None, Result, Ok, Err}
 use Rattle.std.proofs.lemmas.Bool.{cases_Bool}
 use Rattle.std.proofs.lemmas.Slice.Eq.{bytes_eq-Decides}
 use Rattle.std.specs.List.{AllByRecursion}
@@ -161,9 +161,6 @@ module _ (archive : Archiving) where
 
   pub looks_work : (goes_on : Bool) (old new : List Step) → ChangesFiles [] old new → WorksFor goes_on archive old new
   looks_work goes_on old new changes = settled_works goes_on old new (looks_settled old new changes).works
-
-  pub looks_goes : (goes_on : Bool) (before after : List Step → Type 0) → Goes before after (ChangesFiles []) → Goes before after (WorksFor goes_on archive)
-  looks_goes goes_on before after goes = goes_so _ _ before after (λ old new went changes. looks_work goes_on old new changes) goes
 
   pub goes_works_none : (goes_on : Bool) (before : List Step → Type 0) → Goes before before (WorksFor goes_on archive)
   goes_works_none goes_on before = goes_none (WorksFor goes_on archive) before (works_none goes_on)
@@ -363,12 +360,6 @@ module _ (archive : Archiving) where
         let waiting = wait old went in
         stamps_settle folder (files_waiting days) result old new waiting.each waiting.apart
         (subst (λ p. NamesStamps (joined out_of folder) p (files_waiting days) result old new) reports_is (subst (λ p. NamesStamps p at_reports (files_waiting days) result old new) out_is names))) goes
-
--- lists of days
-pub all_at : {X : Type 0} (P : X → Type 0) (xs : List X) (i : ℕ) (x : X) → AllByRecursion P xs → i < length xs → x ≡ get_or xs i x → P x
-all_at P [] i x all lt is = absurd (omega (arith, lt))
-all_at P (first ∷ xs) zero x all lt is = subst P (sym is) all.0
-all_at P (first ∷ xs) (suc i) x all lt is = all_at P xs i x all.1 (omega (arith, lt)) is
 
 -- what holds at each moment so far still does
 pub held_after : (Holds : Type 0) (Does : (old new : List Step) → Type 0) (before after : List Step → Type 0) → Goes before after Does

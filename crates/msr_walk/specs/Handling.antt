@@ -20,7 +20,7 @@ use Rattle.msr_options.specs.declared.task.Archiving.{Archiving}
 use Rattle.msr_outcomes.specs.Outcomes.{IsForDay}
 use Rattle.msr_folders.specs.Walks.{HoldsAt}
 use Rattle.msr_tree.specs.Folders.{LeavesFolders}
-use Rattle.msr_tree.specs.Steps.{ChangesOnly, IsNoneOf, Path, Spares, Step}
+use Rattle.msr_tree.specs.Steps.{IsNoneOf, Path, Spares, Step}
 use Rattle.msr_walk.specs.Files.{AreNamesOfDay, DayNames, HaveNames, IsStampWithin, files_of}
 use Rattle.msr_walk.specs.Kills.{day_names_in}
 
@@ -115,7 +115,7 @@ pub record IsNoneWaiting {C : Type 0} (archive : Archiving) (path : Path) (days 
       → AllByRecursion (λ files. IsOther files (files_of (day_names_in archive path) number)) (files_waiting days)
 
 -- A day that is taken from those that wait is the next that waits on, or it waits no more.
-pub record WaitsOn {C : Type 0} (before after : List Step → Type 0) (archive : Archiving) (day : Waiting C) (ours0 ours : List (Waiting C)) : Type 0 where
+pub record TakenWaits {C : Type 0} (before after : List Step → Type 0) (archive : Archiving) (day : Waiting C) (ours0 ours : List (Waiting C)) : Type 0 where
   pub on : (folder : Path) (days : List (Waiting C)) → AreWaitingAt before archive folder (days ++ day ∷ reverse ours0)
       → AreWaitingAt after archive folder (days ++ reverse ours)
 
@@ -124,5 +124,5 @@ pub record AreSome {C : Type 0} (days ours : List (Waiting C)) : Type 0 where
   pub fewer : (name : Path) → IsNoneOf name (stamp_paths (files_waiting days)) → IsNoneOf name (stamp_paths (files_waiting ours))
 
 -- Of those that wait some wait on.
-pub record WaitOn {C : Type 0} (before after : List Step → Type 0) (archive : Archiving) (days ours : List (Waiting C)) : Type 0 where
+pub record SomeWait {C : Type 0} (before after : List Step → Type 0) (archive : Archiving) (days ours : List (Waiting C)) : Type 0 where
   pub on : (folder : Path) → AreWaitingAt before archive folder days → AreWaitingAt after archive folder ours

@@ -204,8 +204,7 @@ module _ (place : Path) where
       → AllByRecursion (λ files. IsWaiting archive folder files (listed past)) list
   each_listed archive folder [] past all = tt
   each_listed archive folder (files ∷ list) past all =
-      let waits = all.0.waits in
-      (
+      let waits = all.0.waits in (
         record {
           path = all.0.path;
           day = all.0.day;

@@ -6,7 +6,7 @@ ghost use Rattle.msr_folders.specs.Days.{IsDay};
 ghost use Rattle.msr_folders.specs.Walks.{HoldsAt};
 ghost use Rattle.msr_naming.specs.Promise.{stamp_paths};
 ghost use Rattle.msr_tree.specs.Calls.{Goes};
-ghost use Rattle.msr_walk.specs.Handling.{AreOfDay, AreOfDaysAt, AreSome, AreWaitingAt, IsNoneWaiting, WaitOn, WaitsAs, WaitsOn, files_waiting, parts_waiting};
+ghost use Rattle.msr_walk.specs.Handling.{AreOfDay, AreOfDaysAt, AreSome, AreWaitingAt, IsNoneWaiting, SomeWait, WaitsAs, TakenWaits, files_waiting, parts_waiting};
 ghost use Rattle.msr_walk.specs.Told.{DropsWaiting, SettlesNames, WorksFor};
 
 use crate::claims::Claims;
@@ -86,7 +86,7 @@ fn keep_ours<T: Tree, C: Claims>(
 )
     requires { HoldsAt (T.went tree.old) (λ past. AreOfDay walker.now.archive.now day.files) }
     ensures ours { (ours.new.items ≡ ours.old.items ++ day ∷ []) ⊎ (ours.new.items ≡ ours.old.items) }
-    ensures waits { WaitsOn (T.went tree.old) (T.went tree.new) walker.now.archive.now day ours.old.items ours.new.items }
+    ensures waits { TakenWaits (T.went tree.old) (T.went tree.new) walker.now.archive.now day ours.old.items ours.new.items }
     ensures works { Goes (T.went tree.old) (T.went tree.new) (SettlesNames walker.now.archive.now (day.files.stamp.part ∷ [])) }
 {
     if !walker.claims.is_ours(&day.claim) {
@@ -107,7 +107,7 @@ fn all_ours<T: Tree, C: Claims>(
 ) -> Vec<Waiting<C::Claim>>
     requires { AreOfDaysAt (T.went tree.old) walker.now.archive.now days.items }
     ensures some { AreSome days.items result.items }
-    ensures wait { WaitOn (T.went tree.old) (T.went tree.new) walker.now.archive.now days.items result.items }
+    ensures wait { SomeWait (T.went tree.old) (T.went tree.new) walker.now.archive.now days.items result.items }
     ensures works { Goes (T.went tree.old) (T.went tree.new) (SettlesNames walker.now.archive.now (stamp_paths (files_waiting days.items))) }
 {
     let mut ours = Vec::new(walker.alloc);

@@ -27,7 +27,7 @@ returns-clause-waits g c =
     let at : c.as_str-2.result.now ≡ c.args.self.now.input = search rules in
     elim c.match-end.branch [
       | in-Stamp w ↦ rw w.waiting-is (awaits_named c.args.self.now c.args.work.now.asked c.number.result c.in-Ok.files _ c.do_day-end.result _ _ c.in-Ok.ensures w.in-Stamp.is
-        (does_named c.args.self.now c.in-Ok.files c.args.work.now.asked c.as_str-2.result.now c.number.result _ c.do_day-end.result _ _ at c.in-Ok.ensures c.do_day-end.ensures.goes))
+          (does_named c.args.self.now c.in-Ok.files c.args.work.now.asked c.as_str-2.result.now c.number.result _ c.do_day-end.result _ _ at c.in-Ok.ensures c.do_day-end.ensures.goes))
       | in-Nothing w ↦ rw w.waiting-is tt
       | in-Parts w ↦ rw w.waiting-is tt
     ]
