@@ -25,6 +25,11 @@ abbrev pub IsOwnOfFile : Path → Choice → ((records report : List ℕ) → Bo
 IsOwnOfFile input choice is_own past = (bytes records text : List ℕ) (report : Report) → seen past input ≡ Some bytes
     → IsReported choice bytes records text report → is_own records text ≡ true
 
+-- the stamp of the day's file, as a look finds it, is of the records and the report of a repack of what it has
+abbrev pub IsStampOfFile : Path → Choice → ((stamp records report : List ℕ) → Bool) → List Step → Type 0
+IsStampOfFile input choice is_of past = (facts : Facts) (bytes records text : List ℕ) (report : Report) → Looks input past (Some facts)
+    → seen past input ≡ Some bytes → IsReported choice bytes records text report → is_of (stamp_text Input (stamp_of facts)) records text ≡ true
+
 -- A stamp stands beside its name, on the disk: that of the day's file as a look found it before it was repacked. The names
 -- of records and report lead to those of a repack of what it had then, and no stamp is seen.
 pub record WaitsForStamp (input : Path) (files : DayFiles) (choice : Choice) (old new : List Step) : Type 0 where

@@ -1,6 +1,6 @@
 -- The order in which the files of a day get their names.
 use Rattle.std.proofs.Common.{◌≡◌, ⊎_elim, ℕ, Bool, true, false, List, [], ◌∷◌, refl, sym, subst, Option, Some, None, IfSome, IsSomeAnd}
-use Rattle.msr_tree.specs.Steps.{Failed, FolderStored, Leaves, Removed, Renamed, Step, Throughout, folder_above, touches}
+use Rattle.msr_tree.specs.Steps.{Failed, FolderStored, Leaves, MayLeave, Removed, Renamed, Step, Throughout, folder_above, touches}
 use Rattle.msr_tree.proofs.Changes.{ready_renamed, ready_settled}
 use Rattle.msr_tree.proofs.Crash.{is_self, quiet, still, untouched}
 use Rattle.msr_naming.specs.declared.files.DayFiles.{DayFiles}
@@ -65,13 +65,17 @@ module _ (is_own : (records report : List ℕ) → Bool) (is_of : (stamp records
     stamp = λ stamp records report ms mr mp. unstamped stamp records report (no_stamp stamp ms);
   }
 
-  -- records and report, and perhaps their stamp
-  pub has_both : (s r p : List ℕ) (past : List Step) → is_own r p ≡ true → is_of s r p ≡ true → MayHave past files.stamp.path s → Leaves past files.records.path (Some r) → Leaves past files.report.path (Some p) → P past
-  has_both s r p past owns whole stamp_may records_are report_is = record {
+  -- records and report, and perhaps a stamp that is of them
+  pub has_all : (r p : List ℕ) (past : List Step) → is_own r p ≡ true → ((after : Option (List ℕ)) → MayLeave past files.stamp.path after → IfSome after (λ s. is_of s r p ≡ true))
+      → Leaves past files.records.path (Some r) → Leaves past files.report.path (Some p) → P past
+  has_all r p past owns stamp_may records_are report_is = record {
     report = λ records report mr mp. own r p records report owns (records_are records mr) (report_is report mp);
-    stamp = λ stamp records report ms mr mp. ⊎_elim (λ gone. unstamped stamp records report gone)
-        (λ is. of s r p stamp records report whole is (records_are records mr) (report_is report mp)) (stamp_may stamp ms);
+    stamp = λ stamp records report ms mr mp. stamp_of r p stamp records report (stamp_may stamp ms) (records_are records mr) (report_is report mp);
   }
+    where
+      stamp_of : (r p : List ℕ) (stamp records report : Option (List ℕ)) → IfSome stamp (λ s. is_of s r p ≡ true) → records ≡ Some r → report ≡ Some p → Of stamp records report
+      stamp_of r p None records report is rs ps = tt
+      stamp_of r p (Some s) records report is rs ps = of s r p (Some s) records report is refl rs ps
 
   module _ (are : AreDayNames files) where
     unstamps : (past : List Step) → P past → P (Removed files.stamp.path ∷ past)

@@ -1,18 +1,18 @@
 -- The stamps of days get their names.
-use Rattle.std.proofs.Common.{◌≡◌, ◌⊎◌, inl, inr, ⊎_elim, Bool, true, false, List, [], ◌∷◌, ◌++◌, ℕ, map, reverse, refl, sym, subst, ◌∙◌, ap, append_assoc, Option, Some, None, option_map}
+use Rattle.std.proofs.Common.{◌≡◌, ◌⊎◌, inl, inr, ⊎_elim, Bool, true, false, List, [], ◌∷◌, ◌++◌, ℕ, map, reverse, refl, sym, subst, ◌∙◌, ap, append_assoc, Option, Some, None, IfSome, option_map}
 use Rattle.std.proofs.lemmas.List.{append_cancel_right, map-append, reverse-append}
 use Rattle.std.specs.List.{AllByRecursion}
 use Rattle.msr_tree.specs.Steps.{AtEachMoment, Failed, File, FolderStored, IsReady, Leaves, MayLeave, Path, Renamed, Step, Throughout, now, seen, touches}
-use Rattle.msr_tree.proofs.Changes.{ready_settled}
-use Rattle.msr_tree.proofs.Crash.{is_self, leaves, leaves_seen, still, untouched}
+use Rattle.msr_tree.proofs.Changes.{ready_renamed, ready_settled}
+use Rattle.msr_tree.proofs.Crash.{is_of as shows_file, is_self, leaves, leaves_seen, quiet, still, untouched}
 use Rattle.msr_tree.proofs.Moments.{at_end, done, joined}
 use Rattle.msr_naming.specs.declared.files.DayFiles.{DayFiles}
 use Rattle.msr_naming.specs.declared.files.Name.TheVariants.{Records, Report, Stamp, StampPart}
 use Rattle.msr_naming.specs.Naming.{AreDayNames, IsOther, name_path}
 use Rattle.msr_naming.specs.declared.files.Name.{Name}
 use Rattle.msr_naming.specs.Promise.{AreOthers, HasOwn, IsOneOf, IsToBeStamped, StandInFolders}
-use Rattle.msr_naming.proofs.Names.{MayHave, may_nothing, may_renamed, may_still, none_shown, not_renamed, ready_still, seen_ready, seen_still}
-use Rattle.msr_naming.proofs.Order.{alone, has_both}
+use Rattle.msr_naming.proofs.Names.{none_shown, not_renamed, ready_still, seen_ready, seen_still}
+use Rattle.msr_naming.proofs.Order.{alone, has_all}
 
 abbrev pub stamping : DayFiles → Step
 stamping day = Renamed day.stamp.part day.stamp.path
@@ -25,19 +25,26 @@ stamping_each files (item ∷ items) = ap (λ (l : List Step). stamping (files i
 last_first : (day : DayFiles) (days : List DayFiles) (past : List Step) → reverse (map stamping (day ∷ days)) ++ past ≡ reverse (map stamping days) ++ (stamping day ∷ past)
 last_first day days past = ap (λ (l : List Step). l ++ past) (reverse-append (stamping day ∷ []) (map stamping days)) ∙ append_assoc (reverse (map stamping days)) (stamping day ∷ []) past
 
+-- each stamp that a crash may leave is of these
+abbrev pub MayBeOf : (is_of : List ℕ → Bool) → List Step → Path → Type 0
+MayBeOf is_of past name = (after : Option (List ℕ)) → MayLeave past name after → IfSome after (λ s. is_of s ≡ true)
+
 -- Records and report of a day are on the disk, and its stamp, which gets its name or has it.
-pub record Awaits (files : DayFiles) (s r p : List ℕ) (past : List Step) : Type 0 where
+pub record Awaits (files : DayFiles) (is_of : List ℕ → Bool) (s r p : List ℕ) (past : List Step) : Type 0 where
   pub records_are : Leaves past files.records.path (Some r)
   pub report_is : Leaves past files.report.path (Some p)
-  pub stamp_may : MayHave past files.stamp.path s
+  pub stamp_may : MayBeOf is_of past files.stamp.path
   pub part_is : (now past files.stamp.part ≡ None) ⊎ IsReady files.stamp.part s past
 
 abbrev pub IsThisOrOther : DayFiles → DayFiles → Type 0
 IsThisOrOther files day = (day ≡ files) ⊎ IsOther files day
 
-module _ (files : DayFiles) (are : AreDayNames files) (s r p : List ℕ) where
+module _ (files : DayFiles) (are : AreDayNames files) (is_of : List ℕ → Bool) (s r p : List ℕ) (whole : is_of s ≡ true) where
   abbrev Q : List Step → Type 0
-  Q = Awaits files s r p
+  Q = Awaits files is_of s r p
+
+  abbrev Of : Option (List ℕ) → Type 0
+  Of after = IfSome after (λ s. is_of s ≡ true)
 
   -- its own
   own : (past : List Step) → Q past → Q (stamping files ∷ past)
@@ -50,15 +57,24 @@ module _ (files : DayFiles) (are : AreDayNames files) (s r p : List ℕ) where
         report_is = still step past files.report.path (Some p) (not_renamed from to files.report.path (are.apart Report Stamp refl) (are.apart Report StampPart refl)) has.report_is;
         stamp_may = ⊎_elim
             (λ gone. may_lost past gone has.stamp_may)
-            (λ ready. may_renamed from to past s ready has.stamp_may)
+            (λ ready. may_renamed past ready has.stamp_may)
             has.part_is;
         part_is = inl (rw (are.apart StampPart Stamp refl, is_self from) refl);
       }
     where
-      may_lost : (past : List Step) → now past files.stamp.part ≡ None → MayHave past files.stamp.path s → MayHave (stamping files ∷ past) files.stamp.path s
+      may_lost : (past : List Step) → now past files.stamp.part ≡ None → MayBeOf is_of past files.stamp.path → MayBeOf is_of (stamping files ∷ past) files.stamp.path
       may_lost past gone has after may = ⊎_elim
           (λ before. has after before)
-          (λ shows. inl (none_shown (stamping files ∷ past) _ after (rw (is_self files.stamp.path) gone) shows))
+          (λ shows. subst Of (sym (none_shown (stamping files ∷ past) _ after (rw (is_self files.stamp.path) gone) shows)) tt)
+          (leaves (stamping files) past files.stamp.path after may)
+
+      may_renamed : (past : List Step) → IsReady files.stamp.part s past → MayBeOf is_of past files.stamp.path → MayBeOf is_of (stamping files ∷ past) files.stamp.path
+      may_renamed past ready has after may = ⊎_elim
+          (λ before. has after before)
+          (λ shows.
+          let is = ready_renamed files.stamp.part files.stamp.path s past ready in
+          let shown : after ≡ Some s = shows_file (stamping files ∷ past) _ is.file after is.leads is.stored shows ∙ ap (λ b. Some b) is.has in
+          subst Of (sym shown) whole)
           (leaves (stamping files) past files.stamp.path after may)
 
   -- that of another
@@ -69,7 +85,7 @@ module _ (files : DayFiles) (are : AreDayNames files) (s r p : List ℕ) where
       record {
         records_are = still step past files.records.path (Some r) (not Records) has.records_are;
         report_is = still step past files.report.path (Some p) (not Report) has.report_is;
-        stamp_may = may_still step past files.stamp.path s (not Stamp) has.stamp_may;
+        stamp_may = λ after may. has.stamp_may after (quiet step past files.stamp.path after (untouched step past files.stamp.path (not Stamp)) may);
         part_is = ⊎_elim (λ gone. inl (untouched step past files.stamp.part (not StampPart) ∙ gone)) (λ ready. inr (ready_still step past files.stamp.part s (not StampPart) ready)) has.part_is;
       }
 
@@ -163,14 +179,21 @@ module _ (is_own : (records report : List ℕ) → Bool) (is_of : (stamp records
   abbrev stored : List Step → List Step
   stored old = FolderStored reports ∷ FolderStored out ∷ old
 
-  awaiting : (old : List Step) → IsToBeStamped files s r p old → Awaits files s r p (stored old)
-  awaiting old awaits =
+  -- what a crash may leave is of these before, and no more comes back
+  stamps_of : (old : List Step) → IsToBeStamped files s r p old → P old → MayBeOf (λ s. is_of s r p) old files.stamp.path
+  stamps_of old awaits has after may = has.stamp after (Some r) (Some p) may
+      (subst (λ x. MayLeave old files.records.path x) (seen_ready old files.records.path r awaits.named.records_are) (leaves_seen old files.records.path))
+      (subst (λ x. MayLeave old files.report.path x) (seen_ready old files.report.path p awaits.named.report_is) (leaves_seen old files.report.path))
+
+  awaiting : (old : List Step) → IsToBeStamped files s r p old → P old → Awaits files (λ s. is_of s r p) s r p (stored old)
+  awaiting old awaits has =
       let l1 = FolderStored out ∷ old in
       let store = FolderStored reports in
       record {
         records_are = still store l1 files.records.path (Some r) refl (ready_settled files.records.path out r old stand.records_in awaits.named.records_are);
         report_is = ready_settled files.report.path reports p l1 stand.report_in (ready_still (FolderStored out) old files.report.path p refl awaits.named.report_is);
-        stamp_may = may_nothing (store ∷ l1) files.stamp.path s (still store l1 files.stamp.path None refl (still (FolderStored out) old files.stamp.path None refl awaits.named.unstamped));
+        stamp_may = λ after may. stamps_of old awaits has after
+            (quiet (FolderStored out) old files.stamp.path after refl (quiet store l1 files.stamp.path after refl may));
         part_is = inr (ready_still store l1 files.stamp.part s refl (ready_still (FolderStored out) old files.stamp.part s refl awaits.stamp_is));
       }
 
@@ -183,8 +206,8 @@ module _ (is_own : (records report : List ℕ) → Bool) (is_of : (stamp records
       let h2 = alone is_own is_of files (FolderStored reports) l1 refl refl refl h1 in
       let stores = done P old (stored old) (FolderStored reports ∷ FolderStored out ∷ []) refl ((has, h1), h2) in
       let each = subst (λ l. AllByRecursion (IsThisOrOther files) l) (sym one.are) (these files one.before one.after one.others_before one.others_after) in
-      let rest = follows (Awaits files s r p) P (λ past waits. has_both is_own is_of files s r p past owns whole waits.stamp_may waits.records_are waits.report_is) (stored old) _
-      (all_stamped files are s r p days (stored old) each (awaiting old awaits)) in
+      let rest = follows (Awaits files (λ s. is_of s r p) s r p) P (λ past waits. has_all is_own is_of files r p past owns waits.stamp_may waits.records_are waits.report_is) (stored old) _
+      (all_stamped files are (λ s. is_of s r p) s r p whole days (stored old) each (awaiting old awaits has)) in
       throughout P old (reverse (FolderStored out ∷ FolderStored reports ∷ map stamping days))
       (subst (λ (l : List Step). AtEachMoment P old l) (sym (stored_first out reports days old)) (joined P old (stored old) _ stores rest))
 

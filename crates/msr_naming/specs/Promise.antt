@@ -91,9 +91,10 @@ pub record KeepsIfKilled (files : DayFiles) (before : (is_own : (records report 
   pub changes : ChangesFiles (day_paths files) old new
   pub cause : IsErrOf result Failed → failures old < failures new
 
--- The stamp of a day is on the disk, beside its name, and the records and the report that it is of have theirs.
+-- The stamp of a day is on the disk, beside its name, and the records and the report that it is of have theirs. An old
+-- stamp may come back, if it is of those too.
 pub record IsToBeStamped (files : DayFiles) (stamp records report : List ℕ) (past : List Step) : Type 0 where
-  pub named : AreNamed files records report past
+  pub named : HaveDayNames files records report past
   pub stamp_is : IsReady files.stamp.part stamp past
 
 -- the folders of a day's records and report

@@ -1,5 +1,5 @@
 -- What a walk to its end told of an archive.
-use Rattle.std.proofs.Common.{◌≡◌, ℕ, List, ◌++◌, refl, subst}
+use Rattle.std.proofs.Common.{◌≡◌, ℕ, Bool, true, List, ◌++◌, refl, subst}
 use Rattle.msr_devices.specs.Device.{Device, Takes}
 use Rattle.msr_devices.proofs.Chaining.{takes_append}
 use Rattle.std.specs.Borrow.{Bor}
@@ -19,9 +19,10 @@ use Rattle.msr_walk.proofs.EntriesTold.{none_among}
 use Rattle.msr_outcomes.specs.Entries.{Entry, IsTally}
 use Rattle.msr_outcomes.specs.Known.{IsEntry}
 use Rattle.msr_outcomes.specs.Lines.{IsEntryLine}
-use Rattle.msr_walk.specs.Kills.{ChangesDays}
-use Rattle.msr_walk.specs.Laws.{days_laws, days_then}
-use Rattle.msr_walk.specs.Told.{IsToldOfVisit, TellsOutcomesOf, WalksTree, WorksFor}
+use Rattle.msr_walk.specs.Laws.{days_laws}
+use Rattle.msr_walk.specs.Losses.{ChangesDays}
+use Rattle.msr_walk.proofs.Working.{changes_settled, goes_settled}
+use Rattle.msr_walk.specs.Told.{IsToldOfVisit, SettlesNames, TellsOutcomesOf, WalksTree}
 use Rattle.msr_walk.specs.Walk.{StopsTellingOutcomes, TellsWalk}
 use Rattle.msr_outcomes.specs.Summary.{summary}
 use Rattle.msr_walk.specs.declared.folders.Walked.{Walked}
@@ -73,25 +74,25 @@ walk_as Tells Says One Two Listless root Are before after out0 out tally0 tally 
 pub told_and_left : {P : Type 0} (tally : P → Tally) (archive : Archiving) → StandApart archive.folders
     → (below : List (Bor Path)) (before mid after : List Step → Type 0) (out0 out : Device) (of0 of1 of : P) → below ≡ archive.below.items → tally of ≡ tally of1
     → TellsVisits (TellsOutcomesOf tally archive) (IsToldOfVisit archive.folders.root.now archive.folders.out.now archive.folders.reports.now archive)
-    (ChangesDays archive) (Unit {0}) archive.folders.root.now
-    (λ past new. AreEntriesBetween (ChangesDays archive) past new archive.folders.root.now below) before mid out0 out of0 of1
-    → Goes mid after (WorksFor archive) → TellsArchive tally archive before after out0 out of0 of
-told_and_left tally archive apart below before mid after out0 out of0 of1 of is same told goes =
+    (ChangesDays true archive) (Unit {0}) archive.folders.root.now
+    (λ past new. AreEntriesBetween (ChangesDays true archive) past new archive.folders.root.now below) before mid out0 out of0 of1
+    → (names : List Path) → Goes mid after (SettlesNames archive names) → TellsArchive tally archive before after out0 out of0 of
+told_and_left tally archive apart below before mid after out0 out of0 of1 of is same told names goes =
     let root : Path = archive.folders.root.now in
     let outf : Path = archive.folders.out.now in
     let reports : Path = archive.folders.reports.now in
     let says : (old new : List Step) → Visit → List Entry → Type 0 = IsToldOfVisit root outf reports archive in
     subst (λ b. TellsVisits (TellsOutcomesOf tally archive) says (ChangesWithin outf reports) (Unit {0}) root (λ past new. AreEntriesOf past root b) before after out0 out of0 of) is
-    (walk_as (TellsOutcomesOf tally archive) says (ChangesDays archive) (ChangesWithin outf reports) (Unit {0}) root (λ past new. AreEntriesOf past root below) before after out0 out of0 of
+    (walk_as (TellsOutcomesOf tally archive) says (ChangesDays true archive) (ChangesWithin outf reports) (Unit {0}) root (λ past new. AreEntriesOf past root below) before after out0 out of0 of
     (λ old new changes. changes.within)
-    (walk_left {V = Unit {0}} (λ v. TellsOutcomesOf tally archive) (λ v. StopsTellingOutcomes archive) (λ v. says) (λ v goes_on. ChangesDays archive) (λ v. Unit {0})
+    (walk_left {V = Unit {0}} (λ v. TellsOutcomesOf tally archive) (λ v. StopsTellingOutcomes archive) (λ v. says) (λ v goes_on. ChangesDays goes_on archive) (λ v. Unit {0})
     (days_laws {V = Unit {0}} (λ v. IsEntry archive) (λ v. IsEntryLine archive) (λ entries counted. IsTally entries (tally counted)) (λ v. archive) (λ v. separate archive.folders apart))
     tt root (λ past new. AreEntriesOf past root below) before mid after out0 out of0 of1 of (λ old middle new visits are. are)
-    (tells_now (TellsOutcomesOf tally archive) says (ChangesDays archive) (Unit {0}) root below before mid out0 out of0 of1
+    (tells_now (TellsOutcomesOf tally archive) says (ChangesDays true archive) (Unit {0}) root below before mid out0 out of0 of1
     (λ old new changes. root_same outf reports root (separate archive.folders apart) old new changes.within) told)
-    (λ at. none_among tally archive at of1 of same) goes))
+    (λ at. none_among tally archive at of1 of same) (goes_settled archive true names mid after goes)))
 
-pub changes_and_left : (archive : Archiving) → StandApart archive.folders → (before mid after : List Step → Type 0)
-    → Goes before mid (ChangesDays archive) → Goes mid after (WorksFor archive) → Goes before after (ChangesDays archive)
-changes_and_left archive apart before mid after one two = goes_then _ _ _ before mid after
-    (λ old middle new first second. days_then archive (separate archive.folders apart) old middle new first second.does) one two
+pub changes_and_left : (archive : Archiving) → StandApart archive.folders → (goes_on : Bool) (names : List Path) (before mid after : List Step → Type 0)
+    → Goes before mid (ChangesDays goes_on archive) → Goes mid after (SettlesNames archive names) → Goes before after (ChangesDays goes_on archive)
+changes_and_left archive apart goes_on names before mid after one two = goes_then _ _ _ before mid after
+    (λ old middle new first second. changes_settled archive apart goes_on old middle new first second.works) one two

@@ -1,6 +1,6 @@
 -- The names of a day are apart, if the folders of an archive are, and have names.
-use Rattle.std.proofs.Common.{◌≡◌, ◌≢◌, ◌+◌, ◌-◌, ◌≤◌, ℕ, true, false, not, [], ◌∷◌, ◌++◌, ap, sym, ◌∙◌, subst, arith, append_assoc, length, take, reverse, codes}
-use Rattle.std.proofs.lemmas.List.{append_cancel_left, append_cancel_right, length-append, reverse-append, take-append-le}
+use Rattle.std.proofs.Common.{◌≡◌, ◌≢◌, ◌+◌, ◌-◌, ◌≤◌, ℕ, true, false, not, ◌∷◌, ◌++◌, ap, sym, ◌∙◌, subst, arith, append_assoc, length, take, reverse, codes}
+use Rattle.std.proofs.lemmas.List.{append_cancel_left, length-append, reverse-append, take-append-le}
 use Rattle.std.proofs.lemmas.List.Sums.{suffix_len-le-length}
 use Rattle.std.proofs.lemmas.Slice.Eq.{bytes_eq-Decides}
 use Rattle.std.specs.Fmt.{decimal}
@@ -9,16 +9,16 @@ use Rattle.std.specs.Str.{bytes_eq}
 use Rattle.msr_folders.specs.Days.{IsDay}
 use Rattle.msr_folders.specs.Entries.{StandsWithin}
 use Rattle.msr_folders.specs.Paths.{ended, joined}
-use Rattle.msr_naming.specs.Naming.{day_paths, is_name, name_path}
+use Rattle.msr_naming.specs.Naming.{is_name, name_path}
 use Rattle.msr_naming.specs.declared.files.DayFiles.{DayFiles}
 use Rattle.msr_naming.specs.declared.files.Name.{Name}
 use Rattle.msr_naming.specs.declared.files.Name.TheVariants.{Records, RecordsPart, Report, ReportPart, Stamp, StampPart}
 use Rattle.msr_options.specs.Tasks.{StandApart}
 use Rattle.msr_options.specs.declared.task.Folders.{Folders}
-use Rattle.msr_tree.specs.Steps.{IsNoneOf, Path, folder_above, is_separator, stands_in}
+use Rattle.msr_tree.specs.Steps.{Path, folder_above, is_separator, stands_in}
 use Rattle.msr_walk.proofs.Aside.{overlaps_within}
-use Rattle.msr_walk.proofs.DayPaths.{day_within, long}
-use Rattle.msr_walk.proofs.Endings.{day_not_part, differ, ended_some, part_end, same_joined, some_joined, text_not_from, text_not_part}
+use Rattle.msr_walk.proofs.DayPaths.{day_within}
+use Rattle.msr_walk.proofs.Endings.{differ, ended_some, some_joined}
 use Rattle.msr_walk.specs.Files.{AreNamesOfDay, HaveNames, day_names, files_of}
 use Rattle.msr_walk.specs.Handling.{AreWithin}
 use Rattle.msr_walk.specs.Laws.{within_joined}
@@ -49,7 +49,7 @@ five : (n : ℕ) → 1 + (1 + (1 + (1 + (1 + n)))) ≡ 5 + n
 five n = omega arith
 
 -- the folder above a name with an ending without a slash is that of the name
-above_same : (path ending : Path) → suffix_len (λ byte. not (is_separator byte)) (path ++ ending) ≡ length ending + suffix_len (λ byte. not (is_separator byte)) path
+pub above_same : (path ending : Path) → suffix_len (λ byte. not (is_separator byte)) (path ++ ending) ≡ length ending + suffix_len (λ byte. not (is_separator byte)) path
     → folder_above (path ++ ending) ≡ take (length path - suffix_len (λ byte. not (is_separator byte)) path - 1) path
 above_same path ending more =
     let last : ℕ = suffix_len (λ byte. not (is_separator byte)) path in
@@ -58,7 +58,7 @@ above_same path ending more =
     = omega (arith, more, length-append path ending) in
     ap (λ n. take n (path ++ ending)) front ∙ take-append-le (length path - last - 1) path ending (omega arith)
 
-text_above : (path : Path) → suffix_len (λ byte. not (is_separator byte)) (path ++ codes ".txt") ≡ 4 + suffix_len (λ byte. not (is_separator byte)) path
+pub text_above : (path : Path) → suffix_len (λ byte. not (is_separator byte)) (path ++ codes ".txt") ≡ 4 + suffix_len (λ byte. not (is_separator byte)) path
 text_above path = ap (prefix_len (λ byte. not (is_separator byte))) (reverse-append path (codes ".txt"))
     ∙ four (prefix_len (λ byte. not (is_separator byte)) (reverse path))
 
@@ -71,40 +71,40 @@ beside_so path = (bytes_eq-Decides (folder_above (path ++ codes ".from")) (folde
     (above_same path (codes ".from") (from_above path) ∙ sym (above_same path (codes ".txt") (text_above path)))
 
 module _ (folders : Folders) (path : Path) (apart : StandApart folders) (names : HaveNames folders.out.now folders.reports.now) (day : IsDay path) (number : ℕ) where
-  abbrev files : DayFiles
+  abbrev pub files : DayFiles
   files = files_of (day_names folders.root.now folders.out.now folders.reports.now path) number
 
-  abbrev part : Path
+  abbrev pub part : Path
   part = codes "." ++ (decimal number ++ codes ".part")
 
-  abbrev records : Path
+  abbrev pub records : Path
   records = joined folders.out.now path
 
-  abbrev report : Path
+  abbrev pub report : Path
   report = joined folders.reports.now path
 
-  within : AreWithin folders.out.now folders.reports.now files
+  pub within : AreWithin folders.out.now folders.reports.now files
   within = (day_within folders.root.now folders.out.now folders.reports.now path day).are number
 
   -- what is made of records stands apart from what is made of reports
-  sides : (one other : Path) → StandsWithin folders.out.now one → StandsWithin folders.reports.now other → one ≢ other
+  pub sides : (one other : Path) → StandsWithin folders.out.now one → StandsWithin folders.reports.now other → one ≢ other
   sides one other first second is = apart.outputs (overlaps_within folders.out.now folders.reports.now other (subst (λ p. StandsWithin folders.out.now p) is first) second)
 
-  records_part_is : files.records.part ≡ records ++ part
+  pub records_part_is : files.records.part ≡ records ++ part
   records_part_is = let some = some_joined folders.out.now path names.out_some in ended_some records part some.0 some.1 some.2
 
-  report_is : files.report.path ≡ report ++ codes ".txt"
+  pub report_is : files.report.path ≡ report ++ codes ".txt"
   report_is = let some = some_joined folders.reports.now path names.reports_some in ended_some report (codes ".txt") some.0 some.1 some.2
 
-  stamp_is : files.stamp.path ≡ report ++ codes ".from"
+  pub stamp_is : files.stamp.path ≡ report ++ codes ".from"
   stamp_is = let some = some_joined folders.reports.now path names.reports_some in ended_some report (codes ".from") some.0 some.1 some.2
 
-  report_part_is : files.report.part ≡ report ++ (codes ".txt" ++ part)
+  pub report_part_is : files.report.part ≡ report ++ (codes ".txt" ++ part)
   report_part_is =
       let some = some_joined folders.reports.now path names.reports_some in
       ap (λ p. ended p part) report_is ∙ ended_some (report ++ codes ".txt") part some.0 (some.1 ++ codes ".txt") (ap (λ p. p ++ codes ".txt") some.2) ∙ append_assoc report (codes ".txt") part
 
-  stamp_part_is : files.stamp.part ≡ report ++ (codes ".from" ++ part)
+  pub stamp_part_is : files.stamp.part ≡ report ++ (codes ".from" ++ part)
   stamp_part_is =
       let some = some_joined folders.reports.now path names.reports_some in
       ap (λ p. ended p part) stamp_is ∙ ended_some (report ++ codes ".from") part some.0 (some.1 ++ codes ".from") (ap (λ p. p ++ codes ".from") some.2) ∙ append_assoc report (codes ".from") part
@@ -232,75 +232,3 @@ day_apart folders path apart names day = record {
         );
       };
 }
-
--- Another day's records and report have none of the names of a day.
-module _ (folders : Folders) (path other : Path) (apart : StandApart folders) (names : HaveNames folders.out.now folders.reports.now) (day : IsDay path) (another : IsDay other)
-    (unlike : path ≢ other) (number : ℕ) where
-  abbrev mine : DayFiles
-  mine = files_of (day_names folders.root.now folders.out.now folders.reports.now path) number
-
-  abbrev theirs : DayFiles
-  theirs = files_of (day_names folders.root.now folders.out.now folders.reports.now other) number
-
-  here : AreWithin folders.out.now folders.reports.now mine
-  here = within folders path apart names day number
-
-  there : AreWithin folders.out.now folders.reports.now theirs
-  there = within folders other apart names another number
-
-  two_sides : (one two : Path) → StandsWithin folders.out.now one → StandsWithin folders.reports.now two → one ≢ two
-  two_sides = sides folders path apart names day number
-
-  other_path : (folder : Path) → folder ≢ [] → joined folder other ≢ joined folder path
-  other_path folder some is = unlike (sym (same_joined folder other path some (omega (arith, long other another.0 another.1)) (omega (arith, long path day.0 day.1)) is))
-
-  not_part : theirs.records.path ≢ mine.records.part
-  not_part is = day_not_part folders.out.now other another.0 names.out_some (omega (arith, long other another.0 another.1)) another.1.reads.spelled another.1.reads.form.day
-      (joined folders.out.now path ++ (codes "." ++ decimal number)) (is ∙ (records_part_is folders path apart names day number ∙ part_end (joined folders.out.now path) number))
-
-  abbrev report_here : Path
-  report_here = joined folders.reports.now path
-
-  abbrev report_there : Path
-  report_there = joined folders.reports.now other
-
-  theirs_is : theirs.report.path ≡ report_there ++ codes ".txt"
-  theirs_is = report_is folders other apart names another number
-
-  not_report : theirs.report.path ≢ mine.report.path
-  not_report is = other_path folders.reports.now names.reports_some (append_cancel_right report_there report_here (codes ".txt") (sym theirs_is ∙ (is ∙ report_is folders path apart names day number)))
-
-  not_report_part : theirs.report.path ≢ mine.report.part
-  not_report_part is = text_not_part report_there ((report_here ++ codes ".txt") ++ (codes "." ++ decimal number))
-      (sym theirs_is ∙ (is ∙ (report_part_is folders path apart names day number ∙ (sym (append_assoc report_here (codes ".txt") (codes "." ++ (decimal number ++ codes ".part"))) ∙ part_end (report_here ++ codes ".txt") number))))
-
-  not_stamp : theirs.report.path ≢ mine.stamp.path
-  not_stamp is = text_not_from report_there report_here (sym theirs_is ∙ (is ∙ stamp_is folders path apart names day number))
-
-  not_stamp_part : theirs.report.path ≢ mine.stamp.part
-  not_stamp_part is = text_not_part report_there ((report_here ++ codes ".from") ++ (codes "." ++ decimal number))
-      (sym theirs_is ∙ (is ∙ (stamp_part_is folders path apart names day number ∙ (sym (append_assoc report_here (codes ".from") (codes "." ++ (decimal number ++ codes ".part"))) ∙ part_end (report_here ++ codes ".from") number))))
-
-  pub others_apart : IsNoneOf theirs.records.path (day_paths mine) × IsNoneOf theirs.report.path (day_paths mine)
-  others_apart = (
-    (
-      differ _ _ (other_path folders.out.now names.out_some),
-      (
-        differ _ _ not_part,
-        (
-          differ _ _ (two_sides _ _ there.records here.report),
-          (
-            differ _ _ (two_sides _ _ there.records here.report_part),
-            (differ _ _ (two_sides _ _ there.records here.stamp.path), (differ _ _ (two_sides _ _ there.records here.stamp.part), tt)),
-          ),
-        ),
-      ),
-    ),
-    (
-      differ _ _ (λ is. two_sides _ _ here.records there.report (sym is)),
-      (
-        differ _ _ (λ is. two_sides _ _ here.records_part there.report (sym is)),
-        (differ _ _ not_report, (differ _ _ not_report_part, (differ _ _ not_stamp, (differ _ _ not_stamp_part, tt)))),
-      ),
-    ),
-  )

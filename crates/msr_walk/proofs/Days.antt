@@ -1,12 +1,12 @@
 -- What becomes of days.
-use Rattle.std.proofs.Common.{◌≡◌, ◌≢◌, inl, inr, ℕ, refl, ap, sym, ◌∙◌, subst, append_assoc, Bool, true, false, IfOk, List, [], ◌∷◌, ◌++◌, Option, Some, Result, Ok, Err}
+use Rattle.std.proofs.Common.{◌≡◌, ◌≢◌, ◌<◌, inl, inr, ℕ, refl, ap, sym, ◌∙◌, subst, append_assoc, arith, Bool, true, false, IfOk, IfSome, IsOk, is_ok, List, [], ◌∷◌, ◌++◌, Option, None, Some, Result, Ok, Err}
 use Rattle.std.proofs.lemmas.Bool.{cases_Bool}
 use Rattle.std.proofs.lemmas.Slice.Eq.{bytes_eq-Decides}
 use Rattle.std.specs.Str.{bytes_eq}
 use Rattle.msr_folders.proofs.WalkedLemmas.{goes_none, goes_so, goes_then}
 use Rattle.msr_kinds.specs.declared.lengths.Length.{Length}
 use Rattle.msr_making.specs.Day.{AsksForAge, IsDayOutcome}
-use Rattle.msr_making.specs.Making.{DoesDay, IsOwnOfFile, LooksForSame}
+use Rattle.msr_making.specs.Making.{DoesDay, IsOwnOfFile, LooksForSame, WaitsForStamp}
 use Rattle.msr_tree.specs.Folders.{ChangesFiles}
 use Rattle.msr_making.proofs.Untouched.{left_claimed, left_untouched, still_there, untouched_then}
 use Rattle.msr_making.proofs.Owns.{AreNone, more_beside, none_beside}
@@ -17,10 +17,14 @@ use Rattle.msr_making.specs.declared.answer.DayFault.{DayFault}
 use Rattle.msr_making.specs.declared.answer.DayFault.TheVariants.{CannotOpen, Changed, ClaimedByAnother, Differs, Gone, Larger, Listing, Misplaced, NotShown, Shrunk, Tool}
 use Rattle.msr_making.specs.declared.answer.DayOutcome.{DayOutcome}
 use Rattle.msr_making.specs.declared.answer.DayOutcome.TheVariants as outcomes
-use Rattle.msr_making.specs.Places.{DayPaths}
+use Rattle.msr_making.specs.Places.{DayPaths, shows_all}
+use Rattle.msr_making.specs.declared.answer.Left.TheVariants.{Stamp as StampLeft}
 use Rattle.msr_making.specs.declared.answer.Repacked.{Repacked}
 use Rattle.msr_naming.specs.Naming.{day_paths}
-use Rattle.msr_naming.specs.Promise.{HasReport}
+use Rattle.msr_naming.specs.Promise.{HasOwn, HasReport, ShowsDay}
+use Rattle.msr_naming.specs.declared.batch.Waiting.{Waiting}
+use Rattle.msr_naming.specs.declared.files.Name.{Name}
+use Rattle.msr_naming.specs.declared.files.Name.TheVariants.{Records, Report, Stamp}
 use Rattle.msr_naming.specs.declared.files.DayFiles.{DayFiles}
 use Rattle.msr_belonging.specs.Names.{day_name}
 use Rattle.msr_folders.specs.Days.{IsDay}
@@ -32,26 +36,31 @@ use Rattle.msr_options.specs.declared.task.Archiving.{Archiving}
 use Rattle.std.specs.declared.alloc.AllocError.{AllocError}
 use Rattle.msr_options.specs.declared.days.DayOptions.{DayOptions}
 use Rattle.msr_options.specs.declared.hint.Side.{Side}
-use Rattle.msr_options.specs.declared.hint.Side.TheVariants.{Records}
+use Rattle.msr_options.specs.declared.hint.Side.TheVariants.{Records as OfRecords}
 use Rattle.msr_options.specs.declared.hint.Unopened.{Unopened}
 use Rattle.msr_folders.proofs.WithinLemmas.{within_none, within_then}
 use Rattle.msr_folders.specs.Within.{ChangesWithin}
-use Rattle.msr_tree.proofs.Changes.{same_now}
+use Rattle.msr_tree.proofs.Changes.{now_kept, same_now}
 use Rattle.msr_tree.proofs.Folders.{leaves_none, leaves_then}
 use Rattle.msr_tree.proofs.Moments.{at_end, joined}
 use Rattle.msr_tree.specs.Calls.{Goes}
-use Rattle.msr_tree.specs.Steps.{AtEachMoment, IsNoneOf, Path, Spares, Step, now}
-use Rattle.msr_walk.proofs.DayApart.{day_apart, others_apart}
+use Rattle.msr_folders.specs.Walks.{HoldsAt}
+use Rattle.msr_tree.specs.Steps.{AtEachMoment, IsNoneOf, Path, Spares, Step, failures, now}
+use Rattle.msr_walk.proofs.DayApart.{day_apart}
 use Rattle.msr_walk.proofs.DayPaths.{day_within}
 use Rattle.msr_walk.proofs.Kept.{each_so}
-use Rattle.msr_walk.proofs.Working.{looks_work, none_of_day, works_then}
+use Rattle.msr_walk.proofs.OtherDays.{none_of_other, other_day}
+use Rattle.msr_walk.proofs.Spared.{SparesNames, own_as, own_spared, shows_as, shows_spared}
+use Rattle.msr_walk.proofs.Waits.{waiting_beside}
+use Rattle.msr_walk.proofs.Working.{inputs_same, looks_work, none_of_day, settled_works, works_end, works_then}
 use Rattle.msr_outcomes.specs.Entries.{IsDayOf, IsOutcomeOf}
 use Rattle.msr_walk.specs.Files.{AreNamesOfDay, DayNames, HaveNames, files_of, paths_of_names}
-use Rattle.msr_walk.specs.Handling.{AreNamesWithin, ChangesNames, IsSameBut, IsUnclaimed}
+use Rattle.msr_walk.specs.Handling.{AreNamesWithin, AreWaitingAt, AwaitsName, ChangesNames, IsNoneWaiting, IsSameBut, IsUnclaimed, WaitsAs}
 use Rattle.msr_walk.specs.Kills.{KeepsReport, day_names_in}
-use Rattle.msr_walk.specs.Laws.{seen_as, spared}
+use Rattle.msr_walk.specs.Laws.{found_as, none_failed, seen_as, spared}
+use Rattle.msr_walk.specs.Losses.{KeepsDay, KeepsDays}
 use Rattle.msr_outcomes.specs.Outcomes.{IsOutcomeOfDay, of_day}
-use Rattle.msr_walk.specs.Told.{HandlesDay, IsDayTold, IsToldThere, TellsDay, ToldBetween, WorksFor}
+use Rattle.msr_walk.specs.Told.{DropsWaiting, HandlesDay, IsDayTold, IsToldThere, TellsDay, ToldBetween, WorksFor}
 use Rattle.msr_outcomes.specs.declared.outcome.Outcome.{Outcome}
 use Rattle.msr_outcomes.specs.declared.outcome.Outcome.TheVariants.{Refused, Young}
 
@@ -128,6 +137,20 @@ module _ (names : DayNames) where
     beside_killed old new changes number is_own has =
         spared is_own (files_of names number) old new changes.made changes.since (changes.spares names.records (λ n. (aside n).records)) (changes.spares names.report (λ n. (aside n).report)) has
 
+    beside_spares : (old new : List Step) (changes : ChangesNames beside_paths names old new) (number : ℕ) → SparesNames (files_of names number) changes.made
+    beside_spares old new changes number = record {
+      records = changes.spares names.records (λ n. (aside n).records);
+      report = changes.spares names.report (λ n. (aside n).report);
+      stamp = changes.spares names.stamp (λ n. (aside n).stamp);
+    }
+
+    beside_safe : (old new : List Step) → ChangesNames beside_paths names old new → (number : ℕ) (is_own : (records report : List ℕ) → Bool) (is_of : (stamp records report : List ℕ) → Bool)
+        → HasOwn is_own is_of (files_of names number) old → AtEachMoment (HasOwn is_own is_of (files_of names number)) old new
+    beside_safe old new changes number is_own is_of has = own_spared (files_of names number) is_own is_of old new changes.made changes.since (beside_spares old new changes number) has
+
+    beside_shows : (old new : List Step) → ChangesNames beside_paths names old new → (number : ℕ) → ShowsDay (files_of names number) old → ShowsDay (files_of names number) new
+    beside_shows old new changes number shows = shows_spared (files_of names number) old new changes.made changes.since (beside_spares old new changes number) shows
+
     beside_own : (choice : Choice) (is_own : (records report : List ℕ) → Bool) (old new : List Step) → ChangesNames beside_paths names old new
         → IsOwnOfFile names.input choice is_own old → IsOwnOfFile names.input choice is_own new
     beside_own choice is_own old new changes own bytes records text report has reported =
@@ -140,7 +163,7 @@ left_again true paths one other old new same is = subst (λ (s : Side). UnlessMa
 left_again false paths one other old new same is = tt
 
 -- records that were not made
-left_unmade : (stays : Bool) (paths : DayPaths) (unopened : Unopened) (old new : List Step) → unopened.side ≡ Records → IsLeftFor stays (CannotOpen unopened) paths old new
+left_unmade : (stays : Bool) (paths : DayPaths) (unopened : Unopened) (old new : List Step) → unopened.side ≡ OfRecords → IsLeftFor stays (CannotOpen unopened) paths old new
 left_unmade true paths unopened old new is = subst (λ (s : Side). UnlessMade s (AreUntouched paths old new)) (sym is) tt
 left_unmade false paths unopened old new is = tt
 
@@ -204,11 +227,22 @@ pub if_ok_as : {A E : Type 0} {P Q : A → Type 0} (result : Result A E) → ((x
 if_ok_as (Ok x) so p = so x p
 if_ok_as (Err why) so p = tt
 
+-- each folder was stored, if no call failed
+was_stored : (end : DayEnd) (old new : List Step) → (end.is_stored ≡ false → failures old < failures new) → failures new ≡ failures old → end.is_stored ≡ true
+was_stored end old new unstored none = elim (cases_Bool end.is_stored) [
+  | inl stored ↦ stored
+  | inr not ↦ let fails = unstored not in absurd (omega (arith, none, fails))
+]
+
 -- a day that was done
 module _ {H E : Type 0} (outcome : H → DayOutcome) (names : DayNames) (out reports : Path) (asked : DayOptions) where
   -- as its end tells, perhaps with another reason
   abbrev pub EndsAs : DayEnd → Result H E → Type 0
   EndsAs end result = IfOk result (λ handled. (ended : DayOutcome) × (end.outcome ≡ Ok ended) × IsSameBut ended (outcome handled))
+
+  ended_well : (end : DayEnd) (result : Result H E) → EndsAs end result → IsOk result → IsOk end.outcome
+  ended_well end (Ok handled) same ok = ap is_ok same.1
+  ended_well end (Err why) same ok = cc
 
   pub handles_done : (number : ℕ) (was_left : Bool) (end : DayEnd) (result : Result H E) (before after : List Step → Type 0)
       → EndsAs end result → Goes before after (DoesDay names.input (files_of names number) was_left asked end) → Goes before after (HandlesDay outcome names out reports asked result)
@@ -216,6 +250,11 @@ module _ {H E : Type 0} (outcome : H → DayOutcome) (names : DayNames) (out rep
     changes = names_by day_paths names number old new does.changes;
     killed = λ are other is_own own has. each_so (HasReport is_own (files_of names number)) (HasReport is_own (files_of names other)) (λ past kept. record { report = kept.report })
         old new (does.killed is_own (are.are number) own (record { report = has.report }));
+    safe = λ none are other is_own is_of own shows has. each_so (HasOwn is_own is_of (files_of names number)) (HasOwn is_own is_of (files_of names other))
+        (λ past kept. own_as is_own is_of names number other past kept) old new
+        (does.safe (was_stored end old new does.unstored none) is_own is_of (are.are number)
+        (shows_all was_left names.input (files_of names number) old (shows_as names other number old shows)) own (own_as is_own is_of names other number old has));
+    shows = λ none are ok other shows. shows_as names number other new (does.leaves (ended_well end result same ok) none (are.are number) (shows_as names other number old shows));
     says = λ are. if_ok_as result (λ handled one. told_now asked names out reports (outcome handled) old new
         (there_again asked (paths_of_names names) one.0 (outcome handled) old new one.2
         (subst (λ r. IfOk r (λ told. IsOutcomeThere asked (paths_of_names names) told old new)) one.1 (does.outcome (are.are number))))) same;
@@ -228,6 +267,8 @@ module _ {H E : Type 0} (outcome : H → DayOutcome) (names : DayNames) (out rep
   handles_beside result before after so goes = goes_so _ _ before after (λ old new went changes. record {
     changes = beside_of_day names old new changes;
     killed = λ are number is_own own has. beside_killed names are old new changes number is_own has;
+    safe = λ none are number is_own is_of own shows has. beside_safe names are old new changes number is_own is_of has;
+    shows = λ none are ok number shows. beside_shows names are old new changes number shows;
     says = λ are. if_ok_as result (λ handled there. told_now asked names out reports (outcome handled) old new there) (so old new (beside_still names are old new changes));
   }) goes
 
@@ -238,6 +279,8 @@ module _ {H E : Type 0} (outcome : H → DayOutcome) (names : DayNames) (out rep
   handles_same repacked result before after is goes = goes_so _ _ before after (λ old new went looks. record {
     changes = names_still day_paths names old new looks.changes;
     killed = λ are number is_own own has. beside_killed names are old new (names_still beside_paths names old new looks.changes) number is_own has;
+    safe = λ none are number is_own is_of own shows has. beside_safe names are old new (names_still beside_paths names old new looks.changes) number is_own is_of has;
+    shows = λ none are ok number shows. beside_shows names are old new (names_still beside_paths names old new looks.changes) number shows;
     says = λ are. if_ok_as result (λ handled same. told_now asked names out reports (outcome handled) old new
         (subst (λ o. IsToldThere asked (paths_of_names names) o old new) (sym same) (looks.same, still_there (paths_of_names names) old new looks.changes))) is;
   }) goes
@@ -257,6 +300,13 @@ module _ {H E : Type 0} (outcome : H → DayOutcome) (names : DayNames) (out rep
         let K : List Step → Type 0 = HasReport is_own (files_of names number) in
         let sooner = beside_killed names are old middle first number is_own has in
         joined K old middle new sooner (second.killed are number is_own (beside_own names are asked.options is_own old middle first own) (at_end K old middle sooner));
+    safe = λ none are number is_own is_of own shows has.
+        let P : List Step → Type 0 = HasOwn is_own is_of (files_of names number) in
+        let sooner = beside_safe names are old middle first number is_own is_of has in
+        joined P old middle new sooner (second.safe (none_failed old middle new first.made second.changes.made first.since second.changes.since none).1 are number is_own is_of
+        (beside_own names are asked.options is_own old middle first own) (beside_shows names are old middle first number shows) (at_end P old middle sooner));
+    shows = λ none are ok number shows.
+        second.shows (none_failed old middle new first.made second.changes.made first.since second.changes.since none).1 are ok number (beside_shows names are old middle first number shows);
     says = λ are. if_ok_as result (λ handled told. told_from asked names out reports (outcome handled) old middle new
         (names_within beside_paths names out reports more_beside within old middle first) (beside_still names are old middle first) told) (second.says are);
   }) one two
@@ -322,6 +372,11 @@ outcome_of asked path channel outcome day is = subst (λ o. IsOutcomeOf asked pa
     by (outcomes.Refused Gone) same so = absurd so
     by (outcomes.Refused Listing) same so = absurd so
 
+-- What is done of one day of an archive.
+pub record WorksOn (goes_on : Bool) (archive : Archiving) (path : Path) (old new : List Step) : Type 0 where
+  pub works : WorksFor goes_on archive old new
+  pub changes : ChangesNames day_paths (day_names_in archive path) old new
+
 -- a day of an archive
 module _ (archive : Archiving) (apart : StandApart archive.folders) (path : Path) (day : IsDay path) where
   abbrev its_names : DayNames
@@ -333,12 +388,18 @@ module _ (archive : Archiving) (apart : StandApart archive.folders) (path : Path
   abbrev reports : Path
   reports = archive.folders.reports.now
 
+  spares_other : HaveNames outf reports → (other : Path) → IsDay other → path ≢ other → (old new : List Step) (changes : ChangesNames day_paths its_names old new) (number : ℕ)
+      → SparesNames (files_of (day_names_in archive other) number) changes.made
+  spares_other have other another unlike old new changes number =
+      let files : DayFiles = files_of (day_names_in archive other) number in
+      let none = λ (name : Name) (n : ℕ). none_of_other files (files_of its_names n) name (other_day archive.folders apart have other path another day number n (λ same. unlike (sym same))) in
+      record { records = changes.spares files.records.path (none Records); report = changes.spares files.report.path (none Report); stamp = changes.spares files.stamp.path (none Stamp) }
+
   keeps_other : HaveNames outf reports → (other : Path) → IsDay other → path ≢ other → (old new : List Step) → ChangesNames day_paths its_names old new → KeepsReport archive.days (day_names_in archive other) old new
   keeps_other have other another unlike old new changes = record {
     each = λ number is_own own has.
-        let none = others_apart archive.folders path other apart have day another unlike in
-        spared is_own (files_of (day_names_in archive other) number) old new changes.made changes.since
-        (changes.spares (day_names_in archive other).records (λ n. (none n).0)) (changes.spares (day_names_in archive other).report (λ n. (none n).1)) has;
+        let spares = spares_other have other another unlike old new changes number in
+        spared is_own (files_of (day_names_in archive other) number) old new changes.made changes.since spares.records spares.report has;
   }
 
   -- what is done of one day keeps the reports of all
@@ -350,7 +411,28 @@ module _ (archive : Archiving) (apart : StandApart archive.folders) (path : Path
           (own.own (in_length record_length archive.days) (record { record_length = record_length; is = refl; own = own_length })) has;
     }
 
-    day_works : (result : Result H E) (old new : List Step) → HandlesDay outcome its_names outf reports (in_length record_length (with_name name archive.days)) result old new → WorksFor archive old new
+    safe_of_day : (result : Result H E) (old new : List Step) → HandlesDay outcome its_names outf reports (in_length record_length (with_name name archive.days)) result old new
+        → KeepsDays (is_ok result) archive old new
+    safe_of_day result old new handles = record {
+      each = λ none have other another. elim (cases_Bool (bytes_eq path other)) [
+        | inl same ↦ subst (λ p. KeepsDay (is_ok result) archive.days (day_names_in archive p) old new) ((bytes_eq-Decides path other).0 same) (record {
+          safe = λ number is_own is_of own stamp shows has. handles.safe none (day_apart archive.folders path apart have day) number is_own is_of
+              (own.own (in_length record_length archive.days) (record { record_length = record_length; is = refl; own = own_length })) shows has;
+          shows = λ on number shows. handles.shows none (day_apart archive.folders path apart have day) on number shows;
+        })
+        | inr differ ↦
+            let unlike : path ≢ other = λ same. let yes = (bytes_eq-Decides path other).1 same in absurd cc in
+            record {
+              safe = λ number is_own is_of own stamp shows has. own_spared (files_of (day_names_in archive other) number) is_own is_of old new handles.changes.made handles.changes.since
+                  (spares_other have other another unlike old new handles.changes number) has;
+              shows = λ on number shows. shows_spared (files_of (day_names_in archive other) number) old new handles.changes.made handles.changes.since
+                  (spares_other have other another unlike old new handles.changes number) shows;
+            }
+      ];
+    }
+
+    day_works : (result : Result H E) (old new : List Step) → HandlesDay outcome its_names outf reports (in_length record_length (with_name name archive.days)) result old new
+        → WorksFor (is_ok result) archive old new
     day_works result old new handles = record {
       does = record {
         within = names_within day_paths its_names outf reports (λ files other none. none) (day_within archive.folders.root.now outf reports path day) old new handles.changes;
@@ -360,13 +442,19 @@ module _ (archive : Archiving) (apart : StandApart archive.folders) (path : Path
             | inr differ ↦ keeps_other have other another (λ same. let yes = (bytes_eq-Decides path other).1 same in absurd cc) old new handles.changes
           ];
         };
+        safe = safe_of_day result old new handles;
       };
       lists_none = λ none. handles.changes.leaves.unlisted;
     }
 
     pub day_goes : (result : Result H E) (before after : List Step → Type 0) → Goes before after (HandlesDay outcome its_names outf reports (in_length record_length (with_name name archive.days)) result)
-        → Goes before after (WorksFor archive)
-    day_goes result before after goes = goes_so _ _ before after (λ old new went handles. day_works result old new handles) goes
+        → Goes before after (WorksOn (is_ok result) archive path)
+    day_goes result before after goes = goes_so _ _ before after (λ old new went handles. record { works = day_works result old new handles; changes = handles.changes }) goes
+
+    answered : {L F : Type 0} (told : L → Outcome) (result : Result H E) (answer : Result L F) → IfOk answer (λ t. (h : H) × (result ≡ Ok h) × (told t ≡ of_day (outcome h)))
+        → is_ok answer ≡ true → is_ok result ≡ true
+    answered told result (Ok t) is ok = ap is_ok is.1
+    answered told result (Err why) is ok = cc
 
     -- what is told of it
     pub day_told : {L F : Type 0} (told : L → Outcome) (result : Result H E) (answer : Result L F) (before mid after : List Step → Type 0)
@@ -374,9 +462,11 @@ module _ (archive : Archiving) (apart : StandApart archive.folders) (path : Path
         → Goes before mid (ChangesFiles []) → Goes mid after (HandlesDay outcome its_names outf reports (in_length record_length (with_name name archive.days)) result)
         → Goes before after (TellsDay told archive (with_name name archive.days) path answer)
     day_told told result answer before mid after is one two = goes_then _ _ _ before mid after (λ old middle new first second.
-        let works = looks_work archive old middle first in
+        let works = looks_work archive true old middle first in
         record {
-          works = works_then archive apart old middle new works (day_works result middle new second);
+          works = works_then archive apart (is_ok answer) old middle new works
+              (works_end archive (is_ok result) (is_ok answer) middle new (answered told result answer is) (day_works result middle new second));
+          changes = names_then day_paths its_names old middle new (names_still day_paths its_names old middle first) second.changes;
           says = if_ok_as answer (λ t have. record {
             asked = in_length record_length (with_name name archive.days);
             for_day = record { record_length = record_length; is = refl; own = own_length };
@@ -395,22 +485,84 @@ does_named names files asked input number was_left end before after at are goes 
     subst (λ i. Goes before after (DoesDay i (files_of names number) was_left asked end)) at
     (subst (λ f. Goes before after (DoesDay input f was_left asked end)) are goes)
 
+-- a stamp waits for its name
+pub awaits_named : (names : DayNames) (asked : DayOptions) (number : ℕ) (files : DayFiles) (was_left : Bool) (end : DayEnd) (before after : List Step → Type 0)
+    → files ≡ files_of names number → end.left ≡ StampLeft → Goes before after (DoesDay names.input (files_of names number) was_left asked end)
+    → HoldsAt after (AwaitsName names asked files)
+awaits_named names asked number files was_left end before after is left goes past went =
+    let sooner = goes.from past went in
+    let does = sooner.2 in
+    record {
+      number = number;
+      are = is;
+      waits = λ are.
+          let waits = does.waits left (are.are number) in
+          let same = now_kept (day_paths (files_of names number)) names.input sooner.0 past (are.are number).own does.changes.changes in
+          subst (λ (f : DayFiles). WaitsForStamp names.input f asked.options past past) (sym is) (record {
+            facts = waits.facts;
+            looked = found_as names.input past sooner.0 waits.facts (sym same) waits.looked;
+            bytes = waits.bytes;
+            records = waits.records;
+            text = waits.text;
+            report = waits.report;
+            has_input = seen_as names.input sooner.0 past same ∙ waits.has_input;
+            reported = waits.reported;
+            named = waits.named;
+            stamp_is = waits.stamp_is;
+          });
+    }
+
+-- that of a day of an archive
+pub waits_as : {C : Type 0} (archive : Archiving) (apart : StandApart archive.folders) (path : Path) (day : IsDay path) (name : DayName) (record_length : Length)
+    (own_length : archive.days.same_length ≡ false → record_length ≡ archive.days.options.record_length) (names : DayNames) (asked : DayOptions) (waiting : Option (Waiting C)) (after : List Step → Type 0)
+    → names ≡ day_names_in archive path → asked ≡ in_length record_length (with_name name archive.days)
+    → IfSome waiting (λ day. HoldsAt after (AwaitsName names asked day.files)) → IfSome waiting (λ day. HoldsAt after (WaitsAs archive path day.files))
+waits_as archive apart path day name record_length own_length names asked None after is same waits = tt
+waits_as archive apart path day name record_length own_length names asked (Some waiting) after is same waits = λ past went.
+    let w : AwaitsName (day_names_in archive path) (in_length record_length (with_name name archive.days)) waiting.files past =
+    subst (λ (n : DayNames). AwaitsName n (in_length record_length (with_name name archive.days)) waiting.files past) is (subst (λ (a : DayOptions). AwaitsName names a waiting.files past) same (waits past went)) in
+    record {
+      number = w.number;
+      are = w.are;
+      asked = in_length record_length archive.days;
+      for_day = record { record_length = record_length; is = refl; own = own_length };
+      waits = λ have. w.waits (day_apart archive.folders path apart have day);
+    }
+
 module _ (archive : Archiving) (days : DayOptions) (path : Path) where
   -- whatever is told of a day
   pub tells_works : {H E : Type 0} (outcome : H → Outcome) (result : Result H E) (before after : List Step → Type 0)
-      → Goes before after (TellsDay outcome archive days path result) → Goes before after (WorksFor archive)
+      → Goes before after (TellsDay outcome archive days path result) → Goes before after (WorksFor (is_ok result) archive)
   tells_works outcome result before after goes = goes_so _ _ before after (λ old new went told. told.works) goes
 
   -- of a day of which no more is told than what was done
   pub tells_nothing : {H E : Type 0} (outcome : H → Outcome) (why : E) (before after : List Step → Type 0)
-      → Goes before after (WorksFor archive) → Goes before after (TellsDay outcome archive days path (Err why))
-  tells_nothing outcome why before after goes = goes_so _ _ before after (λ old new went works. record { works = works; says = tt }) goes
+      → Goes before after (WorksOn false archive path) → Goes before after (TellsDay outcome archive days path (Err why))
+  tells_nothing outcome why before after goes = goes_so _ _ before after (λ old new went does. record { works = does.works; changes = does.changes; says = tt }) goes
+
+  -- or only looked at
+  pub looks_on : (goes_on : Bool) (before after : List Step → Type 0) → Goes before after (ChangesFiles []) → Goes before after (WorksOn goes_on archive path)
+  looks_on goes_on before after goes = goes_so _ _ before after (λ old new went leaves. record {
+    works = looks_work archive goes_on old new leaves;
+    changes = names_still day_paths (day_names_in archive path) old new leaves;
+  }) goes
+
+  pub works_on_as : (one other : Bool) (before after : List Step → Type 0) → one ≡ other → Goes before after (WorksOn one archive path) → Goes before after (WorksOn other archive path)
+  works_on_as one other before after is goes = subst (λ g. Goes before after (WorksOn g archive path)) is goes
+
+  pub works_on_then : (apart : StandApart archive.folders) (goes_on : Bool) (before mid after : List Step → Type 0)
+      → Goes before mid (WorksOn true archive path) → Goes mid after (WorksOn goes_on archive path) → Goes before after (WorksOn goes_on archive path)
+  works_on_then apart goes_on before mid after one two = goes_then _ _ _ before mid after (λ old middle new first second. record {
+    works = works_then archive apart goes_on old middle new first.works second.works;
+    changes = names_then day_paths (day_names_in archive path) old middle new first.changes second.changes;
+  }) one two
 
   -- nor is it touched
   pub tells_untouched : {H E : Type 0} (outcome : H → Outcome) (handled : H) (unopened : Unopened) (before after : List Step → Type 0)
       → outcome handled ≡ Refused (CannotOpen unopened) → Goes before after (ChangesFiles []) → Goes before after (TellsDay {E = E} outcome archive days path (Ok handled))
   tells_untouched outcome handled unopened before after is goes = goes_so _ _ before after (λ old new went leaves. record {
-    works = looks_work archive old new leaves;
+    works = looks_work archive true old new leaves;
+    changes = names_still day_paths (day_names_in archive path) old new leaves;
     says = subst (λ o. IsDayTold days (day_names_in archive path) archive.folders.out.now archive.folders.reports.now o old new) (sym is)
         (untouched_there days (day_names_in archive path) archive.folders.out.now archive.folders.reports.now unopened old new leaves);
   }) goes
@@ -419,7 +571,8 @@ module _ (archive : Archiving) (days : DayOptions) (path : Path) where
   pub tells_young : {H E : Type 0} (outcome : H → Outcome) (handled : H) (before after : List Step → Type 0)
       → AsksForAge days → outcome handled ≡ Young → Goes before after (ChangesFiles []) → Goes before after (TellsDay {E = E} outcome archive days path (Ok handled))
   tells_young outcome handled before after asks is goes = goes_so _ _ before after (λ old new went leaves. record {
-    works = looks_work archive old new leaves;
+    works = looks_work archive true old new leaves;
+    changes = names_still day_paths (day_names_in archive path) old new leaves;
     says = subst (λ o. IsDayTold days (day_names_in archive path) archive.folders.out.now archive.folders.reports.now o old new) (sym is)
         (young_there days (day_names_in archive path) archive.folders.out.now archive.folders.reports.now old new asks leaves);
   }) goes
@@ -428,9 +581,10 @@ module _ (archive : Archiving) (days : DayOptions) (path : Path) where
   pub tells_after : {H E : Type 0} (apart : StandApart archive.folders) (outcome : H → Outcome) (result : Result H E) (before mid after : List Step → Type 0)
       → Goes before mid (ChangesFiles []) → Goes mid after (TellsDay outcome archive days path result) → Goes before after (TellsDay outcome archive days path result)
   tells_after apart outcome result before mid after one two = goes_then _ _ _ before mid after (λ old middle new first second.
-      let works = looks_work archive old middle first in
+      let works = looks_work archive true old middle first in
       record {
-        works = works_then archive apart old middle new works second.works;
+        works = works_then archive apart (is_ok result) old middle new works second.works;
+        changes = names_then day_paths (day_names_in archive path) old middle new (names_still day_paths (day_names_in archive path) old middle first) second.changes;
         says = if_ok_as result (λ t is. record {
           asked = is.asked;
           for_day = is.for_day;
@@ -439,6 +593,38 @@ module _ (archive : Archiving) (days : DayOptions) (path : Path) where
           there = λ are. told_from is.asked (day_names_in archive path) archive.folders.out.now archive.folders.reports.now is.of old middle new works.does.within (still_there (paths_of_names (day_names_in archive path)) old middle first) (is.there are);
         }) second.says;
       }) one two
+
+-- What is told of a day of which nothing was touched before.
+pub record SaysOfDay {H E : Type 0} (outcome : H → Outcome) (archive : Archiving) (days : DayOptions) (path : Path) (result : Result H E) (old new : List Step) : Type 0 where
+  pub works : WorksFor (is_ok result) archive old new
+  pub says : IfOk result (λ told. IsDayTold days (day_names_in archive path) archive.folders.out.now archive.folders.reports.now (outcome told) old new)
+
+-- others that waited wait no more
+pub drops_works : (archive : Archiving) (path : Path) (before after : List Step → Type 0) → Goes before after (DropsWaiting archive path) → Goes before after (WorksFor true archive)
+drops_works archive path before after goes = goes_so _ _ before after (λ old new went drops. settled_works archive true old new drops.works) goes
+
+pub says_dropped : {H E : Type 0} (outcome : H → Outcome) (archive : Archiving) (apart : StandApart archive.folders) (days : DayOptions) (path : Path) (result : Result H E) (before mid after : List Step → Type 0)
+    → Goes before mid (DropsWaiting archive path) → Goes mid after (TellsDay outcome archive days path result) → Goes before after (SaysOfDay outcome archive days path result)
+says_dropped outcome archive apart days path result before mid after one two = goes_then _ _ _ before mid after (λ old middle new first second.
+    let works = settled_works archive true old middle first.works in
+    record {
+      works = works_then archive apart (is_ok result) old middle new works second.works;
+      says = if_ok_as result (λ t is. record {
+        asked = is.asked;
+        for_day = is.for_day;
+        of = is.of;
+        same = is.same;
+        there = λ have. told_from is.asked (day_names_in archive path) archive.folders.out.now archive.folders.reports.now is.of old middle new works.does.within (first.still have) (is.there have);
+      }) second.says;
+    }) one two
+
+-- what waits is left while another day is handled
+pub waiting_handled : {H E C : Type 0} (outcome : H → Outcome) (archive : Archiving) (apart : StandApart archive.folders) (days : DayOptions) (path folder : Path) (result : Result H E) (waiting : List (Waiting C))
+    (before after : List Step → Type 0) → Goes before after (TellsDay outcome archive days path result) → HoldsAt before (λ past. IsNoneWaiting archive path waiting) → AreWaitingAt before archive folder waiting
+    → AreWaitingAt after archive folder waiting
+waiting_handled outcome archive apart days path folder result waiting before after goes none wait past went =
+    let sooner = goes.from past went in
+    waiting_beside archive folder path waiting sooner.0 past (inputs_same archive apart sooner.0 past sooner.2.works.does.within) sooner.2.changes (none sooner.0 sooner.1) (wait sooner.0 sooner.1)
 
 -- by other names for the same
 pub handles_named : {H E : Type 0} (outcome : H → DayOutcome) (names others : DayNames) (out reports : Path) (asked given : DayOptions) (result : Result H E) (before after : List Step → Type 0)

@@ -62,6 +62,9 @@ text_not_from one other is = t_is_not_m (ap first (reversed one (codes ".txt") o
 pub text_not_part : (one other : Path) → one ++ codes ".txt" ≢ other ++ codes ".part"
 text_not_part one other is = x_is_not_r (ap second (reversed one (codes ".txt") other (codes ".part") is))
 
+pub from_not_part : (one other : Path) → one ++ codes ".from" ≢ other ++ codes ".part"
+from_not_part one other is = t_is_not_m (sym (ap first (reversed one (codes ".from") other (codes ".part") is)))
+
 -- a name beside another
 pub part_end : (path : Path) (number : ℕ) → path ++ (codes "." ++ (decimal number ++ codes ".part")) ≡ (path ++ (codes "." ++ decimal number)) ++ codes ".part"
 part_end path number = sym (append_assoc path (codes "." ++ decimal number) (codes ".part"))

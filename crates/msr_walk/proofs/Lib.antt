@@ -8,3 +8,8 @@ pub mod Kept
 pub mod Working
 pub mod Visited
 pub mod DayApart
+pub mod OtherDays
+pub mod Ours
+pub mod Spared
+pub mod Standing
+pub mod Waits

@@ -1,5 +1,5 @@
 -- What a visit tells, put together from what was done.
-use Rattle.std.proofs.Common.{◌≡◌, ◌≢◌, ◌↔◌, ap, ℕ, List, [], ◌∷◌, refl, Result, Ok, Err}
+use Rattle.std.proofs.Common.{◌≡◌, ◌≢◌, ◌↔◌, ap, true, ℕ, List, [], ◌∷◌, refl, Result, Ok, Err}
 use Rattle.msr_devices.specs.Device.{Device}
 use Rattle.msr_folders.proofs.WalkedLemmas.{goes_none, goes_so, goes_then}
 use Rattle.msr_folders.specs.Days.{IsDay, IsNoDay}
@@ -18,13 +18,14 @@ use Rattle.msr_tree.specs.declared.kind.FileKind.{FileKind}
 use Rattle.msr_tree.specs.declared.kind.FileKind.TheVariants.{Gone}
 use Rattle.msr_belonging.specs.Names.{day_name}
 use Rattle.msr_options.specs.Days.{with_name}
-use Rattle.msr_walk.proofs.Days.{told_until}
-use Rattle.msr_walk.proofs.Working.{works_none, works_then}
+use Rattle.msr_walk.proofs.Days.{SaysOfDay, told_until}
+use Rattle.msr_walk.proofs.Working.{settled_works, works_none, works_then}
 use Rattle.msr_outcomes.specs.Entries.{Entry}
 use Rattle.msr_outcomes.specs.Known.{known_as}
-use Rattle.msr_walk.specs.Kills.{ChangesDays, day_names_in}
+use Rattle.msr_walk.specs.Kills.{day_names_in}
+use Rattle.msr_walk.specs.Losses.{ChangesDays}
 use Rattle.msr_folders.specs.Paths.{told_folder}
-use Rattle.msr_walk.specs.Told.{IsToldOfVisit, TellsDay, TellsOutcomesOf, WorksFor}
+use Rattle.msr_walk.specs.Told.{IsToldOfVisit, SettlesNames, TellsOutcomesOf, WorksFor}
 use Rattle.msr_outcomes.specs.declared.outcome.Outcome.{Outcome}
 use Rattle.msr_outcomes.specs.declared.outcome.Outcome.TheVariants.{Refused, Skipped}
 use Rattle.msr_outcomes.specs.declared.tally.Tally.{Tally}
@@ -43,20 +44,20 @@ module _ {P : Type 0} (tally : P → Tally) (asked : Archiving) where
   reports = asked.folders.reports.now
 
   abbrev pub TellsOf : Visit → (before after : List Step → Type 0) (out0 out : Device) (of0 of : P) → Type 0
-  TellsOf = TellsVisit (TellsOutcomesOf tally asked) (IsToldOfVisit root outf reports asked) (ChangesDays asked) (Unit {0})
+  TellsOf = TellsVisit (TellsOutcomesOf tally asked) (IsToldOfVisit root outf reports asked) (ChangesDays true asked) (Unit {0})
 
   -- a day
   pub visited_day : {H E : Type 0} (outcome : H → Outcome) (handled : H) (path channel : Path) (kind : FileKind) (before mid after : List Step → Type 0) (out0 out : Device) (of0 of : P)
       → StandApart asked.folders → kind ≢ Gone → (day : IsDay path)
-      → Goes before mid (TellsDay {E = E} outcome asked (with_name (day_name day.0) asked.days) path (Ok handled))
-      → Goes mid after (WorksFor asked)
+      → Goes before mid (SaysOfDay {E = E} outcome asked (with_name (day_name day.0) asked.days) path (Ok handled))
+      → Goes mid after (WorksFor true asked)
       → TellsOutcomesOf tally asked (record { path = path; channel = channel; outcome = known_as asked.known path (outcome handled) } ∷ []) out0 out of0 of
       → TellsOf (Found path kind) before after out0 out of0 of
   visited_day outcome handled path channel kind before mid after out0 out of0 of apart there day one two told = record {
     lines = record { path = path; channel = channel; outcome = known_as asked.known path (outcome handled) } ∷ [];
     told = told;
     goes = goes_then _ _ _ before mid after (λ old middle new first second. record {
-      done = works_then asked apart old middle new first.works second;
+      done = works_then asked apart true old middle new first.works second;
       says = (
         channel,
         outcome handled,
@@ -87,7 +88,7 @@ module _ {P : Type 0} (tally : P → Tally) (asked : Archiving) where
   told_still visit entry before out0 out of0 of so told = record {
     lines = entry ∷ [];
     told = told;
-    goes = goes_none _ before (λ past. record { done = works_none asked past; says = so past });
+    goes = goes_none _ before (λ past. record { done = works_none asked true past; says = so past });
   }
 
   -- what is no day
@@ -116,12 +117,12 @@ module _ {P : Type 0} (tally : P → Tally) (asked : Archiving) where
       (λ past. ap (λ p. unlisted_entry asked.known p ∷ []) is) told
 
   -- a folder whose days were visited
-  pub visited_left : (folder : Path) (before after : List Step → Type 0) (out : Device) (of0 of : P) → Goes before after (WorksFor asked)
+  pub visited_left : (folder : Path) (before after : List Step → Type 0) (out : Device) (of0 of : P) → (names : List Path) → Goes before after (SettlesNames asked names)
       → TellsOutcomesOf tally asked [] out out of0 of → TellsOf (Left folder) before after out out of0 of
-  visited_left folder before after out of0 of goes told = record {
+  visited_left folder before after out of0 of names goes told = record {
     lines = [];
     told = told;
-    goes = goes_so _ _ before after (λ old new went is. record { done = is; says = refl }) goes;
+    goes = goes_so _ _ before after (λ old new went is. record { done = settled_works asked true old new is.works; says = refl }) goes;
   }
 
 -- A path that is read as no day.

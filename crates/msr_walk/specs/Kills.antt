@@ -1,7 +1,6 @@
 -- What a kill leaves of the days of an archive.
 use Rattle.std.specs.Prelude.{ℕ, Bool, List}
 use Rattle.msr_folders.specs.Days.{IsDay}
-use Rattle.msr_folders.specs.Within.{ChangesWithin}
 use Rattle.msr_making.specs.Making.{IsOwnOfFile}
 use Rattle.msr_naming.specs.Promise.{HasReport}
 use Rattle.msr_options.specs.declared.days.DayOptions.{DayOptions}
@@ -27,8 +26,3 @@ day_names_in archive path = day_names archive.folders.root.now archive.folders.o
 pub record KeepsReports (archive : Archiving) (old new : List Step) : Type 0 where
   pub each : HaveNames archive.folders.out.now archive.folders.reports.now → (path : Path) → IsDay path
       → KeepsReport archive.days (day_names_in archive path) old new
-
--- Only what stands within the folders of records and reports is changed, and all records keep their own reports.
-pub record ChangesDays (archive : Archiving) (old new : List Step) : Type 0 where
-  pub within : ChangesWithin archive.folders.out.now archive.folders.reports.now old new
-  pub reports : KeepsReports archive old new

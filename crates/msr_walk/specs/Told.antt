@@ -1,5 +1,5 @@
 -- What a walk tells of an archive, by what its names lead to, and what it changes, while nobody else changes them.
-use Rattle.std.specs.Prelude.{◌≡◌, ◌≢◌, ℕ, Bool, List, [], ◌∷◌, IfOk, Result}
+use Rattle.std.specs.Prelude.{◌≡◌, ◌≢◌, ℕ, Bool, List, [], ◌∷◌, IfOk, IsOk, Result, is_ok}
 use Rattle.msr_devices.specs.Device.{Device, Takes}
 use Rattle.msr_folders.specs.Days.{IsDay, IsNoDay}
 use Rattle.msr_folders.specs.Entries.{AreEntriesOf, Entry as Found, Left, Passed, StandsWithin, Visit, WithoutList}
@@ -10,7 +10,7 @@ use Rattle.msr_folders.specs.Within.{ChangesWithin}
 use Rattle.msr_making.specs.Making.{IsOwnOfFile}
 use Rattle.msr_making.specs.Places.{DayPaths}
 use Rattle.msr_naming.specs.Naming.{day_paths}
-use Rattle.msr_naming.specs.Promise.{HasReport}
+use Rattle.msr_naming.specs.Promise.{HasOwn, HasReport, ShowsDay}
 use Rattle.msr_making.specs.Told.{AreUntouched, IsLeftFor, IsOutcomeThere, stays_for}
 use Rattle.msr_making.specs.declared.answer.DayFault.TheVariants.{CannotOpen, Gone as WasGone, Listing}
 use Rattle.msr_making.specs.declared.answer.DayOutcome.{DayOutcome}
@@ -22,14 +22,15 @@ use Rattle.msr_options.specs.declared.task.Archiving.{Archiving}
 use Rattle.msr_sds.specs.SdsPath.{ReadsAsDay, SdsPath}
 use Rattle.msr_sds.specs.declared.SdsFault.{SdsFault}
 use Rattle.msr_tree.specs.Calls.{Goes}
-use Rattle.msr_tree.specs.Steps.{AtEachMoment, Path, Step, now}
+use Rattle.msr_tree.specs.Steps.{AtEachMoment, ChangesOnly, Path, Step, failures, now}
 use Rattle.msr_tree.specs.declared.kind.FileKind.{FileKind}
 use Rattle.msr_tree.specs.declared.kind.FileKind.TheVariants.{Gone}
 use Rattle.msr_outcomes.specs.Entries.{Entry, IsTally}
 use Rattle.msr_outcomes.specs.Known.{IsEntry, known_as}
 use Rattle.msr_walk.specs.Files.{AreNamesOfDay, DayNames, HaveNames, day_names, files_of, paths_of_names}
 use Rattle.msr_walk.specs.Handling.{ChangesNames}
-use Rattle.msr_walk.specs.Kills.{ChangesDays, day_names_in}
+use Rattle.msr_walk.specs.Kills.{day_names_in}
+use Rattle.msr_walk.specs.Losses.{ChangesDays, SettlesDays}
 use Rattle.msr_outcomes.specs.Lines.{IsEntryLine}
 use Rattle.msr_outcomes.specs.Outcomes.{IsForDay, of_day}
 use Rattle.msr_outcomes.specs.Summary.{summary}
@@ -45,9 +46,19 @@ abbrev pub IsToldThere : DayOptions → DayPaths → DayOutcome → (old new : L
 IsToldThere asked paths (outcomes.Refused (CannotOpen unopened)) old new = IsLeftFor (stays_for asked (CannotOpen unopened)) (CannotOpen unopened) paths old new
 IsToldThere asked paths outcome old new = IsOutcomeThere asked paths outcome old new
 
--- what is done of an archive; no folder is listed
-abbrev pub WorksFor : Archiving → (old new : List Step) → Type 0
-WorksFor archive = VisitDoes (ChangesDays archive) (Unit {0})
+-- what is done of an archive, after which the walk goes on or does not; no folder is listed
+abbrev pub WorksFor : (goes_on : Bool) → Archiving → (old new : List Step) → Type 0
+WorksFor goes_on archive = VisitDoes (ChangesDays goes_on archive) (Unit {0})
+
+-- What is done of days that wait: only these names lead elsewhere.
+pub record SettlesNames (archive : Archiving) (names : List Path) (old new : List Step) : Type 0 where
+  pub works : VisitDoes (SettlesDays archive) (Unit {0}) old new
+  pub only : ChangesOnly names old new
+
+-- Days wait no more. Nothing that is made of this one is touched.
+pub record DropsWaiting (archive : Archiving) (path : Path) (old new : List Step) : Type 0 where
+  pub works : VisitDoes (SettlesDays archive) (Unit {0}) old new
+  pub still : HaveNames archive.folders.out.now archive.folders.reports.now → AreUntouched (paths_of_names (day_names_in archive path)) old new
 
 -- An outcome was so of a day between two moments. Before, nothing was touched of what is made of it.
 pub record ToldBetween (asked : DayOptions) (names : DayNames) (out reports : Path) (outcome : DayOutcome) (old new : List Step) : Type 0 where
@@ -59,12 +70,18 @@ pub record ToldBetween (asked : DayOptions) (names : DayNames) (out reports : Pa
   pub after : ChangesWithin out reports to new
 
 -- A day of which this is asked was done, or left as it is, or refused. If its records have their own report before, they have it
--- at each moment since.
+-- at each moment since. If no call failed, it has its own at each moment since, and what is not seen of it cannot come back
+-- once it was handled.
 pub record HandlesDay {H E : Type 0} (outcome : H → DayOutcome) (names : DayNames) (out reports : Path) (asked : DayOptions)
     (result : Result H E) (old new : List Step) : Type 0 where
   pub changes : ChangesNames day_paths names old new
   pub killed : AreNamesOfDay names → (number : ℕ) (is_own : (records report : List ℕ) → Bool) → IsOwnOfFile names.input asked.options is_own old
       → HasReport is_own (files_of names number) old → AtEachMoment (HasReport is_own (files_of names number)) old new
+  pub safe : failures new ≡ failures old → AreNamesOfDay names → (number : ℕ) (is_own : (records report : List ℕ) → Bool)
+      (is_of : (stamp records report : List ℕ) → Bool) → IsOwnOfFile names.input asked.options is_own old → ShowsDay (files_of names number) old
+      → HasOwn is_own is_of (files_of names number) old → AtEachMoment (HasOwn is_own is_of (files_of names number)) old new
+  pub shows : failures new ≡ failures old → AreNamesOfDay names → IsOk result → (number : ℕ) → ShowsDay (files_of names number) old
+      → ShowsDay (files_of names number) new
   pub says : AreNamesOfDay names → IfOk result (λ handled. ToldBetween asked names out reports (outcome handled) old new)
 
 -- The outcome of a day of an archive of whose days this is asked is told, where it is so.
@@ -78,7 +95,8 @@ pub record IsDayTold (days : DayOptions) (names : DayNames) (out reports : Path)
 -- A day was handled, and this is told of it.
 pub record TellsDay {H E : Type 0} (outcome : H → Outcome) (archive : Archiving) (days : DayOptions) (path : Path)
     (result : Result H E) (old new : List Step) : Type 0 where
-  pub works : WorksFor archive old new
+  pub works : WorksFor (is_ok result) archive old new
+  pub changes : ChangesNames day_paths (day_names_in archive path) old new
   pub says : IfOk result (λ told. IsDayTold days (day_names_in archive path) archive.folders.out.now archive.folders.reports.now (outcome told) old new)
 
 -- What is told of an entry: that it is gone, what became of it if it is a day, and else why it is none. What is asked of a day

@@ -1,9 +1,13 @@
 //! Days whose stamps wait, so that their folders are stored once for many.
-ghost use Rattle.std.specs.Prelude.{◌≡◌};
+ghost use Rattle.std.specs.Prelude.{◌≡◌, ◌⊎◌, ◌∷◌, ◌++◌, [], false, true, nat_eq};
+ghost use Rattle.std.specs.List.{AllByRecursion, ends_with};
+ghost use Rattle.std.specs.String.{string_bytes};
+ghost use Rattle.msr_folders.specs.Days.{IsDay};
+ghost use Rattle.msr_folders.specs.Walks.{HoldsAt};
+ghost use Rattle.msr_naming.specs.Promise.{stamp_paths};
 ghost use Rattle.msr_tree.specs.Calls.{Goes};
-ghost use Rattle.msr_tree.specs.Steps.{Path};
-ghost use Rattle.msr_walk.specs.Handling.{AllWaitWithin, AreWaitingAt, IsWaitingAt};
-ghost use Rattle.msr_walk.specs.Told.{WorksFor};
+ghost use Rattle.msr_walk.specs.Handling.{AreOfDay, AreOfDaysAt, AreSome, AreWaitingAt, IsNoneWaiting, SomeWait, WaitsAs, TakenWaits, files_waiting, parts_waiting};
+ghost use Rattle.msr_walk.specs.Told.{DropsWaiting, SettlesNames, WorksFor};
 
 use crate::claims::Claims;
 use crate::walker::Walker;
@@ -21,7 +25,7 @@ const DAYS: usize = 64;
 pub(crate) struct Batch<K> {
     pub(crate) days: Vec<Waiting<K>>,
     /// Their folder, from OUT's own on.
-    folder: String,
+    pub(crate) folder: String,
     /// That whose name was stored last, with the names of those that lead to it.
     stored: Option<String>,
 }
@@ -33,8 +37,8 @@ fn release<T: Tree, C: Claims>(
     day: &Waiting<C::Claim>,
     is_stamped: bool,
 )
-    requires { IsWaitingAt (T.went tree.old) walker.now.archive.now.folders.reports.now day.now }
-    ensures { Goes (T.went tree.old) (T.went tree.new) (WorksFor walker.now.archive.now) }
+    requires { HoldsAt (T.went tree.old) (λ past. AreOfDay walker.now.archive.now day.now.files) }
+    ensures { Goes (T.went tree.old) (T.went tree.new) (SettlesNames walker.now.archive.now (day.now.files.stamp.part ∷ [])) }
 {
     if is_stamped {
         walker.claims.release(&day.claim);
@@ -52,12 +56,25 @@ fn release_all<T: Tree, C: Claims>(
     days: &[Waiting<C::Claim>],
     are_stamped: bool,
 )
-    requires { AreWaitingAt (T.went tree.old) walker.now.archive.now.folders.reports.now days.now }
-    ensures { Goes (T.went tree.old) (T.went tree.new) (WorksFor walker.now.archive.now) }
+    requires { AreOfDaysAt (T.went tree.old) walker.now.archive.now days.now }
+    ensures { Goes (T.went tree.old) (T.went tree.new) (SettlesNames walker.now.archive.now (parts_waiting days.now)) }
 {
     for day in days {
         release(tree, walker, day, are_stamped);
     }
+}
+
+/// Whether the day with this path may be one of these.
+fn may_be_among<K>(days: &[Waiting<K>], path: &str) -> bool
+    ensures { result ≡ false → AllByRecursion (λ files. ends_with nat_eq files.records.path path.now ≡ false) (files_waiting days.now) }
+{
+    for day in days {
+        let records = day.files.records.path.as_bytes();
+        if records.ends_with(path.as_bytes()) {
+            return true;
+        }
+    }
+    false
 }
 
 /// A day waits on if it is this walk's still. If not, its stamp goes.
@@ -67,10 +84,10 @@ fn keep_ours<T: Tree, C: Claims>(
     day: Waiting<C::Claim>,
     ours: &mut Vec<Waiting<C::Claim>>,
 )
-    requires day { IsWaitingAt (T.went tree.old) walker.now.archive.now.folders.reports.now day }
-    requires days { AreWaitingAt (T.went tree.old) walker.now.archive.now.folders.reports.now ours.old.items }
-    ensures days { AreWaitingAt (T.went tree.new) walker.now.archive.now.folders.reports.now ours.new.items }
-    ensures works { Goes (T.went tree.old) (T.went tree.new) (WorksFor walker.now.archive.now) }
+    requires { HoldsAt (T.went tree.old) (λ past. AreOfDay walker.now.archive.now day.files) }
+    ensures ours { (ours.new.items ≡ ours.old.items ++ day ∷ []) ⊎ (ours.new.items ≡ ours.old.items) }
+    ensures waits { TakenWaits (T.went tree.old) (T.went tree.new) walker.now.archive.now day ours.old.items ours.new.items }
+    ensures works { Goes (T.went tree.old) (T.went tree.new) (SettlesNames walker.now.archive.now (day.files.stamp.part ∷ [])) }
 {
     if !walker.claims.is_ours(&day.claim) {
         tree.remove(day.files.stamp.part.as_str()).ok();
@@ -88,9 +105,10 @@ fn all_ours<T: Tree, C: Claims>(
     walker: &Walker<'_, C>,
     mut days: Vec<Waiting<C::Claim>>,
 ) -> Vec<Waiting<C::Claim>>
-    requires { AreWaitingAt (T.went tree.old) walker.now.archive.now.folders.reports.now days.items }
-    ensures kept { AreWaitingAt (T.went tree.new) walker.now.archive.now.folders.reports.now result.items }
-    ensures works { Goes (T.went tree.old) (T.went tree.new) (WorksFor walker.now.archive.now) }
+    requires { AreOfDaysAt (T.went tree.old) walker.now.archive.now days.items }
+    ensures some { AreSome days.items result.items }
+    ensures wait { SomeWait (T.went tree.old) (T.went tree.new) walker.now.archive.now days.items result.items }
+    ensures works { Goes (T.went tree.old) (T.went tree.new) (SettlesNames walker.now.archive.now (stamp_paths (files_waiting days.items))) }
 {
     let mut ours = Vec::new(walker.alloc);
     while let Some(day) = days.pop() {
@@ -101,7 +119,7 @@ fn all_ours<T: Tree, C: Claims>(
 
 impl<K: Drop> Batch<K> {
     pub(crate) fn new(alloc: Global) -> Batch<K>
-        ensures { (reports : Path) → AllWaitWithin reports result.days.items }
+        ensures { result.days.items ≡ [] }
     {
         Batch {
             days: Vec::new(alloc),
@@ -112,7 +130,8 @@ impl<K: Drop> Batch<K> {
 
     /// Notes the folder of the days that are to wait, and tells whether memory allowed it.
     fn begin(&mut self, alloc: Global, folder: &str) -> bool
-        ensures { self.new.days ≡ self.old.days }
+        ensures days { self.new.days ≡ self.old.days }
+        ensures folder { result ≡ true → string_bytes self.new.folder ≡ folder.now }
     {
         match String::from_str(alloc, folder) {
             Ok(name) => {
@@ -130,9 +149,12 @@ impl<K: Drop> Batch<K> {
         walker: &Walker<'_, C>,
         folder: &str,
     ) -> bool
-        requires { AreWaitingAt (T.went tree.old) walker.now.archive.now.folders.reports.now self.old.days.items }
-        ensures days { AreWaitingAt (T.went tree.new) walker.now.archive.now.folders.reports.now self.new.days.items }
-        ensures works { Goes (T.went tree.old) (T.went tree.new) (WorksFor walker.now.archive.now) }
+        requires { AreWaitingAt (T.went tree.old) walker.now.archive.now (string_bytes self.old.folder) self.old.days.items }
+        ensures days { AreWaitingAt (T.went tree.new) walker.now.archive.now (string_bytes self.new.folder) self.new.days.items }
+        ensures folder { result ≡ true → string_bytes self.new.folder ≡ folder.now }
+        ensures settled { result ≡ false → self.new.days.items ≡ [] }
+        ensures some { (self.new.days.items ≡ self.old.days.items) ⊎ (self.new.days.items ≡ []) }
+        ensures works { Goes (T.went tree.old) (T.went tree.new) (SettlesNames walker.now.archive.now (stamp_paths (files_waiting self.old.days.items))) }
     {
         if self.folder.as_str() == folder {
             return true;
@@ -143,14 +165,34 @@ impl<K: Drop> Batch<K> {
 
     /// Settles the days if they are many.
     fn settle_full<T: Tree, C: Claims<Claim = K>>(&mut self, tree: &mut T, walker: &Walker<'_, C>)
-        requires { AreWaitingAt (T.went tree.old) walker.now.archive.now.folders.reports.now self.old.days.items }
-        ensures days { AreWaitingAt (T.went tree.new) walker.now.archive.now.folders.reports.now self.new.days.items }
-        ensures works { Goes (T.went tree.old) (T.went tree.new) (WorksFor walker.now.archive.now) }
+        requires { AreWaitingAt (T.went tree.old) walker.now.archive.now (string_bytes self.old.folder) self.old.days.items }
+        ensures days { AreWaitingAt (T.went tree.new) walker.now.archive.now (string_bytes self.new.folder) self.new.days.items }
+        ensures works { Goes (T.went tree.old) (T.went tree.new) (WorksFor true walker.now.archive.now) }
     {
         if self.days.len() < DAYS {
             return;
         }
         self.settle(tree, walker);
+    }
+
+    /// The day with this path is to be done. If it waits, as where it is asked for twice, all that wait get no stamps.
+    pub(crate) fn make_way<T: Tree, C: Claims<Claim = K>>(
+        &mut self,
+        tree: &mut T,
+        walker: &Walker<'_, C>,
+        path: &str,
+    )
+        requires days { AreWaitingAt (T.went tree.old) walker.now.archive.now (string_bytes self.old.folder) self.old.days.items }
+        requires path { IsDay path.now }
+        ensures days { AreWaitingAt (T.went tree.new) walker.now.archive.now (string_bytes self.new.folder) self.new.days.items }
+        ensures none { HoldsAt (T.went tree.new) (λ past. IsNoneWaiting walker.now.archive.now path.now self.new.days.items) }
+        ensures works { Goes (T.went tree.old) (T.went tree.new) (DropsWaiting walker.now.archive.now path.now) }
+    {
+        if !may_be_among(self.days.as_slice(), path) {
+            return;
+        }
+        let days = mem::replace(&mut self.days, Vec::new(walker.alloc));
+        release_all(tree, walker, days.as_slice(), false);
     }
 
     /// The day with this path waits. Without memory for that it gets no stamp.
@@ -161,10 +203,12 @@ impl<K: Drop> Batch<K> {
         path: &str,
         day: Waiting<K>,
     )
-        requires days { AreWaitingAt (T.went tree.old) walker.now.archive.now.folders.reports.now self.old.days.items }
-        requires day { IsWaitingAt (T.went tree.old) walker.now.archive.now.folders.reports.now day }
-        ensures days { AreWaitingAt (T.went tree.new) walker.now.archive.now.folders.reports.now self.new.days.items }
-        ensures works { Goes (T.went tree.old) (T.went tree.new) (WorksFor walker.now.archive.now) }
+        requires days { AreWaitingAt (T.went tree.old) walker.now.archive.now (string_bytes self.old.folder) self.old.days.items }
+        requires day { HoldsAt (T.went tree.old) (WaitsAs walker.now.archive.now path.now day.files) }
+        requires path { IsDay path.now }
+        requires none { HoldsAt (T.went tree.old) (λ past. IsNoneWaiting walker.now.archive.now path.now self.old.days.items) }
+        ensures days { AreWaitingAt (T.went tree.new) walker.now.archive.now (string_bytes self.new.folder) self.new.days.items }
+        ensures works { Goes (T.went tree.old) (T.went tree.new) (WorksFor true walker.now.archive.now) }
     {
         if !self.turn_to(tree, walker, folder_of(path)) {
             release(tree, walker, &day, false);
@@ -182,9 +226,9 @@ impl<K: Drop> Batch<K> {
         tree: &mut T,
         walker: &Walker<'_, C>,
     )
-        requires { AreWaitingAt (T.went tree.old) walker.now.archive.now.folders.reports.now self.old.days.items }
-        ensures days { AreWaitingAt (T.went tree.new) walker.now.archive.now.folders.reports.now self.new.days.items }
-        ensures works { Goes (T.went tree.old) (T.went tree.new) (WorksFor walker.now.archive.now) }
+        requires { AreWaitingAt (T.went tree.old) walker.now.archive.now (string_bytes self.old.folder) self.old.days.items }
+        ensures days { self.new.days.items ≡ [] }
+        ensures works { Goes (T.went tree.old) (T.went tree.new) (SettlesNames walker.now.archive.now (stamp_paths (files_waiting self.old.days.items))) }
     {
         if self.days.is_empty() {
             return;
@@ -202,9 +246,9 @@ impl<K: Drop> Batch<K> {
         walker: &Walker<'_, C>,
         ours: &[Waiting<K>],
     ) -> Result<(), TreeFault>
-        requires { AreWaitingAt (T.went tree.old) walker.now.archive.now.folders.reports.now ours.now }
+        requires { AreWaitingAt (T.went tree.old) walker.now.archive.now (string_bytes self.old.folder) ours.now }
         ensures days { self.new.days ≡ self.old.days }
-        ensures works { Goes (T.went tree.old) (T.went tree.new) (WorksFor walker.now.archive.now) }
+        ensures works { Goes (T.went tree.old) (T.went tree.new) (SettlesNames walker.now.archive.now (stamp_paths (files_waiting ours.now))) }
     {
         self.store_names(walker)?;
         let (alloc, folders) = (walker.alloc, walker.archive.folders);
@@ -216,7 +260,8 @@ impl<K: Drop> Batch<K> {
     /// Stores the names of the folders that lead to the days. Nobody knows which of them are: a walk may have made them and
     /// been killed.
     fn store_names<C: Claims<Claim = K>>(&mut self, walker: &Walker<'_, C>) -> Result<(), TreeFault>
-        ensures { self.new.days ≡ self.old.days }
+        ensures days { self.new.days ≡ self.old.days }
+        ensures folder { self.new.folder ≡ self.old.folder }
     {
         let last = match &self.stored {
             Some(stored) if stored.as_str() == self.folder.as_str() => return Ok(()),

@@ -8,7 +8,8 @@ ghost use Rattle.msr_tree.specs.Calls.{Goes};
 ghost use Rattle.msr_tree.specs.Folders.{ChangesFiles};
 ghost use Rattle.msr_tree.specs.Steps.{Path};
 ghost use Rattle.msr_walk.specs.Files.{day_names, file_beside, files_of, paths_of_names};
-ghost use Rattle.msr_walk.specs.Handling.{AreNamesWithin, ChangesNames, IsSameBut, IsUnclaimed, WaitsWithin};
+ghost use Rattle.msr_folders.specs.Walks.{HoldsAt};
+ghost use Rattle.msr_walk.specs.Handling.{AreNamesWithin, AwaitsName, ChangesNames, IsSameBut, IsUnclaimed};
 ghost use Rattle.msr_walk.specs.Told.{HandlesDay};
 
 use crate::claims::{Asked, ClaimFault, Claims};
@@ -334,8 +335,8 @@ impl Day {
         made: &mut String,
     ) -> Result<Handled<C::Claim>, AllocError>
         ensures told { IfOk result (λ handled. IsDayOutcome work.now.asked handled.outcome) }
-        ensures waits { (out reports : Path) → AreNamesWithin out reports self.now
-            → IfOk result (λ handled. WaitsWithin reports handled.waiting) }
+        ensures waits { IfOk result (λ handled. IfSome handled.waiting (λ day.
+            HoldsAt (T.went tree.new) (AwaitsName self.now work.now.asked day.files))) }
         ensures goes { (out reports : Path) → AreNamesWithin out reports self.now → Goes (T.went tree.old) (T.went tree.new)
             (HandlesDay (λ handled. handled.outcome) self.now out reports work.now.asked result) }
     {
@@ -390,8 +391,8 @@ impl Day {
         made: &mut String,
     ) -> Result<Handled<C::Claim>, AllocError>
         ensures told { IfOk result (λ handled. IsDayOutcome work.now.asked handled.outcome) }
-        ensures waits { (out reports : Path) → AreNamesWithin out reports self.now
-            → IfOk result (λ handled. WaitsWithin reports handled.waiting) }
+        ensures waits { IfOk result (λ handled. IfSome handled.waiting (λ day.
+            HoldsAt (T.went tree.new) (AwaitsName self.now work.now.asked day.files))) }
         ensures goes { (out reports : Path) → AreNamesWithin out reports self.now → Goes (T.went tree.old) (T.went tree.new)
             (HandlesDay (λ handled. handled.outcome) self.now out reports work.now.asked result) }
     {

@@ -1,10 +1,12 @@
 //! The walk through the folders of an archive.
-ghost use Rattle.std.specs.Prelude.{◌≡◌, ◌≢◌, ◌↔◌, ◌∷◌, [], IfErr, IfOk, IsErrOf, OnOk, true};
+ghost use Rattle.std.specs.Prelude.{◌≡◌, ◌≢◌, ◌↔◌, ◌∷◌, [], false, IfErr, IfOk, IfSome, IsErrOf, OnOk, is_ok, true};
+ghost use Rattle.std.specs.String.{string_bytes};
 ghost use Rattle.msr_devices.specs.Device.{CanCountCall, HasFailed};
 ghost use Rattle.msr_sds.specs.SdsPath.{HasForm, ReadsAsDay};
 ghost use Rattle.msr_folders.specs.Entries.{AreEntriesOf, Entry as Found};
 ghost use Rattle.msr_folders.specs.Within.{ChangesWithin};
-ghost use Rattle.msr_folders.specs.Walks.{TellsVisit, TellsWalk as TellsVisits};
+ghost use Rattle.msr_folders.specs.Days.{IsDay};
+ghost use Rattle.msr_folders.specs.Walks.{HoldsAt, TellsVisit, TellsWalk as TellsVisits};
 ghost use Rattle.msr_options.specs.Tasks.{StandApart};
 ghost use Rattle.msr_making.specs.Day.{AsksForAge};
 ghost use Rattle.msr_tree.specs.Calls.{Goes};
@@ -14,9 +16,10 @@ ghost use Rattle.msr_tree.specs.declared.kind.FileKind.{FileKind};
 ghost use Rattle.msr_tree.specs.declared.kind.FileKind.TheVariants.{Gone};
 ghost use Rattle.msr_outcomes.specs.Entries.{Entry, IsOutcomeOf, IsTally};
 ghost use Rattle.msr_outcomes.specs.Known.{IsEntry, known_as};
-ghost use Rattle.msr_walk.specs.Handling.{AllWaitWithin, AreWaitingAt, WaitsWithin};
-ghost use Rattle.msr_walk.specs.Kills.{ChangesDays, KeepsReports};
-ghost use Rattle.msr_walk.specs.Laws.{days_laws};
+ghost use Rattle.msr_walk.specs.Handling.{AreWaiting, AreWaitingAt, IsNoneWaiting, WaitsAs};
+ghost use Rattle.msr_walk.specs.Kills.{KeepsReports};
+ghost use Rattle.msr_walk.specs.Laws.{days_laws, waiting_listed};
+ghost use Rattle.msr_walk.specs.Losses.{ChangesDays, KeepsDays};
 ghost use Rattle.msr_outcomes.specs.Lines.{IsEntryLine};
 ghost use Rattle.msr_outcomes.specs.Outcomes.{IsOutcomeOfDay};
 ghost use Rattle.msr_belonging.specs.Names.{day_name};
@@ -68,7 +71,7 @@ struct Told<K> {
 impl<K: Drop> Progress<K> {
     fn new(alloc: Global) -> Progress<K>
         ensures empty { IsTally [] result.tally }
-        ensures waits { (reports : Path) → AllWaitWithin reports result.batch.days.items }
+        ensures waits { result.batch.days.items ≡ [] }
     {
         Progress {
             tally: Tally::new(alloc),
@@ -85,11 +88,13 @@ impl<K: Drop> Progress<K> {
         path: &str,
         waiting: Option<Waiting<K>>,
     )
-        requires days { AreWaitingAt (T.went tree.old) walker.now.archive.now.folders.reports.now self.old.batch.days.items }
-        requires day { WaitsWithin walker.now.archive.now.folders.reports.now waiting }
+        requires days { AreWaitingAt (T.went tree.old) walker.now.archive.now (string_bytes self.old.batch.folder) self.old.batch.days.items }
+        requires day { IfSome waiting (λ day. HoldsAt (T.went tree.old) (WaitsAs walker.now.archive.now path.now day.files)) }
+        requires path { IsDay path.now }
+        requires none { HoldsAt (T.went tree.old) (λ past. IsNoneWaiting walker.now.archive.now path.now self.old.batch.days.items) }
         ensures tally { self.new.tally ≡ self.old.tally }
-        ensures days { AreWaitingAt (T.went tree.new) walker.now.archive.now.folders.reports.now self.new.batch.days.items }
-        ensures works { Goes (T.went tree.old) (T.went tree.new) (WorksFor walker.now.archive.now) }
+        ensures days { AreWaitingAt (T.went tree.new) walker.now.archive.now (string_bytes self.new.batch.folder) self.new.batch.days.items }
+        ensures works { Goes (T.went tree.old) (T.went tree.new) (WorksFor true walker.now.archive.now) }
     {
         if let Some(day) = waiting {
             self.batch.add(tree, walker, path, day);
@@ -161,7 +166,7 @@ impl<'a, C: Claims> Walker<'a, C> {
     ) -> Result<Told<C::Claim>, AllocError>
         requires { ReadsAsDay path.now name.now }
         ensures told { IfOk result (λ told. IsOutcomeOfDay (with_name (day_name name.now) self.now.archive.now.days) told.outcome) }
-        ensures waits { IfOk result (λ told. WaitsWithin self.now.archive.now.folders.reports.now told.waiting) }
+        ensures waits { IfOk result (λ told. IfSome told.waiting (λ day. HoldsAt (T.went tree.new) (WaitsAs self.now.archive.now path.now day.files))) }
         ensures goes { Goes (T.went tree.old) (T.went tree.new) (TellsDay (λ told. told.outcome) self.now.archive.now (with_name (day_name name.now) self.now.archive.now.days) path.now result) }
     {
         if self.is_young(tree, path)? {
@@ -204,15 +209,16 @@ impl<'a, C: Claims> Walker<'a, C> {
     ) -> Result<(), DeviceFault>
         requires day { ReadsAsDay path.now name.now }
         requires count { CanCountCall (O.device out.old) }
-        requires days { AreWaitingAt (T.went tree.old) self.now.archive.now.folders.reports.now progress.old.batch.days.items }
+        requires days { AreWaitingAt (T.went tree.old) self.now.archive.now (string_bytes progress.old.batch.folder) progress.old.batch.days.items }
         ensures told { (kind : FileKind) → kind ≢ Gone → OnOk result (TellsVisit (TellsOutcomesOf (λ of. of.tally) self.now.archive.now)
-            (IsToldOfVisit self.now.archive.now.folders.root.now self.now.archive.now.folders.out.now self.now.archive.now.folders.reports.now self.now.archive.now) (ChangesDays self.now.archive.now) (Unit {0}) (Found path.now kind)
+            (IsToldOfVisit self.now.archive.now.folders.root.now self.now.archive.now.folders.out.now self.now.archive.now.folders.reports.now self.now.archive.now) (ChangesDays true self.now.archive.now) (Unit {0}) (Found path.now kind)
             (T.went tree.old) (T.went tree.new) (O.device out.old) (O.device out.new) progress.old progress.new) }
         ensures stops { IfErr result (StopsTellingOutcomes self.now.archive.now (O.device out.old) (O.device out.new)) }
-        ensures works { Goes (T.went tree.old) (T.went tree.new) (WorksFor self.now.archive.now) }
-        ensures days { AreWaitingAt (T.went tree.new) self.now.archive.now.folders.reports.now progress.new.batch.days.items }
+        ensures works { Goes (T.went tree.old) (T.went tree.new) (WorksFor (is_ok result) self.now.archive.now) }
+        ensures days { AreWaitingAt (T.went tree.new) self.now.archive.now (string_bytes progress.new.batch.folder) progress.new.batch.days.items }
     {
         let channel = channel_text(self.alloc, name)?;
+        progress.batch.make_way(tree, self, path);
         let handled = self.handle(tree, path, name, apart, &mut progress.made)?;
         let told = tell(
             self,
@@ -237,13 +243,13 @@ impl<'a, C: Claims> Walker<'a, C> {
         progress: &mut Progress<C::Claim>,
     ) -> Result<(), DeviceFault>
         requires count { CanCountCall (O.device out.old) }
-        requires days { AreWaitingAt (T.went tree.old) self.now.archive.now.folders.reports.now progress.old.batch.days.items }
+        requires days { AreWaitingAt (T.went tree.old) self.now.archive.now (string_bytes progress.old.batch.folder) progress.old.batch.days.items }
         ensures told { (kind : FileKind) → kind ≢ Gone → OnOk result (TellsVisit (TellsOutcomesOf (λ of. of.tally) self.now.archive.now)
-            (IsToldOfVisit self.now.archive.now.folders.root.now self.now.archive.now.folders.out.now self.now.archive.now.folders.reports.now self.now.archive.now) (ChangesDays self.now.archive.now) (Unit {0}) (Found path.now kind)
+            (IsToldOfVisit self.now.archive.now.folders.root.now self.now.archive.now.folders.out.now self.now.archive.now.folders.reports.now self.now.archive.now) (ChangesDays true self.now.archive.now) (Unit {0}) (Found path.now kind)
             (T.went tree.old) (T.went tree.new) (O.device out.old) (O.device out.new) progress.old progress.new) }
         ensures stops { IfErr result (StopsTellingOutcomes self.now.archive.now (O.device out.old) (O.device out.new)) }
-        ensures works { Goes (T.went tree.old) (T.went tree.new) (WorksFor self.now.archive.now) }
-        ensures days { AreWaitingAt (T.went tree.new) self.now.archive.now.folders.reports.now progress.new.batch.days.items }
+        ensures works { Goes (T.went tree.old) (T.went tree.new) (WorksFor (is_ok result) self.now.archive.now) }
+        ensures days { AreWaitingAt (T.went tree.new) self.now.archive.now (string_bytes progress.new.batch.folder) progress.new.batch.days.items }
     {
         match SdsName::parse(path) {
             Ok(name) => self.visit_day(tree, path, &name, apart, out, progress),
@@ -259,12 +265,12 @@ impl<'a, C: Claims> Walker<'a, C> {
         progress: &mut Progress<C::Claim>,
     ) -> Result<(), DeviceFault>
         requires count { CanCountCall (O.device out.old) }
-        requires days { AreWaitingAt (T.went tree.old) self.now.archive.now.folders.reports.now progress.old.batch.days.items }
+        requires days { AreWaitingAt (T.went tree.old) self.now.archive.now (string_bytes progress.old.batch.folder) progress.old.batch.days.items }
         ensures told { OnOk result (TellsVisits (TellsOutcomesOf (λ of. of.tally) self.now.archive.now) (IsToldOfVisit self.now.archive.now.folders.root.now self.now.archive.now.folders.out.now self.now.archive.now.folders.reports.now self.now.archive.now) (ChangesWithin self.now.archive.now.folders.out.now self.now.archive.now.folders.reports.now) (Unit {0}) self.now.archive.now.folders.root.now
             (λ past new. AreEntriesOf past self.now.archive.now.folders.root.now self.now.archive.now.below.items)
             (T.went tree.old) (T.went tree.new) (O.device out.old) (O.device out.new) progress.old progress.new) }
         ensures stops { IfErr result (StopsTellingOutcomes self.now.archive.now (O.device out.old) (O.device out.new)) }
-        ensures does { Goes (T.went tree.old) (T.went tree.new) (ChangesDays self.now.archive.now) }
+        ensures does { Goes (T.went tree.old) (T.went tree.new) (ChangesDays (is_ok result) self.now.archive.now) }
     {
         let archive = self.archive;
         let walk = EntryWalk {
@@ -293,9 +299,9 @@ impl<'a, C: Claims> EntryVisitor for Walker<'a, C> {
 
     ghost says = { λ walker. IsToldOfVisit walker.archive.now.folders.root.now walker.archive.now.folders.out.now walker.archive.now.folders.reports.now walker.archive.now };
 
-    ghost does = { λ walker _. ChangesDays walker.archive.now };
+    ghost does = { λ walker goes_on. ChangesDays goes_on walker.archive.now };
 
-    ghost holds = { λ walker progress past. AllWaitWithin walker.archive.now.folders.reports.now progress.batch.days.items };
+    ghost holds = { λ walker progress past. AreWaiting walker.archive.now (string_bytes progress.batch.folder) progress.batch.days.items past };
 
     ghost listless = { λ _. Unit {0} };
 
@@ -304,7 +310,7 @@ impl<'a, C: Claims> EntryVisitor for Walker<'a, C> {
     ghost laws = { days_laws (λ walker. IsEntry walker.archive.now) (λ walker. IsEntryLine walker.archive.now)
         (λ entries of. IsTally entries of.tally) (λ walker. walker.archive.now) (λ walker. walker.separate) };
 
-    ghost listed = { record { stays = λ walker progress past place held. held } };
+    ghost listed = { record { stays = λ walker progress past place. waiting_listed place walker.archive.now (string_bytes progress.batch.folder) progress.batch.days.items past } };
 
     fn enter_folder<T: Tree, O: Sink>(
         &self,
@@ -401,6 +407,10 @@ pub fn walk<'a, T: Tree, C: Claims, O: Sink>(
 
     // At each moment, also if it is killed then, the records of each day have their own report, if they had it before.
     ensures killed { Goes (T.went tree.old) (T.went tree.new) (KeepsReports archive.now) }
+
+    // If no call fails, each day has its own at each moment, also if the power is cut then, if it had its own before, and
+    // what is not seen of it could not come back.
+    ensures safe { Goes (T.went tree.old) (T.went tree.new) (KeepsDays false archive.now) }
 {
     let mut progress = Progress::new(alloc);
     let walker = Walker {

@@ -1,11 +1,12 @@
-use Rattle.std.proofs.Common.{[]}
+use Rattle.std.proofs.Common.{[], false}
 use Rattle.std.proofs.lemmas.Result.{err_from_is_err_and}
 use Rattle.msr_devices.proofs.Chaining.{calm_calm}
 use Rattle.msr_tool.proofs.StoppedRepacks.{ok_tells}
 use Rattle.msr_walk.proofs.Archive.{tree_ends}
 use Rattle.msr_walk.proofs.EntriesTold.{stop_tells, stops_entries, stops_summary, tells_end, told_among, walk_ends, walk_stops}
 use Rattle.msr_walk.proofs.Aside.{separate}
-use Rattle.msr_walk.proofs.Working.{goes_keeps, goes_stays}
+use Rattle.msr_walk.proofs.Ours.{wait_none}
+use Rattle.msr_walk.proofs.Working.{goes_ended, goes_keeps, goes_safe, goes_stays}
 use Rattle.msr_walk.specs.Walk.{TellsOutcomes}
 use Rattle.msr_walk.proofs.folders.walk.Goals as goal
 
@@ -13,7 +14,7 @@ pub invariant_of-walker : goal.invariant_of-walker
 invariant_of-walker g c = record { apart = c.requires.apart; separate = separate c.args.archive.now.folders c.requires.apart }
 
 pub visit-requires-clause-days : goal.visit-requires-clause-days
-visit-requires-clause-days g c = λ past went. c.new-progress.ensures.waits c.args.archive.now.folders.reports.now
+visit-requires-clause-days g c = wait_none c.args.archive.now _ _ _ c.new-progress.ensures.waits
 
 pub returns-in_err-visit-clause-answer : goal.returns-in_err-visit-clause-answer
 returns-in_err-visit-clause-answer g c =
@@ -27,10 +28,13 @@ returns-in_err-visit-clause-write g c =
     rw (p.1, p.2) (stop_tells _ _ _ c.in_err-visit.field-0.0 c.in_err-visit.ensures.stops)
 
 pub returns-in_err-visit-clause-root : goal.returns-in_err-visit-clause-root
-returns-in_err-visit-clause-root g c = goes_stays c.args.archive.now c.requires.apart _ _ c.in_err-visit.ensures.does
+returns-in_err-visit-clause-root g c = goes_stays c.args.archive.now c.requires.apart _ _ _ c.in_err-visit.ensures.does
 
 pub returns-in_err-visit-clause-killed : goal.returns-in_err-visit-clause-killed
-returns-in_err-visit-clause-killed g c = goes_keeps c.args.archive.now _ _ c.in_err-visit.ensures.does
+returns-in_err-visit-clause-killed g c = goes_keeps c.args.archive.now _ _ _ c.in_err-visit.ensures.does
+
+pub returns-in_err-visit-clause-safe : goal.returns-in_err-visit-clause-safe
+returns-in_err-visit-clause-safe g c = goes_safe c.args.archive.now false _ _ (goes_ended c.args.archive.now _ _ _ c.in_err-visit.ensures.does)
 
 pub returns-in_err-write_summary-clause-answer : goal.returns-in_err-write_summary-clause-answer
 returns-in_err-write_summary-clause-answer g c =
@@ -51,10 +55,13 @@ returns-in_err-write_summary-clause-write g c =
     rw (p.1, p.2) (stop_tells _ _ _ fault (stops_summary _ _ _ _ _ _ fault told front))
 
 pub returns-in_err-write_summary-clause-root : goal.returns-in_err-write_summary-clause-root
-returns-in_err-write_summary-clause-root g c = goes_stays c.args.archive.now c.requires.apart _ _ c.in_ok-visit.ensures.does
+returns-in_err-write_summary-clause-root g c = goes_stays c.args.archive.now c.requires.apart _ _ _ c.in_ok-visit.ensures.does
 
 pub returns-in_err-write_summary-clause-killed : goal.returns-in_err-write_summary-clause-killed
-returns-in_err-write_summary-clause-killed g c = goes_keeps c.args.archive.now _ _ c.in_ok-visit.ensures.does
+returns-in_err-write_summary-clause-killed g c = goes_keeps c.args.archive.now _ _ _ c.in_ok-visit.ensures.does
+
+pub returns-in_err-write_summary-clause-safe : goal.returns-in_err-write_summary-clause-safe
+returns-in_err-write_summary-clause-safe g c = goes_safe c.args.archive.now false _ _ (goes_ended c.args.archive.now _ _ _ c.in_ok-visit.ensures.does)
 
 pub returns-clause-answer : goal.returns-clause-answer
 returns-clause-answer g c =
@@ -76,7 +83,10 @@ returns-clause-tree g c =
     (record { end = tells_end _ _ _ counts (rw c.saturating_add-made.ensures at (rw c.saturating_add-days.ensures at (rw c.saturating_add-days-2.ensures at c.of.ensures))); first = counts.unopened })
 
 pub returns-clause-root : goal.returns-clause-root
-returns-clause-root g c = goes_stays c.args.archive.now c.requires.apart _ _ c.in_ok-visit.ensures.does
+returns-clause-root g c = goes_stays c.args.archive.now c.requires.apart _ _ _ c.in_ok-visit.ensures.does
 
 pub returns-clause-killed : goal.returns-clause-killed
-returns-clause-killed g c = goes_keeps c.args.archive.now _ _ c.in_ok-visit.ensures.does
+returns-clause-killed g c = goes_keeps c.args.archive.now _ _ _ c.in_ok-visit.ensures.does
+
+pub returns-clause-safe : goal.returns-clause-safe
+returns-clause-safe g c = goes_safe c.args.archive.now false _ _ (goes_ended c.args.archive.now _ _ _ c.in_ok-visit.ensures.does)

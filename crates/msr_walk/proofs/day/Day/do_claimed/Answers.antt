@@ -1,6 +1,6 @@
 use Rattle.std.proofs.Common.{◌≡◌, rules, Err}
 use Rattle.std.proofs.lemmas.Result.{err_from_is_err_and}
-use Rattle.msr_walk.proofs.Days.{claims_none, does_named, handles_beside, handles_done}
+use Rattle.msr_walk.proofs.Days.{awaits_named, claims_none, does_named, handles_beside, handles_done}
 use Rattle.msr_walk.proofs.day.Day.do_claimed.Goals as goal
 use Rattle.msr_walk.proofs.day.Day.do_claimed.Goals.{in-Stamp, in-Nothing, in-Parts}
 
@@ -23,8 +23,11 @@ returns-clause-goes g c =
     (does_named c.args.self.now c.in-Ok.files c.args.work.now.asked c.as_str-2.result.now c.number.result _ c.do_day-end.result _ _ at c.in-Ok.ensures c.do_day-end.ensures.goes)
 
 pub returns-clause-waits : goal.returns-clause-waits
-returns-clause-waits g c = λ out reports within. elim c.match-end.branch [
-  | in-Stamp w ↦ rw w.waiting-is (search rules)
-  | in-Nothing w ↦ rw w.waiting-is tt
-  | in-Parts w ↦ rw w.waiting-is tt
-]
+returns-clause-waits g c =
+    let at : c.as_str-2.result.now ≡ c.args.self.now.input = search rules in
+    elim c.match-end.branch [
+      | in-Stamp w ↦ rw w.waiting-is (awaits_named c.args.self.now c.args.work.now.asked c.number.result c.in-Ok.files _ c.do_day-end.result _ _ c.in-Ok.ensures w.in-Stamp.is
+          (does_named c.args.self.now c.in-Ok.files c.args.work.now.asked c.as_str-2.result.now c.number.result _ c.do_day-end.result _ _ at c.in-Ok.ensures c.do_day-end.ensures.goes))
+      | in-Nothing w ↦ rw w.waiting-is tt
+      | in-Parts w ↦ rw w.waiting-is tt
+    ]

@@ -15,7 +15,7 @@ returns-in-Ok-clause-goes g c = λ out reports within.
     (c.do_claimed.ensures.goes out reports within)
 
 pub returns-in-Some-clause-waits : goal.returns-in-Some-clause-waits
-returns-in-Some-clause-waits g c = λ out reports within. rw c.of.ensures.waits tt
+returns-in-Some-clause-waits g c = rw c.of.ensures.waits tt
 
 pub returns-in-Some-clause-goes : goal.returns-in-Some-clause-goes
 returns-in-Some-clause-goes g c = λ out reports within.
@@ -27,7 +27,7 @@ returns-in_err-refusal_of-in-Err-clause-goes g c = λ out reports within.
     rw p.1 (handles_beside (λ handled. handled.outcome) c.args.self.now out reports c.args.work.now.asked (Err _) _ _ (λ old new still. tt) (claims_then c.args.self.now _ _ _ (claims_looked c.args.self.now c.args.work.now.asked _ _ _ c.same.ensures.goes) c.claim.ensures))
 
 pub returns-in_ok-refusal_of-in-Err-clause-waits : goal.returns-in_ok-refusal_of-in-Err-clause-waits
-returns-in_ok-refusal_of-in-Err-clause-waits g c = λ out reports within. rw c.of-in-Err.ensures.waits tt
+returns-in_ok-refusal_of-in-Err-clause-waits g c = rw c.of-in-Err.ensures.waits tt
 
 pub returns-in_ok-refusal_of-in-Err-clause-goes : goal.returns-in_ok-refusal_of-in-Err-clause-goes
 returns-in_ok-refusal_of-in-Err-clause-goes g c = λ out reports within.

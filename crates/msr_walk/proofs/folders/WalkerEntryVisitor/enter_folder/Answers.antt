@@ -8,7 +8,7 @@ pub returns-then-levels-gt0-clause-told : goal.returns-then-levels-gt0-clause-to
 returns-then-levels-gt0-clause-told g c = none_among (λ of. of.tally) c.args.self.now.archive.now (g.O.Sink.device c.args._out.now) _ _ refl
 
 pub returns-then-levels-gt0-clause-does : goal.returns-then-levels-gt0-clause-does
-returns-then-levels-gt0-clause-does g c = goes_works_none c.args.self.now.archive.now _
+returns-then-levels-gt0-clause-does g c = goes_works_none c.args.self.now.archive.now _ _
 
 pub returns-in_err-apart-clause-stops : goal.returns-in_err-apart-clause-stops
 returns-in_err-apart-clause-stops g c =
@@ -16,10 +16,10 @@ returns-in_err-apart-clause-stops g c =
     rw (p.1, p.2) (none_told c.args.self.now.archive.now (g.O.Sink.device c.args._out.now))
 
 pub returns-in_err-apart-clause-does : goal.returns-in_err-apart-clause-does
-returns-in_err-apart-clause-does g c = goes_works_none c.args.self.now.archive.now _
+returns-in_err-apart-clause-does g c = goes_works_none c.args.self.now.archive.now _ _
 
 pub returns-clause-told : goal.returns-clause-told
 returns-clause-told g c = none_among (λ of. of.tally) c.args.self.now.archive.now (g.O.Sink.device c.args._out.now) _ _ refl
 
 pub returns-clause-does : goal.returns-clause-does
-returns-clause-does g c = goes_works_none c.args.self.now.archive.now _
+returns-clause-does g c = goes_works_none c.args.self.now.archive.now _ _

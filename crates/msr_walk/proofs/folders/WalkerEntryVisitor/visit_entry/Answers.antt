@@ -13,7 +13,7 @@ pub returns-in-Gone-clause-stops : goal.returns-in-Gone-clause-stops
 returns-in-Gone-clause-stops g c = c.tell.ensures.stops tt
 
 pub returns-in-Gone-clause-does : goal.returns-in-Gone-clause-does
-returns-in-Gone-clause-does g c = goes_works_none c.args.self.now.archive.now _
+returns-in-Gone-clause-does g c = goes_works_none c.args.self.now.archive.now _ _
 
 pub returns-in_default-clause-told : goal.returns-in_default-clause-told
 returns-in_default-clause-told g c = c.visit_found.ensures.told c.args.kind c.in_default.not-Gone

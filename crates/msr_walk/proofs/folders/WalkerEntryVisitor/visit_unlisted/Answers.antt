@@ -13,4 +13,4 @@ pub returns-clause-stops : goal.returns-clause-stops
 returns-clause-stops g c = c.tell.ensures.stops tt
 
 pub returns-clause-does : goal.returns-clause-does
-returns-clause-does g c = goes_works_none c.args.self.now.archive.now _
+returns-clause-does g c = goes_works_none c.args.self.now.archive.now _ _

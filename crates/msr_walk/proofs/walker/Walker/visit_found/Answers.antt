@@ -19,4 +19,4 @@ returns-in-Err-clause-stops g c =
     c.tell.ensures.stops is
 
 pub returns-in-Err-clause-works : goal.returns-in-Err-clause-works
-returns-in-Err-clause-works g c = goes_works_none c.args.self.now.archive.now _
+returns-in-Err-clause-works g c = goes_works_none c.args.self.now.archive.now _ _
