@@ -106,16 +106,22 @@ class WhatADiskMayHold(unittest.TestCase):
                 self.assertEqual(state_now(disk, paths), now)
 
 
-WAS, IS = Made(b"ORIGINAL", b"records", b"report 1", b"stamp 1"), Made(b"original", b"RECORDS", b"report 2", b"stamp 2")
+WAS = Made(b"ORIGINAL", b"records", b"report 1", b"input 8 bytes, 1")
+IS = Made(b"original", b"RECORDS", b"report 2", b"input 8 bytes, 2")
 DAY = Day("day", (WAS, IS))
 ROOT, ASIDE, OUT, PART = "here/root/day", "here/aside/day", "here/out/day", "here/root/part"
 REPORT, STAMP = "here/reports/day.txt", "here/reports/day.from"
 STORES = {name: Call("store", f"here/{name}") for name in ("root", "aside", "out", "reports")}
 GOES_ASIDE, STANDS_BESIDE = Call("link", ROOT, ASIDE), Call("link", OUT, PART)
 TAKES_PLACE, GOES = Call("rename", PART, ROOT), Call("remove", OUT)
+STAMPS = [
+    *(Call("make", "here/reports/r"), Call("write", "here/reports/r", data=b"records 7 bytes, 1"), Call("store", "here/reports/r")),
+    Call("rename", "here/reports/r", STAMP),
+]
 REPLACED, RESTORED = Call("told", data=b"replaced day bytes 8 7\n"), Call("told", data=b"restored day\n")
 UNTOLD, UNRESTORED = "`replaced` was told, and is not so", "`restored` was told, and is not so"
 REPLACES = [GOES_ASIDE, STORES["aside"], STANDS_BESIDE, TAKES_PLACE, STORES["root"], GOES, REPLACED]
+STAMPED_BESIDE, HALF_A_STAMP = "a stamp of records is beside another file", "half a file has the name of a stamp"
 COPIES = [Call("make", PART), Call("copy", PART, OUT, size=7), Call("store", PART)]
 RESTORES = [
     *(Call("link", ROOT, OUT), STORES["out"], Call("link", ASIDE, PART), TAKES_PLACE, STORES["root"]),
@@ -137,6 +143,9 @@ REPLACE_ORDERS: list[tuple[str, bool, list[Call], set[str]]] = [
     ("nothing goes aside", False, but(REPLACES, GOES_ASIDE, STORES["aside"]), {LOST, UNTOLD}),
     ("ROOT is not stored", False, but(REPLACES, STORES["root"]), {RECORDS_LOST, UNTOLD}),
     ("OUT goes first", False, [GOES, *but(REPLACES, STANDS_BESIDE, TAKES_PLACE, GOES, REPLACED)], {RECORDS_LOST}),
+    ("and stamps", False, [*REPLACES[:5], *STAMPS, *REPLACES[5:]], set()),
+    ("stamps before ROOT is stored", False, [*REPLACES[:4], *STAMPS, *REPLACES[4:]], {STAMPED_BESIDE}),
+    ("a stamp that is not stored", False, [*REPLACES[:5], *but(STAMPS, STAMPS[2]), *REPLACES[5:]], {HALF_A_STAMP}),
     ("told first", False, [REPLACED, *but(REPLACES, REPLACED)], {UNTOLD}),
     ("told before ROOT is stored", False, [*REPLACES[:4], REPLACED, *REPLACES[4:6]], {UNTOLD}),
     ("the original goes first", False, [*REPLACES[:3], Call("remove", ROOT), *REPLACES[3:]], {ROOT_LOST}),
@@ -204,12 +213,12 @@ class WrongOrders(unittest.TestCase):
         for title, undoes, calls, wrong in REPLACE_ORDERS:
             with self.subTest(title):
                 first = {ROOT: WAS.records, ASIDE: WAS.original} if undoes else {ROOT: WAS.original, OUT: WAS.records}
-                disk = self.begun(first)
+                disk = self.begun({**first, STAMP: WAS.stamp})
                 found: set[str] = set()
                 for call in calls:
                     disk.apply(call)
-                    for state in states_of(disk, [ROOT, ASIDE, OUT]):
-                        found.update(wrong_with_replace(DAY, state, disk.told))
+                    for state in states_of(disk, [ROOT, ASIDE, OUT, STAMP]):
+                        found.update(wrong_with_replace(DAY, state, disk.told, undoes))
                 self.assertEqual(found, wrong)
 
     def test_archive(self) -> None:
@@ -228,13 +237,13 @@ class WrongOrders(unittest.TestCase):
 
     def test_taken(self) -> None:
         for records, report, stamp, taken in (
-            (b"RECORDS", b"report 2", b"stamp 2", True),
-            (b"records", b"report 1", b"stamp 2", True),
-            (b"RECORD", b"report 2", b"stamp 2", False),
-            (None, b"report 2", b"stamp 2", False),
-            (b"RECORDS", b"report", b"stamp 2", False),
-            (b"RECORDS", None, b"stamp 2", False),
-            (b"RECORDS", b"report 2", b"stamp 1", False),
+            (b"RECORDS", b"report 2", IS.stamp, True),
+            (b"records", b"report 1", IS.stamp, True),
+            (b"RECORD", b"report 2", IS.stamp, False),
+            (None, b"report 2", IS.stamp, False),
+            (b"RECORDS", b"report", IS.stamp, False),
+            (b"RECORDS", None, IS.stamp, False),
+            (b"RECORDS", b"report 2", WAS.stamp, False),
             (b"RECORDS", b"report 2", None, False),
         ):
             with self.subTest((records, report, stamp)):

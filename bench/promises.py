@@ -1,7 +1,8 @@
 """What the files of a day may be at each moment of `archive`, `replace` and its undo, and what is wrong with others.
 
 After each call of `replace` and its undo a day of ROOT has to have its name on one whole file, the original or its
-records; each of the two is in ROOT or under its own name, whole; and what was told as `replaced` or `restored` stays so.
+records; each of the two is in ROOT or under its own name, whole; a stamp is whole, and one of records comes only where ROOT
+has these; and what was told as `replaced` or `restored` stays so.
 After each call of `archive` ROOT has to be as it was; what has the name of a day's records, report or stamp is whole;
 records have their own report, or after a loss of power none; a stamp has its own records and report; and what --resume
 takes for done is.
@@ -33,10 +34,21 @@ class Day:
     made: tuple[Made, Made]
 
 
-def wrong_with_replace(day: Day, state: State, told: set[str]) -> Iterator[str]:
-    """What is wrong with a day of which ROOT, ASIDE and OUT have this."""
-    root, aside, out = state
+def stamp_of_records(made: Made) -> bytes:
+    """That of a day whose records are in ROOT, with the time of the original."""
+    return made.stamp.replace(b"input %d bytes" % len(made.original), b"records %d bytes" % len(made.records))
+
+
+def wrong_with_replace(day: Day, state: State, told: set[str], undoes: bool) -> Iterator[str]:
+    """What is wrong with a day of which ROOT, ASIDE, OUT and REPORTS (stamp) have this. After an undo the stamp of records may
+    still be there."""
+    root, aside, out, stamp = state
     original, records = day.made[OLD].original, day.made[OLD].records
+    of_records = stamp_of_records(day.made[OLD])
+    if stamp not in (None, day.made[OLD].stamp, of_records):
+        yield "half a file has the name of a stamp"
+    if stamp == of_records and root != records and not undoes:
+        yield "a stamp of records is beside another file"
     if root is None:
         yield "nothing has a day's name in ROOT"
     for folder, found, whole in (("ROOT", root, {original, records}), ("ASIDE", aside, {original}), ("OUT", out, {records})):
