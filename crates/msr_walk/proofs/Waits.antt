@@ -20,7 +20,8 @@ use Rattle.msr_walk.proofs.Endings.{differ}
 use Rattle.msr_walk.proofs.OtherDays.{none_of_other, other_day}
 use Rattle.msr_walk.proofs.Spared.{SparesNames, waits_spared}
 use Rattle.msr_walk.specs.Files.{DayNames, HaveNames, files_of}
-use Rattle.msr_walk.specs.Handling.{AreApart, AreOfDay, AreWaiting, ChangesNames, IsNoneWaiting, IsWaiting, WaitsAs, files_waiting}
+use Rattle.msr_walk.specs.Handling.{ChangesNames}
+use Rattle.msr_walk.specs.Waiting.{AreApart, AreOfDay, AreWaiting, IsNoneWaiting, IsWaiting, WaitsAs, files_waiting}
 use Rattle.msr_walk.specs.Kills.{day_names_in}
 
 pub other_back : (files other : DayFiles) → IsOther files other → IsOther other files

@@ -37,7 +37,8 @@ use Rattle.msr_walk.proofs.Spared.{SparesNames, own_as, own_spared, shows_spared
 use Rattle.msr_walk.proofs.Standing.{stand_in}
 use Rattle.msr_walk.proofs.Waits.{SameInputs, Waits, all_so, found_waiting, none_of_stamps_by, of_days}
 use Rattle.msr_walk.specs.Files.{DayNames, HaveNames, IsStampWithin, files_of}
-use Rattle.msr_walk.specs.Handling.{AreApart, AreOfDay, AreWaitingAt, AreWithin, IsWaiting, files_waiting}
+use Rattle.msr_walk.specs.Handling.{AreWithin}
+use Rattle.msr_walk.specs.Waiting.{AreApart, AreOfDay, AreWaitingAt, IsWaiting, files_waiting}
 use Rattle.msr_walk.specs.Kills.{IsOwnOfDay, KeepsReports, day_names_in}
 use Rattle.msr_walk.specs.Laws.{days_end, days_none, days_then, input_now, none_failed, own_after, reports_then, stamp_later, within_joined}
 use Rattle.msr_walk.specs.Losses.{ChangesDays, IsStampOfDay, KeepsDays, SettlesDay, SettlesDays}

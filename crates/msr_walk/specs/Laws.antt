@@ -21,7 +21,7 @@ use Rattle.msr_tree.specs.Calls.{IsFoundAs}
 use Rattle.msr_tree.specs.Steps.{AtEachMoment, Failed, IsReady, Path, Spares, Step, Throughout, Unlisted, failures, now, seen}
 use Rattle.msr_tree.specs.declared.facts.Facts.{Facts}
 use Rattle.msr_walk.specs.Files.{files_of}
-use Rattle.msr_walk.specs.Handling.{AreWaiting, IsWaiting, files_waiting}
+use Rattle.msr_walk.specs.Waiting.{AreWaiting, IsWaiting, files_waiting}
 use Rattle.msr_walk.specs.Kills.{IsOwnOfDay, KeepsReports, day_names_in}
 use Rattle.msr_walk.specs.Losses.{ChangesDays, IsStampOfDay, KeepsDays}
 
