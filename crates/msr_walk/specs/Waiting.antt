@@ -46,9 +46,9 @@ pub record IsWaiting (archive : Archiving) (folder : Path) (files : DayFiles) (p
   pub waits : WaitsAs archive path files past
 
 -- no name of one of these days is another's
-abbrev pub AreApart : List DayFiles → Type 0
-AreApart [] = Unit {0}
-AreApart (files ∷ days) = AreOthers files days × AreApart days
+abbrev pub ShareNoNames : List DayFiles → Type 0
+ShareNoNames [] = Unit {0}
+ShareNoNames (files ∷ days) = AreOthers files days × ShareNoNames days
 
 -- the files of days that wait
 abbrev pub files_waiting : {C : Type 0} → List (Waiting C) → List DayFiles
@@ -61,7 +61,7 @@ parts_waiting days = map (λ day. day.files.stamp.part) days
 -- Days of a folder wait, each once.
 pub record AreWaiting {C : Type 0} (archive : Archiving) (folder : Path) (days : List (Waiting C)) (past : List Step) : Type 0 where
   pub each : AllByRecursion (λ files. IsWaiting archive folder files past) (files_waiting days)
-  pub apart : HaveNames archive.folders.out.now archive.folders.reports.now → AreApart (files_waiting days)
+  pub apart : HaveNames archive.folders.out.now archive.folders.reports.now → ShareNoNames (files_waiting days)
 
 -- whichever steps were done so far, they wait
 abbrev pub AreWaitingAt : {C : Type 0} → (went : List Step → Type 0) → Archiving → Path → List (Waiting C) → Type 0
