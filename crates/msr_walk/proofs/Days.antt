@@ -55,7 +55,8 @@ use Rattle.msr_walk.proofs.Waits.{waiting_beside}
 use Rattle.msr_walk.proofs.Working.{inputs_same, looks_work, none_of_day, settled_works, works_end, works_then}
 use Rattle.msr_outcomes.specs.Entries.{IsDayOf, IsOutcomeOf}
 use Rattle.msr_walk.specs.Files.{AreNamesOfDay, DayNames, HaveNames, files_of, paths_of_names}
-use Rattle.msr_walk.specs.Handling.{AreNamesWithin, AreWaitingAt, AwaitsName, ChangesNames, IsNoneWaiting, IsSameBut, IsUnclaimed, WaitsAs}
+use Rattle.msr_walk.specs.Handling.{AreNamesWithin, ChangesNames, IsSameBut, IsUnclaimed}
+use Rattle.msr_walk.specs.Waiting.{AreWaitingAt, AwaitsName, IsNoneWaiting, WaitsAs}
 use Rattle.msr_walk.specs.Kills.{KeepsReport, day_names_in}
 use Rattle.msr_walk.specs.Laws.{found_as, none_failed, seen_as, spared}
 use Rattle.msr_walk.specs.Losses.{KeepsDay, KeepsDays}

@@ -23,7 +23,7 @@ use Rattle.msr_walk.proofs.Standing.{joined_some}
 use Rattle.msr_walk.proofs.Waits.{all_but, all_so, none_waiting, of_days, waiting_apart, waiting_dropped, waiting_more, waiting_none, waiting_turned, waits_beside}
 use Rattle.msr_walk.proofs.Working.{goes_settles_more, goes_settles_none, goes_settles_then, held_after, inputs_same, settles_none}
 use Rattle.msr_walk.specs.Files.{HaveNames, files_of}
-use Rattle.msr_walk.specs.Handling.{AreOfDay, AreOfDaysAt, AreSome, AreWaiting, AreWaitingAt, IsNoneWaiting, SomeWait, WaitsAs, TakenWaits, files_waiting, parts_waiting}
+use Rattle.msr_walk.specs.Waiting.{AreOfDay, AreOfDaysAt, AreSome, AreWaiting, AreWaitingAt, IsNoneWaiting, SomeWait, TakenWaits, WaitsAs, files_waiting, parts_waiting}
 use Rattle.msr_walk.specs.Kills.{day_names_in}
 use Rattle.msr_walk.specs.Told.{DropsWaiting, SettlesNames}
 

@@ -20,7 +20,8 @@ use Rattle.msr_walk.proofs.Endings.{differ}
 use Rattle.msr_walk.proofs.OtherDays.{none_of_other, other_day}
 use Rattle.msr_walk.proofs.Spared.{SparesNames, waits_spared}
 use Rattle.msr_walk.specs.Files.{DayNames, HaveNames, files_of}
-use Rattle.msr_walk.specs.Handling.{AreApart, AreOfDay, AreWaiting, ChangesNames, IsNoneWaiting, IsWaiting, WaitsAs, files_waiting}
+use Rattle.msr_walk.specs.Handling.{ChangesNames}
+use Rattle.msr_walk.specs.Waiting.{ShareNoNames, AreOfDay, AreWaiting, IsNoneWaiting, IsWaiting, WaitsAs, files_waiting}
 use Rattle.msr_walk.specs.Kills.{day_names_in}
 
 pub other_back : (files other : DayFiles) → IsOther files other → IsOther other files
@@ -42,16 +43,16 @@ module _ {C : Type 0} (P : DayFiles → Type 0) (day : Waiting C) where
   all_with (first ∷ before) after all one = (all.0, all_with before after all.1 one)
 
 module _ {C : Type 0} (day : Waiting C) where
-  pub apart_but : (before after : List (Waiting C)) → AreApart (files_waiting (before ++ day ∷ after))
-      → AreApart (files_waiting (before ++ after)) × AllByRecursion (λ files. IsOther files day.files) (files_waiting (before ++ after))
+  pub apart_but : (before after : List (Waiting C)) → ShareNoNames (files_waiting (before ++ day ∷ after))
+      → ShareNoNames (files_waiting (before ++ after)) × AllByRecursion (λ files. IsOther files day.files) (files_waiting (before ++ after))
   apart_but [] after apart = (apart.1, all_so _ _ (files_waiting after) (λ files other. other_back day.files files other) apart.0)
   apart_but (first ∷ before) after apart =
       let rest = apart_but before after apart.1 in
       let others = all_but (λ files. IsOther first.files files) day before after apart.0 in
       ((others.0, rest.0), (others.1, rest.1))
 
-  pub apart_with : (before after : List (Waiting C)) → AreApart (files_waiting (before ++ after)) → AllByRecursion (λ files. IsOther files day.files) (files_waiting (before ++ after))
-      → AreApart (files_waiting (before ++ day ∷ after))
+  pub apart_with : (before after : List (Waiting C)) → ShareNoNames (files_waiting (before ++ after)) → AllByRecursion (λ files. IsOther files day.files) (files_waiting (before ++ after))
+      → ShareNoNames (files_waiting (before ++ day ∷ after))
   apart_with [] after apart others = (all_so _ _ (files_waiting after) (λ files other. other_back files day.files other) others, apart)
   apart_with (first ∷ before) after apart others =
       (all_with (λ files. IsOther first.files files) day before after apart.0 others.0, apart_with before after apart.1 others.1)
@@ -64,14 +65,14 @@ module _ {C : Type 0} where
       let parts = all_but P day (reverse days) [] (subst (λ (l : List (Waiting C)). AllByRecursion P (files_waiting l)) (reverse-append (day ∷ []) days) all) in
       (parts.1, all_turned P days (subst (λ (l : List (Waiting C)). AllByRecursion P (files_waiting l)) (append-nil (reverse days)) parts.0))
 
-  apart_turned : (days : List (Waiting C)) → AreApart (files_waiting (reverse days)) → AreApart (files_waiting days)
+  apart_turned : (days : List (Waiting C)) → ShareNoNames (files_waiting (reverse days)) → ShareNoNames (files_waiting days)
   apart_turned [] apart = tt
   apart_turned (day ∷ days) apart =
-      let parts = apart_but day (reverse days) [] (subst (λ (l : List (Waiting C)). AreApart (files_waiting l)) (reverse-append (day ∷ []) days) apart) in
+      let parts = apart_but day (reverse days) [] (subst (λ (l : List (Waiting C)). ShareNoNames (files_waiting l)) (reverse-append (day ∷ []) days) apart) in
       let same : reverse days ++ [] ≡ reverse days = append-nil (reverse days) in (
         all_so _ _ (files_waiting days) (λ files other. other_back files day.files other)
             (all_turned (λ files. IsOther files day.files) days (subst (λ (l : List (Waiting C)). AllByRecursion (λ files. IsOther files day.files) (files_waiting l)) same parts.1)),
-        apart_turned days (subst (λ (l : List (Waiting C)). AreApart (files_waiting l)) same parts.0),
+        apart_turned days (subst (λ (l : List (Waiting C)). ShareNoNames (files_waiting l)) same parts.0),
       )
 
   pub waiting_turned : (archive : Archiving) (folder : Path) (days : List (Waiting C)) (past : List Step) → AreWaiting archive folder (reverse days) past → AreWaiting archive folder days past
@@ -188,7 +189,7 @@ module _ (archive : Archiving) where
         record {
           each = all_with (λ files. IsWaiting archive folder files past) day days [] (subst (λ (l : List (Waiting C)). AllByRecursion (λ files. IsWaiting archive folder files past) (files_waiting l)) (sym same) wait.each)
               (record { path = path; day = is; beside = beside; waits = waits });
-          apart = λ have. apart_with day days [] (subst (λ (l : List (Waiting C)). AreApart (files_waiting l)) (sym same) (wait.apart have))
+          apart = λ have. apart_with day days [] (subst (λ (l : List (Waiting C)). ShareNoNames (files_waiting l)) (sym same) (wait.apart have))
               (subst (λ (l : List (Waiting C)). AllByRecursion (λ other. IsOther other day.files) (files_waiting l)) (sym same) (others have));
         }
 
@@ -211,7 +212,7 @@ module _ (archive : Archiving) where
       at (first ∷ before) all = at before all.1
 
   pub found_waiting : (apart : StandApart archive.folders) (have : Named) (folder path : Path) → IsDay path → (list : List DayFiles) (past : List Step)
-      → AllByRecursion (λ files. IsWaiting archive folder files past) list → AreApart list
+      → AllByRecursion (λ files. IsWaiting archive folder files past) list → ShareNoNames list
       → Waits folder path list past ⊎ AllByRecursion (λ files. (number : ℕ) → IsOther (files_of (day_names_in archive path) number) files) list
   found_waiting apart have folder path day [] past all others = inr tt
   found_waiting apart have folder path day (files ∷ list) past all others = elim (cases_Bool (bytes_eq path all.0.path)) [

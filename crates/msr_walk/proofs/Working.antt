@@ -37,7 +37,8 @@ use Rattle.msr_walk.proofs.Spared.{SparesNames, own_as, own_spared, shows_spared
 use Rattle.msr_walk.proofs.Standing.{stand_in}
 use Rattle.msr_walk.proofs.Waits.{SameInputs, Waits, all_so, found_waiting, none_of_stamps_by, of_days}
 use Rattle.msr_walk.specs.Files.{DayNames, HaveNames, IsStampWithin, files_of}
-use Rattle.msr_walk.specs.Handling.{AreApart, AreOfDay, AreWaitingAt, AreWithin, IsWaiting, files_waiting}
+use Rattle.msr_walk.specs.Handling.{AreWithin}
+use Rattle.msr_walk.specs.Waiting.{ShareNoNames, AreOfDay, AreWaitingAt, IsWaiting, files_waiting}
 use Rattle.msr_walk.specs.Kills.{IsOwnOfDay, KeepsReports, day_names_in}
 use Rattle.msr_walk.specs.Laws.{days_end, days_none, days_then, input_now, none_failed, own_after, reports_then, stamp_later, within_joined}
 use Rattle.msr_walk.specs.Losses.{ChangesDays, IsStampOfDay, KeepsDays, SettlesDay, SettlesDays}
@@ -285,7 +286,7 @@ module _ (archive : Archiving) where
 
     -- stamps get their names
     module _ (folder : Path) (days : List DayFiles) (result : Result (Unit {0}) TreeFault) (old new : List Step) (wait : AllByRecursion (λ files. IsWaiting archive folder files old) days)
-        (apart_days : HaveNames out_of reports_of → AreApart days) (names : NamesStamps (joined out_of folder) (joined reports_of folder) days result old new) where
+        (apart_days : HaveNames out_of reports_of → ShareNoNames days) (names : NamesStamps (joined out_of folder) (joined reports_of folder) days result old new) where
       abbrev within_all : AllByRecursion (IsStampWithin reports_of) days
       within_all = all_so (AreOfDay archive) (IsStampWithin reports_of) days stamp_within (of_days archive folder days old wait)
 

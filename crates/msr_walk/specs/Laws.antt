@@ -21,7 +21,7 @@ use Rattle.msr_tree.specs.Calls.{IsFoundAs}
 use Rattle.msr_tree.specs.Steps.{AtEachMoment, Failed, IsReady, Path, Spares, Step, Throughout, Unlisted, failures, now, seen}
 use Rattle.msr_tree.specs.declared.facts.Facts.{Facts}
 use Rattle.msr_walk.specs.Files.{files_of}
-use Rattle.msr_walk.specs.Handling.{AreWaiting, IsWaiting, files_waiting}
+use Rattle.msr_walk.specs.Waiting.{AreWaiting, IsWaiting, files_waiting}
 use Rattle.msr_walk.specs.Kills.{IsOwnOfDay, KeepsReports, day_names_in}
 use Rattle.msr_walk.specs.Losses.{ChangesDays, IsStampOfDay, KeepsDays}
 
@@ -175,14 +175,14 @@ module _ (archive : Archiving) where
 
 -- a folder that gives no list leaves what waits
 module _ (place : Path) where
-  abbrev listed : List Step → List Step
-  listed past = Failed ∷ Unlisted place ∷ past
+  abbrev noted : List Step → List Step
+  noted past = Failed ∷ Unlisted place ∷ past
 
-  ready_listed : (name : Path) (bytes : List ℕ) (past : List Step) → IsReady name bytes past → IsReady name bytes (listed past)
+  ready_listed : (name : Path) (bytes : List ℕ) (past : List Step) → IsReady name bytes past → IsReady name bytes (noted past)
   ready_listed name bytes past ready = record { file = ready.file; leads = ready.leads; has = ready.has; stored = ready.stored }
 
   waits_listed : (input : Path) (files : DayFiles) (choice : Choice) (past : List Step) → WaitsForStamp input files choice past past
-      → WaitsForStamp input files choice (listed past) (listed past)
+      → WaitsForStamp input files choice (noted past) (noted past)
   waits_listed input files choice past waits = record {
     facts = waits.facts;
     looked = record { regular = waits.looked.regular; other = waits.looked.other };
@@ -201,7 +201,7 @@ module _ (place : Path) where
   }
 
   each_listed : (archive : Archiving) (folder : Path) (list : List DayFiles) (past : List Step) → AllByRecursion (λ files. IsWaiting archive folder files past) list
-      → AllByRecursion (λ files. IsWaiting archive folder files (listed past)) list
+      → AllByRecursion (λ files. IsWaiting archive folder files (noted past)) list
   each_listed archive folder [] past all = tt
   each_listed archive folder (files ∷ list) past all =
       let waits = all.0.waits in (
@@ -221,7 +221,7 @@ module _ (place : Path) where
       )
 
   pub waiting_listed : {C : Type 0} (archive : Archiving) (folder : Path) (days : List (Waiting C)) (past : List Step) → AreWaiting archive folder days past
-      → AreWaiting archive folder days (listed past)
+      → AreWaiting archive folder days (noted past)
   waiting_listed archive folder days past wait = record { each = each_listed archive folder (files_waiting days) past wait.each; apart = wait.apart }
 
 -- the laws of a visitor of days

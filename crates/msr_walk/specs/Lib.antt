@@ -4,4 +4,5 @@ pub mod Kills
 pub mod Laws
 pub mod Losses
 pub mod Told
+pub mod Waiting
 pub mod Walk

@@ -6,7 +6,7 @@ ghost use Rattle.msr_folders.specs.Days.{IsDay};
 ghost use Rattle.msr_folders.specs.Walks.{HoldsAt};
 ghost use Rattle.msr_naming.specs.Promise.{stamp_paths};
 ghost use Rattle.msr_tree.specs.Calls.{Goes};
-ghost use Rattle.msr_walk.specs.Handling.{AreOfDay, AreOfDaysAt, AreSome, AreWaitingAt, IsNoneWaiting, SomeWait, WaitsAs, TakenWaits, files_waiting, parts_waiting};
+ghost use Rattle.msr_walk.specs.Waiting.{AreOfDay, AreOfDaysAt, AreSome, AreWaitingAt, IsNoneWaiting, SomeWait, TakenWaits, WaitsAs, files_waiting, parts_waiting};
 ghost use Rattle.msr_walk.specs.Told.{DropsWaiting, SettlesNames, WorksFor};
 
 use crate::claims::Claims;

@@ -9,7 +9,8 @@ ghost use Rattle.msr_tree.specs.Folders.{ChangesFiles};
 ghost use Rattle.msr_tree.specs.Steps.{Path};
 ghost use Rattle.msr_walk.specs.Files.{day_names, file_beside, files_of, paths_of_names};
 ghost use Rattle.msr_folders.specs.Walks.{HoldsAt};
-ghost use Rattle.msr_walk.specs.Handling.{AreNamesWithin, AwaitsName, ChangesNames, IsSameBut, IsUnclaimed};
+ghost use Rattle.msr_walk.specs.Handling.{AreNamesWithin, ChangesNames, IsSameBut, IsUnclaimed};
+ghost use Rattle.msr_walk.specs.Waiting.{AwaitsName};
 ghost use Rattle.msr_walk.specs.Told.{HandlesDay};
 
 use crate::claims::{Asked, ClaimFault, Claims};

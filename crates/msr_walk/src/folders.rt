@@ -16,7 +16,7 @@ ghost use Rattle.msr_tree.specs.declared.kind.FileKind.{FileKind};
 ghost use Rattle.msr_tree.specs.declared.kind.FileKind.TheVariants.{Gone};
 ghost use Rattle.msr_outcomes.specs.Entries.{Entry, IsOutcomeOf, IsTally};
 ghost use Rattle.msr_outcomes.specs.Known.{IsEntry, known_as};
-ghost use Rattle.msr_walk.specs.Handling.{AreWaiting, AreWaitingAt, IsNoneWaiting, WaitsAs};
+ghost use Rattle.msr_walk.specs.Waiting.{AreWaiting, AreWaitingAt, IsNoneWaiting, WaitsAs};
 ghost use Rattle.msr_walk.specs.Kills.{KeepsReports};
 ghost use Rattle.msr_walk.specs.Laws.{days_laws, waiting_listed};
 ghost use Rattle.msr_walk.specs.Losses.{ChangesDays, KeepsDays};

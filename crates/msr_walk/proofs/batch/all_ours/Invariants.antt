@@ -1,7 +1,7 @@
 use Rattle.std.proofs.Common.{◌++◌, reverse, vec_len}
 use Rattle.msr_naming.specs.Promise.{stamp_paths}
 use Rattle.msr_tree.specs.Calls.{Goes}
-use Rattle.msr_walk.specs.Handling.{AreOfDaysAt, AreSome, SomeWait, files_waiting}
+use Rattle.msr_walk.specs.Waiting.{AreOfDaysAt, AreSome, SomeWait, files_waiting}
 use Rattle.msr_walk.specs.Told.{SettlesNames}
 use Rattle.msr_walk.proofs.batch.all_ours.Given as goal
 

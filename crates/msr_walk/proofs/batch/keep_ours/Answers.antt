@@ -5,7 +5,7 @@ use Rattle.msr_tree.specs.Calls.{Goes}
 use Rattle.msr_walk.proofs.Ours.{drops_waiting, keeps_waiting}
 use Rattle.msr_walk.proofs.Working.{goes_settles_none, removed_at}
 use Rattle.msr_walk.specs.Told.{SettlesNames}
-use Rattle.msr_walk.specs.Handling.{AreOfDay}
+use Rattle.msr_walk.specs.Waiting.{AreOfDay}
 use Rattle.msr_walk.proofs.batch.keep_ours.Goals as goal
 
 pub returns-then-not-is_ours-clause-ours : goal.returns-then-not-is_ours-clause-ours

@@ -2,7 +2,7 @@ use Rattle.std.proofs.Common.{◌≡◌, ◌∙◌, false, nat_eq, rules, subst,
 use Rattle.std.proofs.Math.Seq.{take_all}
 use Rattle.std.specs.List.{AllByRecursion, ends_with}
 use Rattle.msr_walk.proofs.Ours.{all_more}
-use Rattle.msr_walk.specs.Handling.{files_waiting}
+use Rattle.msr_walk.specs.Waiting.{files_waiting}
 use Rattle.msr_walk.proofs.batch.may_be_among.Goals as goal
 
 pub loop-day-init : goal.loop-day-init

@@ -1,6 +1,6 @@
 use Rattle.std.proofs.Common.{◌≡◌, false, nat_eq, take}
 use Rattle.std.specs.List.{AllByRecursion, ends_with}
-use Rattle.msr_walk.specs.Handling.{files_waiting}
+use Rattle.msr_walk.specs.Waiting.{files_waiting}
 use Rattle.msr_walk.proofs.batch.may_be_among.Given as goal
 
 -- none so far ends in the path

@@ -1,6 +1,6 @@
 use Rattle.msr_walk.proofs.Ours.{none_of_part, of_day_at}
 use Rattle.msr_walk.proofs.Working.{goes_settles_more, goes_settles_none, goes_settles_then, held_after}
-use Rattle.msr_walk.specs.Handling.{parts_waiting}
+use Rattle.msr_walk.specs.Waiting.{parts_waiting}
 use Rattle.msr_walk.proofs.batch.release_all.Goals as goal
 
 pub loop-day-init : goal.loop-day-init

@@ -1,5 +1,5 @@
 use Rattle.msr_tree.specs.Calls.{Goes}
-use Rattle.msr_walk.specs.Handling.{parts_waiting}
+use Rattle.msr_walk.specs.Waiting.{parts_waiting}
 use Rattle.msr_walk.specs.Told.{SettlesNames}
 use Rattle.msr_walk.proofs.batch.release_all.Given as goal
 

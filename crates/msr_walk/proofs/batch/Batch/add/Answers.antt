@@ -6,7 +6,7 @@ use Rattle.msr_tree.specs.Calls.{Goes}
 use Rattle.msr_walk.specs.Told.{SettlesNames}
 use Rattle.msr_walk.proofs.Ours.{none_after, of_waits, wait_as, wait_more, wait_none, wait_without, waits_settled}
 use Rattle.msr_walk.proofs.Working.{goes_settled, goes_works_then}
-use Rattle.msr_walk.specs.Handling.{AreOfDay}
+use Rattle.msr_walk.specs.Waiting.{AreOfDay}
 use Rattle.msr_walk.proofs.batch.Batch.add.Goals as goal
 
 pub release-requires : goal.release-requires

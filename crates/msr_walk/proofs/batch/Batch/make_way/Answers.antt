@@ -2,7 +2,7 @@ use Rattle.std.proofs.Common.{◌≡◌, ◌∙◌, ap, false, nat_eq, subst}
 use Rattle.std.specs.List.{AllByRecursion, ends_with}
 use Rattle.std.specs.String.{string_bytes}
 use Rattle.msr_walk.proofs.Ours.{drops_all, drops_none, none_among, none_of_none, of_days_as, of_days_at, wait_none}
-use Rattle.msr_walk.specs.Handling.{files_waiting}
+use Rattle.msr_walk.specs.Waiting.{files_waiting}
 use Rattle.msr_walk.proofs.batch.Batch.make_way.Goals as goal
 
 pub returns-then-not-may_be_among-clause-none : goal.returns-then-not-may_be_among-clause-none

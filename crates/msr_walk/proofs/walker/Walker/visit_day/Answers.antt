@@ -1,7 +1,7 @@
 use Rattle.std.proofs.Common.{rules, refl, true, false, subst, sym, [], ◌∷◌}
 use Rattle.std.specs.String.{string_bytes}
 use Rattle.msr_folders.specs.Walks.{HoldsAt}
-use Rattle.msr_walk.specs.Handling.{AreWaitingAt, IsNoneWaiting}
+use Rattle.msr_walk.specs.Waiting.{AreWaitingAt, IsNoneWaiting}
 use Rattle.std.proofs.lemmas.Result.{err_from_is_err_and}
 use Rattle.msr_folders.proofs.WalkedLemmas.{on_ok_as}
 use Rattle.msr_walk.proofs.Days.{drops_works, outcome_of, says_dropped, tells_works, waiting_handled}
