@@ -1,7 +1,9 @@
 -- Days that wait, one after the other.
-use Rattle.std.proofs.Common.{◌≡◌, ◌≢◌, ◌⊎◌, ◌<◌, ◌+◌, ◌-◌, ⊎_elim, arith, ℕ, zero, suc, true, false, nat_eq, List, [], ◌∷◌, ◌++◌, length, length-append, get_or, drop, reverse, take, refl, sym, ◌∙◌, ap, subst, append_assoc}
-use Rattle.std.proofs.lemmas.List.{append-nil, drop_at, reverse-append}
+use Rattle.std.proofs.Common.{inl, inr, ◌≡◌, ◌≢◌, ◌⊎◌, ◌<◌, ◌+◌, ◌-◌, ⊎_elim, arith, ℕ, zero, suc, true, false, nat_eq, List, [], ◌∷◌, ◌++◌, length, length-append, length-drop, get_or, drop, reverse, take, refl, sym, ◌∙◌, ap, subst, append_assoc}
+use Rattle.std.proofs.lemmas.Bool.{cases_Bool}
+use Rattle.std.proofs.lemmas.List.{append-nil, drop_at, reverse-append, take-append-drop}
 use Rattle.std.proofs.lemmas.Slice.Eq.{bytes_eq-Decides}
+use Rattle.std.proofs.Math.Seq.{take_all}
 use Rattle.std.specs.List.{AllByRecursion, ends_with}
 use Rattle.std.specs.Str.{bytes_eq}
 use Rattle.msr_folders.proofs.WalkedLemmas.{goes_none, goes_so}
@@ -227,6 +229,26 @@ ends_self front path =
     let same : drop (length (front ++ path) - length path) (front ++ path) ≡ path
     = ap (λ n. drop n (front ++ path)) (let n : length (front ++ path) - length path ≡ length front = omega (arith, length-append front path) in n) ∙ drop_at front path (length front) refl in
     ap (λ l. bytes_eq path l) same ∙ (bytes_eq-Decides path path).1 refl
+
+-- what does not end in the last bytes of a path does not end in it
+last_lacks : (name path : Path) (n : ℕ) → ends_with nat_eq name (drop n path) ≡ false → ends_with nat_eq name path ≡ false
+last_lacks name path n gone = elim (cases_Bool (ends_with nat_eq name path)) [
+  | inl is ↦
+      let k : ℕ = length name - length path in
+      let tail : path ≡ drop k name = (bytes_eq-Decides path (drop k name)).0 is in
+      let whole : name ≡ (take k name ++ take n path) ++ drop n path =
+      sym (take-append-drop k name) ∙ (ap (λ l. take k name ++ l) (sym tail ∙ sym (take-append-drop n path)) ∙ sym (append_assoc (take k name) (take n path) (drop n path))) in
+      let yes : ends_with nat_eq name (drop n path) ≡ true = ap (λ l. ends_with nat_eq l (drop n path)) whole ∙ ends_self (take k name ++ take n path) (drop n path) in
+      absurd cc
+  | inr not ↦ not
+]
+
+pub not_ending : (name given path bytes : Path) (n : ℕ) → given ≡ name → bytes ≡ path
+    → (ends_with nat_eq given (take (length bytes - n) (drop n bytes)) ≡ false) ⊎ (ends_with nat_eq given bytes ≡ false) → ends_with nat_eq name path ≡ false
+not_ending name given path bytes n is same which =
+    let whole : take (length bytes - n) (drop n bytes) ≡ drop n bytes = take_all (length bytes - n) (drop n bytes) (omega (arith, length-drop {A = ℕ})) in
+    let not : ends_with nat_eq given bytes ≡ false = ⊎_elim (λ gone. last_lacks given bytes n (ap (λ l. ends_with nat_eq given l) (sym whole) ∙ gone)) (λ no. no) which in
+    subst (λ p. ends_with nat_eq name p ≡ false) same (subst (λ l. ends_with nat_eq l bytes ≡ false) is not)
 
 ends_joined : (folder path : Path) → folder ≢ [] → 0 < length path → ends_with nat_eq (joined folder path) path ≡ true
 ends_joined folder path named some =

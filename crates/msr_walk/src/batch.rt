@@ -64,13 +64,24 @@ fn release_all<T: Tree, C: Claims>(
     }
 }
 
+/// Whether a name ends in a path. Its last bytes, in which most names differ, are compared first.
+fn ends_in(name: &[u8], last: &[u8], path: &[u8]) -> bool
+    ensures { result ≡ false → (ends_with nat_eq name.now last.now ≡ false) ⊎ (ends_with nat_eq name.now path.now ≡ false) }
+{
+    if !name.ends_with(last) {
+        return false;
+    }
+    name.ends_with(path)
+}
+
 /// Whether the day with this path may be one of these.
 fn may_be_among<K>(days: &[Waiting<K>], path: &str) -> bool
     ensures { result ≡ false → AllByRecursion (λ files. ends_with nat_eq files.records.path path.now ≡ false) (files_waiting days.now) }
 {
+    let bytes = path.as_bytes();
+    let day_of_year = &bytes[bytes.len().saturating_sub(3)..];
     for day in days {
-        let records = day.files.records.path.as_bytes();
-        if records.ends_with(path.as_bytes()) {
+        if ends_in(day.files.records.path.as_bytes(), day_of_year, bytes) {
             return true;
         }
     }
