@@ -22,6 +22,9 @@ use Rattle.msr_folders.specs.Visits.{IsWalk}
 use Rattle.msr_outcomes.specs.Known.{IsEntry}
 use Rattle.msr_outcomes.specs.Lines.{IsEntryLine}
 use Rattle.msr_outcomes.specs.Summary.{summary, summary_by}
+use Rattle.msr_walk.specs.Files.{HaveNames, day_names}
+use Rattle.msr_walk.specs.Kills.{KeepsReport, KeepsReports, day_names_in}
+use Rattle.msr_walk.specs.Losses.{KeepsDay, KeepsDays}
 use Rattle.msr_walk.specs.Told.{StaysWithin, WalksTree}
 use Rattle.msr_walk.specs.Walk.{Walks}
 use Rattle.msr_walk.specs.declared.folders.Walked.{Walked}
@@ -53,8 +56,8 @@ use Rattle.msr_options.specs.declared.task.Feeding.{Feeding}
 use Rattle.msr_options.specs.declared.task.Repacking.{Repacking}
 use Rattle.msr_command.specs.Named.{GetsNoReport, GetsOutput, GetsReport}
 use Rattle.msr_command.proofs.Inputs.{goes_so, goes_still, unread_unopened}
-use Rattle.msr_command.proofs.Walks.{archive_as, failed_at, none_failed, replace_as, still_reads, still_stays, trial_as, verify_as}
-use Rattle.msr_command.specs.Ends.{Checks, ComesNamed, Does, EndsClosed, EndsReplacing, Feeds, FeedEnds, FeedsTo, HasOpened, IfTool, IsUncreated, IsUnbegun, IsUnread, ListEnds, ListsNamed, IsOverlapOrMemory, Over, RepackEnds, Repacks, RepacksNamed, ReplacesArchive, Settles, StopsRecords, VerifiesArchive, WalksArchive, WritesRecords, done_of_archive, done_of_verifying, is_whole, TriesArchive, IsArchivingRead, IsUnwalked, IsVerifyingRead, done_of_trial, IsKnownRead, IsUnknown}
+use Rattle.msr_command.proofs.Walks.{archive_as, failed_at, none_failed, replace_as, still_keeps, still_reads, trial_as, verify_as}
+use Rattle.msr_command.specs.Ends.{Checks, ComesNamed, Does, EndsClosed, EndsReplacing, Feeds, FeedEnds, FeedsTo, HasOpened, IfTool, IsUncreated, IsUnbegun, IsUnread, ListEnds, ListsNamed, IsOverlapOrMemory, KeepsArchive, Over, RepackEnds, Repacks, RepacksNamed, ReplacesArchive, Settles, StopsRecords, VerifiesArchive, WalksArchive, WritesRecords, done_of_archive, done_of_verifying, is_whole, TriesArchive, IsArchivingRead, IsUnwalked, IsVerifyingRead, done_of_trial, IsKnownRead, IsUnknown}
 use denote.Ref.{Bor}
 
 -- nothing was printed
@@ -156,7 +159,7 @@ task_closed before after (Archive asked) standard out0 out stop none ends = rw e
   printed = [];
   prints = none;
   ends = inr (inr refl, refl);
-  root = still_stays asked.folders.root.now ends.1;
+  keeps = still_keeps asked ends.1;
 })
 task_closed before after (Trial asked) standard out0 out stop none ends =
     rw ends.0 (record { printed = []; prints = none; ends = inr (inr refl, refl); reads = still_reads ends.1 })
@@ -280,28 +283,48 @@ check_unread went asked out stop is = record {
 }
 
 -- the archive of a walk is the one that is asked for
-read_root : (before after : List Step → Type 0) (asked read : Archiving) → IsArchivingRead asked read
-    → Goes before after (StaysWithin read.folders.root.now) → Goes before after (StaysWithin asked.folders.root.now)
-read_root before after asked read is stays = subst (λ folders. Goes before after (StaysWithin folders.root.now)) is.folders stays
+module _ (asked read : Archiving) (is : IsArchivingRead asked read) where
+  reports_read : (old new : List Step) → KeepsReports read old new → KeepsReports asked old new
+  reports_read old new keeps = record {
+    each = λ have path day.
+        let of_folders = subst (λ folders. KeepsReport read.days (day_names folders.root.now folders.out.now folders.reports.now path) old new) is.folders
+            (keeps.each (subst (λ folders. HaveNames folders.out.now folders.reports.now) (sym is.folders) have) path day) in
+        subst (λ days. KeepsReport days (day_names_in asked path) old new) is.days of_folders;
+  }
+
+  days_read : (old new : List Step) → KeepsDays false read old new → KeepsDays false asked old new
+  days_read old new keeps = record {
+    each = λ none have path day.
+        let of_folders = subst (λ folders. KeepsDay false read.days (day_names folders.root.now folders.out.now folders.reports.now path) old new) is.folders
+            (keeps.each none (subst (λ folders. HaveNames folders.out.now folders.reports.now) (sym is.folders) have) path day) in
+        subst (λ days. KeepsDay false days (day_names_in asked path) old new) is.days of_folders;
+  }
+
+  keeps_read : (before after : List Step → Type 0) → KeepsArchive before after read → KeepsArchive before after asked
+  keeps_read before after keeps = record {
+    root = subst (λ folders. Goes before after (StaysWithin folders.root.now)) is.folders keeps.root;
+    killed = goes_so reports_read keeps.killed;
+    safe = goes_so days_read keeps.safe;
+  }
 
 pub archive_done : (before after : List Step → Type 0) (asked read : Archiving) (out0 out : Device) (walked : Walked) → IsArchivingRead asked read
-    → WalksTree read before after out0 out walked → Goes before after (StaysWithin read.folders.root.now)
+    → WalksTree read before after out0 out walked → KeepsArchive before after read
     → WalksArchive before after asked out0 out (Ok (done_of_archive (is_whole (vec_len asked.below)) walked))
-archive_done before after asked read out0 out walked is tree stays = record {
+archive_done before after asked read out0 out walked is tree keeps = record {
   printed = tree.printed;
   prints = tree.prints;
   ends = record { found = walked; walk = record { read = read; is = is; walk = tree }; is = refl };
-  root = read_root before after asked read is stays;
+  keeps = keeps_read asked read is before after keeps;
 }
 
 pub archive_stops : (before after : List Step → Type 0) (asked read : Archiving) (out0 out : Device) (why : ToolFault) → IsArchivingRead asked read
-    → Walks read out0 out (Err why) → Goes before after (StaysWithin read.folders.root.now)
+    → Walks read out0 out (Err why) → KeepsArchive before after read
     → WalksArchive before after asked out0 out (Err (Tool why))
-archive_stops before after asked read out0 out why is does stays = record {
+archive_stops before after asked read out0 out why is does keeps = record {
   printed = does.printed;
   prints = does.prints;
   ends = inl (record { read = read; is = is; walk = does.ends });
-  root = read_root before after asked read is stays;
+  keeps = keeps_read asked read is before after keeps;
 }
 
 pub archive_unbegun : (went : List Step → Type 0) (asked : Archiving) (out : Device) (stop : TaskFault) → IsUnwalked asked.known stop
@@ -310,7 +333,7 @@ archive_unbegun went asked out stop is = record {
   printed = [];
   prints = takes_none out;
   ends = inr (inl is, refl);
-  root = still_stays asked.folders.root.now goes_still;
+  keeps = still_keeps asked goes_still;
 }
 
 pub trial_done : (before after : List Step → Type 0) (asked : Trying) (out0 out : Device) (tried : Tried)
@@ -513,7 +536,7 @@ archive_unstored before after asked out0 out done does =
         is = does.ends.walk.is;
         walk = record { entries = tree.entries; rest = []; walk = subst P (sym (append-nil tree.printed)) tree.text };
       });
-      root = does.root;
+      keeps = does.keeps;
     }
 
 trial_unstored : (before after : List Step → Type 0) (asked : Trying) (out0 out : Device) (done : Done)

@@ -1,6 +1,6 @@
 -- The same walk, told of the files that lent their names, or after what printed nothing.
 use Rattle.std.specs.Prelude.{Option, None, Some, String, string_bytes}
-use Rattle.std.proofs.Common.{◌≡◌, ◌∙◌, ◌+◌, ◌++◌, ◌∷◌, ℕ, List, [], Result, Ok, Err, true, arith, inl, inr, refl, subst, sym}
+use Rattle.std.proofs.Common.{◌≡◌, ◌∙◌, ◌+◌, ◌++◌, ◌∷◌, ℕ, List, [], Result, Ok, Err, true, false, arith, inl, inr, refl, subst, sym}
 use Rattle.msr_devices.specs.Device.{Device, Takes}
 use Rattle.msr_folders.specs.Stopping.{entries_of}
 use Rattle.msr_folders.specs.Totals.{saturated}
@@ -14,6 +14,9 @@ use Rattle.msr_tree.specs.Calls.{Goes}
 use Rattle.msr_tree.specs.Reads.{OnlyReads}
 use Rattle.msr_tree.specs.Steps.{Path, Step}
 use Rattle.msr_tree.proofs.Reading.{reads_none}
+use Rattle.msr_walk.specs.Kills.{KeepsReports}
+use Rattle.msr_walk.specs.Laws.{days_none}
+use Rattle.msr_walk.specs.Losses.{KeepsDays}
 use Rattle.msr_walk.specs.Told.{StaysWithin, WalksTree}
 use Rattle.msr_walk.specs.declared.folders.Walked.{Walked}
 use Rattle.msr_trial.specs.Walk.{TriesTree}
@@ -28,7 +31,7 @@ use Rattle.msr_replace.specs.Words.{is_unwell}
 use Rattle.msr_command.specs.declared.done.Done.{Done}
 use Rattle.msr_command.specs.declared.task_fault.TaskFault.{TaskFault}
 use Rattle.msr_command.specs.declared.task_fault.TaskFault.TheVariants.{CannotOpen, Closed, Failed, Input, Overlap, SameFile, SameOutput, Tool}
-use Rattle.msr_command.specs.Ends.{FailsReplacing, HasReplaced, ReplacesArchive, TriesArchive, VerifiesArchive, VerifiesKnown, WalksArchive, WalksKnown}
+use Rattle.msr_command.specs.Ends.{FailsReplacing, HasReplaced, KeepsArchive, ReplacesArchive, TriesArchive, VerifiesArchive, VerifiesKnown, WalksArchive, WalksKnown}
 use Rattle.msr_command.proofs.Inputs.{goes_on, goes_so}
 
 -- nothing was done
@@ -36,8 +39,12 @@ use Rattle.msr_command.proofs.Inputs.{goes_on, goes_so}
 stays_same : (root : Path) (past : List Step) → StaysWithin root past past
 stays_same root past = record { each = record { made = []; since = refl; holds = λ name within. refl } }
 
-pub still_stays : {before after : List Step → Type 0} (root : Path) → Goes before after (λ old new. new ≡ old) → Goes before after (StaysWithin root)
-still_stays root still = goes_so (λ old new same. subst (λ it. StaysWithin root old it) (sym same) (stays_same root old)) still
+pub still_keeps : {before after : List Step → Type 0} (asked : Archiving) → Goes before after (λ old new. new ≡ old) → KeepsArchive before after asked
+still_keeps asked still = record {
+  root = goes_so (λ old new same. subst (λ it. StaysWithin asked.folders.root.now old it) (sym same) (stays_same asked.folders.root.now old)) still;
+  killed = goes_so (λ old new same. subst (λ it. KeepsReports asked old it) (sym same) (days_none asked false old).reports) still;
+  safe = goes_so (λ old new same. subst (λ it. KeepsDays false asked old it) (sym same) (days_none asked false old).safe) still;
+}
 
 pub still_reads : {before after : List Step → Type 0} → Goes before after (λ old new. new ≡ old) → Goes before after OnlyReads
 still_reads still = goes_so (λ old new same. subst (λ it. OnlyReads old it) (sym same) (reads_none old)) still
@@ -62,6 +69,9 @@ module _ (before1 after1 before after : List Step → Type 0) (out0 out1 out : D
     goes = goes_as _ tree.goes;
   }
 
+  keeps_as : (asked : Archiving) → KeepsArchive before1 after1 asked → KeepsArchive before after asked
+  keeps_as asked keeps = record { root = goes_as _ keeps.root; killed = goes_as _ keeps.killed; safe = goes_as _ keeps.safe }
+
   pub archive_as : (asked : Archiving) (result : Result Done TaskFault) → WalksArchive before1 after1 asked out1 out result
       → WalksArchive before after asked out0 out result
   archive_as asked (Ok done) does = record {
@@ -76,13 +86,13 @@ module _ (before1 after1 before after : List Step → Type 0) (out0 out1 out : D
       };
       is = does.ends.is;
     };
-    root = goes_as _ does.root;
+    keeps = keeps_as asked does.keeps;
   }
   archive_as asked (Err stop) does = record {
     printed = does.printed;
     prints = takes_as does.printed does.prints;
     ends = does.ends;
-    root = goes_as _ does.root;
+    keeps = keeps_as asked does.keeps;
   }
 
   pub known_as : (asked : Archiving) (result : Result Walked TaskFault) → WalksKnown before1 after1 asked out1 out result

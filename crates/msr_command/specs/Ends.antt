@@ -21,6 +21,8 @@ use Rattle.msr_verdict.specs.declared.verdict.Verdict.TheVariants.{NotShown}
 use Rattle.msr_tool.specs.declared.fault.ToolFault.{ToolFault}
 use Rattle.msr_folders.specs.declared.found.WalkFound.{WalkFound}
 use Rattle.msr_folders.specs.declared.found.WalkFound.TheVariants.{Well, Unwell, NoDay}
+use Rattle.msr_walk.specs.Kills.{KeepsReports}
+use Rattle.msr_walk.specs.Losses.{KeepsDays}
 use Rattle.msr_walk.specs.Told.{StaysWithin, WalksTree}
 use Rattle.msr_walk.specs.Walk.{WalkEnds}
 use Rattle.msr_walk.specs.declared.folders.Walked.{Walked as ArchiveWalked}
@@ -339,13 +341,19 @@ ArchiveEnds before after asked out0 out printed result =
     Ends (IsEndOf (done_of_archive (is_whole (vec_len asked.below))) (λ walked. OfArchiving asked (λ read. WalksTree read before after out0 out walked)))
     (IsUnwalked asked.known) (λ fault. OfArchiving asked (λ read. WalkEnds read printed (Err fault))) printed result
 
--- Walking an archive, which is at each moment as it was, and what was printed.
+-- At each moment an archive is as it was, and its days have their own, also after a kill, or if no call failed a loss of power.
+pub record KeepsArchive (before after : List Step → Type 0) (asked : Archiving) : Type 0 where
+  pub root : Goes before after (StaysWithin asked.folders.root.now)
+  pub killed : Goes before after (KeepsReports asked)
+  pub safe : Goes before after (KeepsDays false asked)
+
+-- Walking an archive, and what was printed.
 pub record WalksArchive (before after : List Step → Type 0) (asked : Archiving) (out0 out : Device) (result : Result Done TaskFault) : Type 0
   where
     pub printed : List ℕ
     pub prints : Takes out0 out printed
     pub ends : ArchiveEnds before after asked out0 out printed result
-    pub root : Goes before after (StaysWithin asked.folders.root.now)
+    pub keeps : KeepsArchive before after asked
 
 abbrev pub TryingEnds : (before after : List Step → Type 0) → Trying → (out0 out : Device) → (printed : List ℕ)
     → Result Done TaskFault → Type 0
