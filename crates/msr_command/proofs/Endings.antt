@@ -288,7 +288,7 @@ module _ (asked read : Archiving) (is : IsArchivingRead asked read) where
   reports_read old new keeps = record {
     each = λ have path day.
         let of_folders = subst (λ folders. KeepsReport read.days (day_names folders.root.now folders.out.now folders.reports.now path) old new) is.folders
-            (keeps.each (subst (λ folders. HaveNames folders.out.now folders.reports.now) (sym is.folders) have) path day) in
+        (keeps.each (subst (λ folders. HaveNames folders.out.now folders.reports.now) (sym is.folders) have) path day) in
         subst (λ days. KeepsReport days (day_names_in asked path) old new) is.days of_folders;
   }
 
@@ -296,7 +296,7 @@ module _ (asked read : Archiving) (is : IsArchivingRead asked read) where
   days_read old new keeps = record {
     each = λ none have path day.
         let of_folders = subst (λ folders. KeepsDay false read.days (day_names folders.root.now folders.out.now folders.reports.now path) old new) is.folders
-            (keeps.each none (subst (λ folders. HaveNames folders.out.now folders.reports.now) (sym is.folders) have) path day) in
+        (keeps.each none (subst (λ folders. HaveNames folders.out.now folders.reports.now) (sym is.folders) have) path day) in
         subst (λ days. KeepsDay false days (day_names_in asked path) old new) is.days of_folders;
   }
 
