@@ -50,11 +50,11 @@ use Rattle.msr_walk.proofs.DayApart.{day_apart}
 use Rattle.msr_walk.proofs.DayPaths.{day_within}
 use Rattle.msr_walk.proofs.Kept.{each_so}
 use Rattle.msr_walk.proofs.OtherDays.{none_of_other, other_day}
-use Rattle.msr_walk.proofs.Spared.{SparesNames, own_as, own_spared, shows_as, shows_spared}
+use Rattle.msr_walk.proofs.Spared.{SparesNames, made_then, own_as, own_spared, shows_as, shows_spared}
 use Rattle.msr_walk.proofs.Waits.{waiting_beside}
 use Rattle.msr_walk.proofs.Working.{inputs_same, looks_work, none_of_day, settled_works, works_end, works_then}
 use Rattle.msr_outcomes.specs.Entries.{IsDayOf, IsOutcomeOf}
-use Rattle.msr_walk.specs.Files.{AreNamesOfDay, DayNames, HaveNames, files_of, paths_of_names}
+use Rattle.msr_walk.specs.Files.{AreNamesOfDay, DayNames, HaveNames, StaysMade, files_of, paths_of_names}
 use Rattle.msr_walk.specs.Handling.{AreNamesWithin, ChangesNames, IsSameBut, IsUnclaimed}
 use Rattle.msr_walk.specs.Waiting.{AreWaitingAt, AwaitsName, IsNoneWaiting, WaitsAs}
 use Rattle.msr_walk.specs.Kills.{KeepsReport, day_names_in}
@@ -209,20 +209,22 @@ module _ (asked : DayOptions) (names : DayNames) (out reports : Path) (outcome :
     still = untouched_then (paths_of_names names) old mid told.from still told.still;
     there = told.there;
     after = told.after;
+    stays = told.stays;
   }
 
-  pub told_until : (old mid new : List Step) → ToldBetween asked names out reports outcome old mid → ChangesWithin out reports mid new → ToldBetween asked names out reports outcome old new
-  told_until old mid new told last = record {
+  pub told_until : (old mid new : List Step) → ToldBetween asked names out reports outcome old mid → ChangesWithin out reports mid new → StaysMade names mid new → ToldBetween asked names out reports outcome old new
+  told_until old mid new told last stays = record {
     from = told.from;
     to = told.to;
     before = told.before;
     still = told.still;
     there = told.there;
     after = within_then out reports told.to mid new told.after last;
+    stays = made_then names told.to mid new told.stays stays;
   }
 
   pub told_now : (old new : List Step) → IsToldThere asked (paths_of_names names) outcome old new → ToldBetween asked names out reports outcome old new
-  told_now old new there = record { from = old; to = new; before = within_none out reports old; still = (refl, refl, refl); there = there; after = within_none out reports new }
+  told_now old new there = record { from = old; to = new; before = within_none out reports old; still = (refl, refl, refl); there = there; after = within_none out reports new; stays = record { records = refl; report = refl } }
 
 pub if_ok_as : {A E : Type 0} {P Q : A → Type 0} (result : Result A E) → ((x : A) → P x → Q x) → IfOk result P → IfOk result Q
 if_ok_as (Ok x) so p = so x p

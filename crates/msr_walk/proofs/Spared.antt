@@ -1,5 +1,5 @@
 -- What stays of a day while names of others change.
-use Rattle.std.proofs.Common.{◌≡◌, ℕ, Bool, List, [], ◌∷◌, ◌++◌, sym, ◌∙◌, subst, Option, None}
+use Rattle.std.proofs.Common.{◌≡◌, ℕ, Bool, List, [], ◌∷◌, ◌++◌, sym, ◌∙◌, ap, subst, Option, None}
 use Rattle.msr_making.specs.Making.{WaitsForStamp}
 use Rattle.msr_naming.proofs.Order.{alone}
 use Rattle.msr_naming.specs.Promise.{HasOwn, ShowsDay}
@@ -8,7 +8,7 @@ use Rattle.msr_options.specs.Choice.{Choice}
 use Rattle.msr_tree.proofs.Changes.{same_now}
 use Rattle.msr_tree.proofs.Crash.{stays, still}
 use Rattle.msr_tree.specs.Steps.{AtEachMoment, IsReady, IsStored, Leaves, Path, Spares, Step, Throughout, now, seen}
-use Rattle.msr_walk.specs.Files.{DayNames, files_of}
+use Rattle.msr_walk.specs.Files.{DayNames, StaysMade, files_of}
 use Rattle.msr_walk.specs.Laws.{found_as, seen_as}
 
 -- The names that a day's files get are left alone.
@@ -19,6 +19,16 @@ pub record SparesNames (files : DayFiles) (made : List Step) : Type 0 where
 
 pub seen_spared : (name : Path) (old made : List Step) → Spares name made → seen (made ++ old) name ≡ seen old name
 seen_spared name old made spares = seen_as name old (made ++ old) (same_now name old made spares)
+
+-- what was made of a day is as it was
+pub made_spared : (names : DayNames) (old new made : List Step) → new ≡ made ++ old → Spares names.records made → Spares names.report made → StaysMade names old new
+made_spared names old new made since records report = record {
+  records = ap (λ l. now l names.records) since ∙ same_now names.records old made records;
+  report = ap (λ l. now l names.report) since ∙ same_now names.report old made report;
+}
+
+pub made_then : (names : DayNames) (old mid new : List Step) → StaysMade names old mid → StaysMade names mid new → StaysMade names old new
+made_then names old mid new one two = record { records = two.records ∙ one.records; report = two.report ∙ one.report }
 
 leaves_spared : (name : Path) (what : Option (List ℕ)) (old made : List Step) → Spares name made → Leaves old name what → Leaves (made ++ old) name what
 leaves_spared name what old [] spares leaves = leaves

@@ -25,7 +25,7 @@ use Rattle.msr_outcomes.specs.Known.{known_as}
 use Rattle.msr_walk.specs.Kills.{day_names_in}
 use Rattle.msr_walk.specs.Losses.{ChangesDays}
 use Rattle.msr_folders.specs.Paths.{told_folder}
-use Rattle.msr_walk.specs.Told.{IsToldOfVisit, SettlesNames, TellsOutcomesOf, WorksFor}
+use Rattle.msr_walk.specs.Told.{IsToldOfVisit, SettlesNames, SettlesWaiting, TellsOutcomesOf}
 use Rattle.msr_outcomes.specs.declared.outcome.Outcome.{Outcome}
 use Rattle.msr_outcomes.specs.declared.outcome.Outcome.TheVariants.{Refused, Skipped}
 use Rattle.msr_outcomes.specs.declared.tally.Tally.{Tally}
@@ -50,14 +50,14 @@ module _ {P : Type 0} (tally : P → Tally) (asked : Archiving) where
   pub visited_day : {H E : Type 0} (outcome : H → Outcome) (handled : H) (path channel : Path) (kind : FileKind) (before mid after : List Step → Type 0) (out0 out : Device) (of0 of : P)
       → StandApart asked.folders → kind ≢ Gone → (day : IsDay path)
       → Goes before mid (SaysOfDay {E = E} outcome asked (with_name (day_name day.0) asked.days) path (Ok handled))
-      → Goes mid after (WorksFor true asked)
+      → Goes mid after (SettlesWaiting asked)
       → TellsOutcomesOf tally asked (record { path = path; channel = channel; outcome = known_as asked.known path (outcome handled) } ∷ []) out0 out of0 of
       → TellsOf (Found path kind) before after out0 out of0 of
   visited_day outcome handled path channel kind before mid after out0 out of0 of apart there day one two told = record {
     lines = record { path = path; channel = channel; outcome = known_as asked.known path (outcome handled) } ∷ [];
     told = told;
     goes = goes_then _ _ _ before mid after (λ old middle new first second. record {
-      done = works_then asked apart true old middle new first.works second;
+      done = works_then asked apart true old middle new first.works (settled_works asked true middle new second);
       says = (
         channel,
         outcome handled,
@@ -72,7 +72,7 @@ module _ {P : Type 0} (tally : P → Tally) (asked : Archiving) where
               for_day = first.says.for_day;
               of = first.says.of;
               same = first.says.same;
-              there = λ are. told_until first.says.asked (day_names_in asked path) outf reports first.says.of old middle new (first.says.there are) second.does.within;
+              there = λ are. told_until first.says.asked (day_names_in asked path) outf reports first.says.of old middle new (first.says.there are) second.does.within (second.does.safe are path day).stays;
             },
           );
           other = λ some none. absurd (none day);
@@ -98,7 +98,7 @@ module _ {P : Type 0} (tally : P → Tally) (asked : Archiving) where
       → TellsOf (Found path kind) before before out0 out of0 of
   visited_other path kind fault before out0 out of0 of there none is told =
       told_still (Found path kind) (record { path = path; channel = []; outcome = known_as asked.known path (Skipped fault) }) before out0 out of0 of
-      (λ past. ([], Skipped fault, refl, record { gone = λ gone. absurd (there gone); day = λ some day. absurd (none day); other = λ some no_day. (fault, is, refl) })) told
+      (λ past. ([], Skipped fault, refl, record { gone = λ gone. absurd (there gone); day = λ some day. absurd (none day); other = λ some no_day. (fault, is, refl, refl) })) told
 
   -- what is gone
   pub visited_gone : (path : Path) (kind : FileKind) (before : List Step → Type 0) (out0 out : Device) (of0 of : P) → kind ≡ Gone
@@ -106,7 +106,7 @@ module _ {P : Type 0} (tally : P → Tally) (asked : Archiving) where
       → TellsOf (Found path kind) before before out0 out of0 of
   visited_gone path kind before out0 out of0 of is told =
       told_still (Found path kind) (record { path = path; channel = []; outcome = known_as asked.known path (Refused WasGone) }) before out0 out of0 of
-      (λ past. ([], Refused WasGone, refl, record { gone = λ gone. refl; day = λ some day. absurd (some is); other = λ some no_day. absurd (some is) })) told
+      (λ past. ([], Refused WasGone, refl, record { gone = λ gone. (refl, refl); day = λ some day. absurd (some is); other = λ some no_day. absurd (some is) })) told
 
   -- a folder that has no list
   pub visited_unlisted : (folder path : Path) (before : List Step → Type 0) (out0 out : Device) (of0 of : P) → path ≡ told_folder folder
@@ -114,7 +114,7 @@ module _ {P : Type 0} (tally : P → Tally) (asked : Archiving) where
       → TellsOf (WithoutList folder) before before out0 out of0 of
   visited_unlisted folder path before out0 out of0 of is told =
       told_still (WithoutList folder) (unlisted_entry asked.known path) before out0 out of0 of
-      (λ past. ap (λ p. unlisted_entry asked.known p ∷ []) is) told
+      (λ past. (ap (λ p. unlisted_entry asked.known p ∷ []) is, refl)) told
 
   -- a folder whose days were visited
   pub visited_left : (folder : Path) (before after : List Step → Type 0) (out : Device) (of0 of : P) → (names : List Path) → Goes before after (SettlesNames asked names)

@@ -9,7 +9,7 @@ use Rattle.msr_folders.proofs.WithinLemmas.{root_spares, within_then}
 use Rattle.msr_folders.specs.Days.{IsDay}
 use Rattle.msr_folders.specs.Entries.{StandsWithin}
 use Rattle.msr_folders.specs.Paths.{ended, joined}
-use Rattle.msr_folders.specs.Walks.{HoldsAt, VisitDoes}
+use Rattle.msr_folders.specs.Walks.{HoldsAt}
 use Rattle.msr_folders.specs.Within.{ChangesWithin, IsSeparate}
 use Rattle.msr_naming.proofs.Names.{seen_ready}
 use Rattle.msr_naming.specs.Naming.{AreDayNames, IsOther, day_paths}
@@ -19,7 +19,7 @@ use Rattle.msr_naming.specs.declared.files.DayFiles.{DayFiles}
 use Rattle.msr_naming.specs.declared.files.Name.TheVariants.{Records, Report, Stamp}
 use Rattle.msr_options.specs.Tasks.{StandApart}
 use Rattle.msr_options.specs.declared.task.Archiving.{Archiving}
-use Rattle.msr_tree.proofs.Changes.{changes_then, same_now, seen_kept}
+use Rattle.msr_tree.proofs.Changes.{changes_then, now_kept, same_now, seen_kept}
 use Rattle.msr_tree.proofs.Folders.{leaves_does, leaves_none}
 use Rattle.msr_tree.proofs.Moments.{at_end, joined as joined_moments}
 use Rattle.msr_tree.specs.Calls.{DoesStep, Goes}
@@ -33,7 +33,7 @@ use Rattle.msr_walk.proofs.DayPaths.{day_within}
 use Rattle.msr_walk.proofs.Endings.{differ}
 use Rattle.msr_walk.proofs.Kept.{each_so, keeps_aside}
 use Rattle.msr_walk.proofs.OtherDays.{part_apart}
-use Rattle.msr_walk.proofs.Spared.{SparesNames, own_as, own_spared, shows_spared}
+use Rattle.msr_walk.proofs.Spared.{SparesNames, made_spared, made_then, own_as, own_spared, shows_spared}
 use Rattle.msr_walk.proofs.Standing.{stand_in}
 use Rattle.msr_walk.proofs.Waits.{SameInputs, Waits, all_so, found_waiting, none_of_stamps_by, of_days}
 use Rattle.msr_walk.specs.Files.{DayNames, HaveNames, IsStampWithin, files_of}
@@ -41,8 +41,8 @@ use Rattle.msr_walk.specs.Handling.{AreWithin}
 use Rattle.msr_walk.specs.Waiting.{ShareNoNames, AreOfDay, AreWaitingAt, IsWaiting, files_waiting}
 use Rattle.msr_walk.specs.Kills.{IsOwnOfDay, KeepsReports, day_names_in}
 use Rattle.msr_walk.specs.Laws.{days_end, days_none, days_then, input_now, none_failed, own_after, reports_then, stamp_later, within_joined}
-use Rattle.msr_walk.specs.Losses.{ChangesDays, IsStampOfDay, KeepsDays, SettlesDay, SettlesDays}
-use Rattle.msr_walk.specs.Told.{SettlesNames, StaysWithin, WorksFor}
+use Rattle.msr_walk.specs.Losses.{ChangesDays, IsStampOfDay, KeepsDays, SettlesDay}
+use Rattle.msr_walk.specs.Told.{SettlesNames, SettlesWaiting, StaysWithin, WorksFor}
 
 -- a name that is in neither folder is no other that is in one of them
 apart_from : (folder name other : Path) → StandsWithin folder other → ¬ (StandsWithin folder name) → bytes_eq name other ≡ false
@@ -96,9 +96,6 @@ module _ (archive : Archiving) where
   abbrev reports_of : Path
   reports_of = archive.folders.reports.now
 
-  abbrev pub Settled : (old new : List Step) → Type 0
-  Settled = VisitDoes (SettlesDays archive) (Unit {0})
-
   abbrev SafeOfAll : (old new : List Step) → Type 0
   SafeOfAll old new = HaveNames out_of reports_of → (path : Path) → IsDay path → SettlesDay archive.days (day_names_in archive path) old new
 
@@ -109,7 +106,7 @@ module _ (archive : Archiving) where
   pub works_end : (goes_on ends : Bool) (old new : List Step) → (ends ≡ true → goes_on ≡ true) → WorksFor goes_on archive old new → WorksFor ends archive old new
   works_end goes_on ends old new so works = record { does = days_end archive goes_on ends old new so works.does; lists_none = works.lists_none }
 
-  pub settled_works : (goes_on : Bool) (old new : List Step) → Settled old new → WorksFor goes_on archive old new
+  pub settled_works : (goes_on : Bool) (old new : List Step) → SettlesWaiting archive old new → WorksFor goes_on archive old new
   settled_works goes_on old new settled = record {
     does = record {
       within = settled.does.within;
@@ -151,6 +148,7 @@ module _ (archive : Archiving) where
   safe_spared path old new made since spares = record {
     safe = λ number is_own is_of own stamp has. own_spared (files_of (day_names_in archive path) number) is_own is_of old new made since (spares number) has;
     shows = λ number shows. shows_spared (files_of (day_names_in archive path) number) old new made since (spares number) shows;
+    stays = made_spared (day_names_in archive path) old new made since (spares 0).records (spares 0).report;
   }
 
   -- no name was
@@ -169,6 +167,12 @@ module _ (archive : Archiving) where
   pub goes_end : (goes_on : Bool) (before after : List Step → Type 0) → Goes before after (WorksFor true archive) → Goes before after (WorksFor goes_on archive)
   goes_end goes_on before after goes = goes_so _ _ before after (λ old new went works. works_end true goes_on old new (λ on. refl) works) goes
 
+  pub settles_waiting : (names : List Path) (before after : List Step → Type 0) → Goes before after (SettlesNames archive names) → Goes before after (SettlesWaiting archive)
+  settles_waiting names before after goes = goes_so _ _ before after (λ old new went settles. settles.works) goes
+
+  pub goes_waiting : (goes_on : Bool) (before after : List Step → Type 0) → Goes before after (SettlesWaiting archive) → Goes before after (WorksFor goes_on archive)
+  goes_waiting goes_on before after goes = goes_so _ _ before after (λ old new went settles. settled_works goes_on old new settles) goes
+
   pub goes_settled : (goes_on : Bool) (names : List Path) (before after : List Step → Type 0) → Goes before after (SettlesNames archive names) → Goes before after (WorksFor goes_on archive)
   goes_settled goes_on names before after goes = goes_so _ _ before after (λ old new went settles. settled_works goes_on old new settles.works) goes
 
@@ -179,6 +183,9 @@ module _ (archive : Archiving) where
 
   pub goes_settles_none : (names : List Path) (before : List Step → Type 0) → Goes before before (SettlesNames archive names)
   goes_settles_none names before = goes_none (SettlesNames archive names) before (settles_none names)
+
+  pub goes_waiting_none : (before : List Step → Type 0) → Goes before before (SettlesWaiting archive)
+  goes_waiting_none before = settles_waiting [] before before (goes_settles_none [] before)
 
   -- of more names
   pub goes_settles_more : (few more : List Path) (before after : List Step → Type 0) → ((name : Path) → IsNoneOf name more → IsNoneOf name few)
@@ -212,7 +219,7 @@ module _ (archive : Archiving) where
         joined_moments P old mid new first (settles.safe number is_own is_of (own_after archive (separate archive.folders apart) path is_own old mid within own)
         (stamp_later archive.days (day_names_in archive path).input is_of old mid (inputs_same old mid within path) stamp) (at_end P old mid first))
 
-    settled_then : (old mid new : List Step) → Settled old mid → Settled mid new → Settled old new
+    settled_then : (old mid new : List Step) → SettlesWaiting archive old mid → SettlesWaiting archive mid new → SettlesWaiting archive old new
     settled_then old mid new one two = record {
       does = record {
         within = within_then out_of reports_of old mid new one.does.within two.does.within;
@@ -223,13 +230,18 @@ module _ (archive : Archiving) where
             record {
               safe = λ number is_own is_of own stamp has. later_safe path old mid new one.does.within second is_own is_of number own stamp (first.safe number is_own is_of own stamp has);
               shows = λ number shows. second.shows number (first.shows number shows);
+              stays = made_then (day_names_in archive path) old mid new first.stays second.stays;
             };
       };
       lists_none = λ none. two.lists_none none ∙ one.lists_none none;
     }
 
+    pub goes_waiting_then : (before mid after : List Step → Type 0) → Goes before mid (SettlesWaiting archive) → Goes mid after (SettlesWaiting archive)
+        → Goes before after (SettlesWaiting archive)
+    goes_waiting_then before mid after one two = goes_then _ _ _ before mid after settled_then one two
+
     -- what waits is settled, whether the walk goes on or not
-    pub changes_settled : (goes_on : Bool) (old mid new : List Step) → ChangesDays goes_on archive old mid → Settled mid new → ChangesDays goes_on archive old new
+    pub changes_settled : (goes_on : Bool) (old mid new : List Step) → ChangesDays goes_on archive old mid → SettlesWaiting archive mid new → ChangesDays goes_on archive old new
     changes_settled goes_on old mid new one two = record {
       within = within_then out_of reports_of old mid new one.within two.does.within;
       reports = reports_then archive (separate archive.folders apart) old mid new one.within one.reports two.does.reports;
@@ -350,6 +362,10 @@ module _ (archive : Archiving) where
                 (λ found. stamped_shows have path day number found shows)
                 (λ none. shows_spared (files_of (day_names_in archive path) number) old new names.changes.changes.made names.changes.changes.since (spared_by path number none) shows)
                 (found_waiting archive apart have folder path day days old wait (apart_days have));
+            stays = record {
+              records = now_kept (stamp_paths days) _ old new (records_aside days path within_all) names.changes.changes;
+              report = now_kept (stamp_paths days) _ old new (report_aside reports_of days path have.reports_some within_all) names.changes.changes;
+            };
           })
           names.changes.changes names.changes.folders
 

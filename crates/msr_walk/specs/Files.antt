@@ -1,12 +1,12 @@
 -- The names of files.
-use Rattle.std.specs.Prelude.{◌≢◌, ℕ, List, [], ◌∷◌, ◌++◌, codes}
+use Rattle.std.specs.Prelude.{◌≡◌, ◌≢◌, ℕ, List, [], ◌∷◌, ◌++◌, codes}
 use Rattle.std.specs.Fmt.{decimal}
 use Rattle.msr_folders.specs.Entries.{StandsWithin}
 use Rattle.msr_folders.specs.Paths.{ended, joined}
 use Rattle.msr_making.specs.Places.{AreFileNames, DayPaths}
 use Rattle.msr_naming.specs.Files.{FileNames}
 use Rattle.msr_naming.specs.declared.files.DayFiles.{DayFiles}
-use Rattle.msr_tree.specs.Steps.{IsNoneOf, Path}
+use Rattle.msr_tree.specs.Steps.{IsNoneOf, Path, Step, now}
 
 -- the names of a new file that is written under the one with the ending
 abbrev pub file_beside : (path ending : List ℕ) → FileNames
@@ -45,6 +45,11 @@ files_of names number = record {
 -- where the files of a day stand
 abbrev pub paths_of_names : DayNames → DayPaths
 paths_of_names names = record { input = names.input; records = names.records; report = names.report; stamp = names.stamp }
+
+-- What was made of a day is as it was: its records and its report lead to what they led to.
+pub record StaysMade (names : DayNames) (old new : List Step) : Type 0 where
+  pub records : now new names.records ≡ now old names.records
+  pub report : now new names.report ≡ now old names.report
 
 -- No two names of a day are the same, whatever number the claim has.
 pub record AreNamesOfDay (names : DayNames) : Type 0 where

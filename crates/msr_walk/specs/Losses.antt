@@ -8,7 +8,7 @@ use Rattle.msr_options.specs.declared.days.DayOptions.{DayOptions}
 use Rattle.msr_options.specs.declared.task.Archiving.{Archiving}
 use Rattle.msr_outcomes.specs.Outcomes.{IsForDay}
 use Rattle.msr_tree.specs.Steps.{AtEachMoment, Path, Step, failures}
-use Rattle.msr_walk.specs.Files.{DayNames, HaveNames, files_of}
+use Rattle.msr_walk.specs.Files.{DayNames, HaveNames, StaysMade, files_of}
 use Rattle.msr_walk.specs.Kills.{IsOwnOfDay, KeepsReports, day_names_in}
 
 -- The stamp of a day's file is of the records and the report of a repack of what it has, in each length that may be asked for.
@@ -34,12 +34,14 @@ pub record ChangesDays (goes_on : Bool) (archive : Archiving) (old new : List St
   pub reports : KeepsReports archive old new
   pub safe : KeepsDays goes_on archive old new
 
--- A day that has its own keeps it whatever may come back of it; and what cannot come back still cannot.
+-- A day that has its own keeps it whatever may come back of it; and what cannot come back still cannot. What was made of it
+-- is as it was.
 pub record SettlesDay (days : DayOptions) (names : DayNames) (old new : List Step) : Type 0 where
   pub safe : (number : ℕ) (is_own : (records report : List ℕ) → Bool) (is_of : (stamp records report : List ℕ) → Bool)
       → IsOwnOfDay days names.input is_own old → IsStampOfDay days names.input is_of old
       → HasOwn is_own is_of (files_of names number) old → AtEachMoment (HasOwn is_own is_of (files_of names number)) old new
   pub shows : (number : ℕ) → ShowsDay (files_of names number) old → ShowsDay (files_of names number) new
+  pub stays : StaysMade names old new
 
 -- The same of all days of an archive, also after a day that stopped the walk.
 pub record SettlesDays (archive : Archiving) (old new : List Step) : Type 0 where

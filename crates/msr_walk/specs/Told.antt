@@ -27,7 +27,7 @@ use Rattle.msr_tree.specs.declared.kind.FileKind.{FileKind}
 use Rattle.msr_tree.specs.declared.kind.FileKind.TheVariants.{Gone}
 use Rattle.msr_outcomes.specs.Entries.{Entry, IsTally}
 use Rattle.msr_outcomes.specs.Known.{IsEntry, known_as}
-use Rattle.msr_walk.specs.Files.{AreNamesOfDay, DayNames, HaveNames, day_names, files_of, paths_of_names}
+use Rattle.msr_walk.specs.Files.{AreNamesOfDay, DayNames, HaveNames, StaysMade, day_names, files_of, paths_of_names}
 use Rattle.msr_walk.specs.Handling.{ChangesNames}
 use Rattle.msr_walk.specs.Kills.{day_names_in}
 use Rattle.msr_walk.specs.Losses.{ChangesDays, SettlesDays}
@@ -50,17 +50,22 @@ IsToldThere asked paths outcome old new = IsOutcomeThere asked paths outcome old
 abbrev pub WorksFor : (goes_on : Bool) → Archiving → (old new : List Step) → Type 0
 WorksFor goes_on archive = VisitDoes (ChangesDays goes_on archive) (Unit {0})
 
+-- what is done of days that wait; no folder is listed
+abbrev pub SettlesWaiting : Archiving → (old new : List Step) → Type 0
+SettlesWaiting archive = VisitDoes (SettlesDays archive) (Unit {0})
+
 -- What is done of days that wait: only these names lead elsewhere.
 pub record SettlesNames (archive : Archiving) (names : List Path) (old new : List Step) : Type 0 where
-  pub works : VisitDoes (SettlesDays archive) (Unit {0}) old new
+  pub works : SettlesWaiting archive old new
   pub only : ChangesOnly names old new
 
 -- Days wait no more. Nothing that is made of this one is touched.
 pub record DropsWaiting (archive : Archiving) (path : Path) (old new : List Step) : Type 0 where
-  pub works : VisitDoes (SettlesDays archive) (Unit {0}) old new
+  pub works : SettlesWaiting archive old new
   pub still : HaveNames archive.folders.out.now archive.folders.reports.now → AreUntouched (paths_of_names (day_names_in archive path)) old new
 
--- An outcome was so of a day between two moments. Before, nothing was touched of what is made of it.
+-- An outcome was so of a day between two moments. Before, nothing was touched of what is made of it; after, its records and its
+-- report stayed.
 pub record ToldBetween (asked : DayOptions) (names : DayNames) (out reports : Path) (outcome : DayOutcome) (old new : List Step) : Type 0 where
   pub from : List Step
   pub to : List Step
@@ -68,6 +73,7 @@ pub record ToldBetween (asked : DayOptions) (names : DayNames) (out reports : Pa
   pub still : AreUntouched (paths_of_names names) old from
   pub there : IsToldThere asked (paths_of_names names) outcome from to
   pub after : ChangesWithin out reports to new
+  pub stays : StaysMade names to new
 
 -- A day of which this is asked was done, or left as it is, or refused. If its records have their own report before, they have it
 -- at each moment since. If no call failed, it has its own at each moment since, and what is not seen of it cannot come back
@@ -99,23 +105,23 @@ pub record TellsDay {H E : Type 0} (outcome : H → Outcome) (archive : Archivin
   pub changes : ChangesNames day_paths (day_names_in archive path) old new
   pub says : IfOk result (λ told. IsDayTold days (day_names_in archive path) archive.folders.out.now archive.folders.reports.now (outcome told) old new)
 
--- What is told of an entry: that it is gone, what became of it if it is a day, and else why it is none. What is asked of a day
--- may be that its segments are those of its path.
+-- What is told of an entry: that it is gone, what became of it if it is a day, and else why it is none. Of what is no day
+-- nothing is done. What is asked of a day may be that its segments are those of its path.
 pub record IsToldOfPath (days : DayOptions) (names : DayNames) (out reports path : Path) (kind : FileKind) (outcome : Outcome) (old new : List Step) : Type 0 where
-  pub gone : kind ≡ Gone → outcome ≡ Refused WasGone
+  pub gone : kind ≡ Gone → (outcome ≡ Refused WasGone) × (new ≡ old)
   pub day : kind ≢ Gone → IsDay path → (name : SdsPath) × ReadsAsDay path name × IsDayTold (with_name (day_name name) days) names out reports outcome old new
-  pub other : kind ≢ Gone → ¬ (IsDay path) → (fault : SdsFault) × IsNoDay path fault × (outcome ≡ Skipped fault)
+  pub other : kind ≢ Gone → ¬ (IsDay path) → (fault : SdsFault) × IsNoDay path fault × (outcome ≡ Skipped fault) × (new ≡ old)
 
 -- the one entry that is told of a visit, as known if it is
 abbrev pub IsToldOfVisit : (root out reports : Path) → Archiving → (old new : List Step) → Visit → List Entry → Type 0
 IsToldOfVisit root out reports asked old new (Found path kind) entries = (channel : Path) × (outcome : Outcome)
     × (entries ≡ record { path = path; channel = channel; outcome = known_as asked.known path outcome } ∷ [])
     × IsToldOfPath asked.days (day_names root out reports path) out reports path kind outcome old new
-IsToldOfVisit root out reports asked old new (WithoutList folder) entries = entries ≡ record {
+IsToldOfVisit root out reports asked old new (WithoutList folder) entries = (entries ≡ record {
   path = told_folder folder;
   channel = [];
   outcome = known_as asked.known (told_folder folder) (Refused Listing);
-} ∷ []
+} ∷ []) × (new ≡ old)
 IsToldOfVisit root out reports asked old new (Passed folder) entries = ⊥
 IsToldOfVisit root out reports asked old new (Left folder) entries = entries ≡ []
 

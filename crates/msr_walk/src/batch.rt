@@ -7,7 +7,7 @@ ghost use Rattle.msr_folders.specs.Walks.{HoldsAt};
 ghost use Rattle.msr_naming.specs.Promise.{stamp_paths};
 ghost use Rattle.msr_tree.specs.Calls.{Goes};
 ghost use Rattle.msr_walk.specs.Waiting.{AreOfDay, AreOfDaysAt, AreSome, AreWaitingAt, IsNoneWaiting, SomeWait, TakenWaits, WaitsAs, files_waiting, parts_waiting};
-ghost use Rattle.msr_walk.specs.Told.{DropsWaiting, SettlesNames, WorksFor};
+ghost use Rattle.msr_walk.specs.Told.{DropsWaiting, SettlesNames, SettlesWaiting};
 
 use crate::claims::Claims;
 use crate::walker::Walker;
@@ -178,7 +178,7 @@ impl<K: Drop> Batch<K> {
     fn settle_full<T: Tree, C: Claims<Claim = K>>(&mut self, tree: &mut T, walker: &Walker<'_, C>)
         requires { AreWaitingAt (T.went tree.old) walker.now.archive.now (string_bytes self.old.folder) self.old.days.items }
         ensures days { AreWaitingAt (T.went tree.new) walker.now.archive.now (string_bytes self.new.folder) self.new.days.items }
-        ensures works { Goes (T.went tree.old) (T.went tree.new) (WorksFor true walker.now.archive.now) }
+        ensures works { Goes (T.went tree.old) (T.went tree.new) (SettlesWaiting walker.now.archive.now) }
     {
         if self.days.len() < DAYS {
             return;
@@ -219,7 +219,7 @@ impl<K: Drop> Batch<K> {
         requires path { IsDay path.now }
         requires none { HoldsAt (T.went tree.old) (λ past. IsNoneWaiting walker.now.archive.now path.now self.old.days.items) }
         ensures days { AreWaitingAt (T.went tree.new) walker.now.archive.now (string_bytes self.new.folder) self.new.days.items }
-        ensures works { Goes (T.went tree.old) (T.went tree.new) (WorksFor true walker.now.archive.now) }
+        ensures works { Goes (T.went tree.old) (T.went tree.new) (SettlesWaiting walker.now.archive.now) }
     {
         if !self.turn_to(tree, walker, folder_of(path)) {
             release(tree, walker, &day, false);

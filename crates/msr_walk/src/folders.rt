@@ -24,7 +24,7 @@ ghost use Rattle.msr_outcomes.specs.Lines.{IsEntryLine};
 ghost use Rattle.msr_outcomes.specs.Outcomes.{IsOutcomeOfDay};
 ghost use Rattle.msr_belonging.specs.Names.{day_name};
 ghost use Rattle.msr_options.specs.Days.{with_name};
-ghost use Rattle.msr_walk.specs.Told.{IsToldOfVisit, StaysWithin, TellsDay, TellsOutcomesOf, WalksTree, WorksFor};
+ghost use Rattle.msr_walk.specs.Told.{IsToldOfVisit, SettlesWaiting, StaysWithin, TellsDay, TellsOutcomesOf, WalksTree, WorksFor};
 ghost use Rattle.msr_walk.specs.Walk.{StopsTellingOutcomes, Walks};
 
 use crate::batch::Batch;
@@ -94,7 +94,7 @@ impl<K: Drop> Progress<K> {
         requires none { HoldsAt (T.went tree.old) (λ past. IsNoneWaiting walker.now.archive.now path.now self.old.batch.days.items) }
         ensures tally { self.new.tally ≡ self.old.tally }
         ensures days { AreWaitingAt (T.went tree.new) walker.now.archive.now (string_bytes self.new.batch.folder) self.new.batch.days.items }
-        ensures works { Goes (T.went tree.old) (T.went tree.new) (WorksFor true walker.now.archive.now) }
+        ensures works { Goes (T.went tree.old) (T.went tree.new) (SettlesWaiting walker.now.archive.now) }
     {
         if let Some(day) = waiting {
             self.batch.add(tree, walker, path, day);

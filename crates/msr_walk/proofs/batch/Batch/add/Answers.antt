@@ -1,11 +1,11 @@
-use Rattle.std.proofs.Common.{◌∙◌, ◌∷◌, [], subst, sym, true}
+use Rattle.std.proofs.Common.{◌∙◌, ◌∷◌, [], subst, sym}
 use Rattle.std.specs.String.{string_bytes}
 use Rattle.msr_folders.specs.Walks.{HoldsAt}
 use Rattle.msr_naming.specs.declared.batch.Waiting.{Waiting}
 use Rattle.msr_tree.specs.Calls.{Goes}
 use Rattle.msr_walk.specs.Told.{SettlesNames}
 use Rattle.msr_walk.proofs.Ours.{none_after, of_waits, wait_as, wait_more, wait_none, wait_without, waits_settled}
-use Rattle.msr_walk.proofs.Working.{goes_settled, goes_works_then}
+use Rattle.msr_walk.proofs.Working.{goes_waiting_then, settles_waiting}
 use Rattle.msr_walk.specs.Waiting.{AreOfDay}
 use Rattle.msr_walk.proofs.batch.Batch.add.Goals as goal
 
@@ -21,7 +21,7 @@ returns-then-not-turn_to-clause-days g c = wait_none c.args.walker.now.archive.n
 pub returns-then-not-turn_to-clause-works : goal.returns-then-not-turn_to-clause-works
 returns-then-not-turn_to-clause-works g c =
     let archive = c.args.walker.now.archive.now in
-    goes_works_then archive c.args.walker.now.apart true _ _ _ (goes_settled archive true _ _ _ c.turn_to.ensures.works) (goes_settled archive true _ _ _ c.release.ensures)
+    goes_waiting_then archive c.args.walker.now.apart _ _ _ (settles_waiting archive _ _ _ c.turn_to.ensures.works) (settles_waiting archive _ _ _ c.release.ensures)
 
 pub settle_full-requires : goal.settle_full-requires
 settle_full-requires g c =
@@ -35,7 +35,7 @@ settle_full-requires g c =
 pub returns-in-Ok-clause-works : goal.returns-in-Ok-clause-works
 returns-in-Ok-clause-works g c =
     let archive = c.args.walker.now.archive.now in
-    goes_works_then archive c.args.walker.now.apart true _ _ _ (goes_settled archive true _ _ _ c.turn_to.ensures.works) c.settle_full.ensures.works
+    goes_waiting_then archive c.args.walker.now.apart _ _ _ (settles_waiting archive _ _ _ c.turn_to.ensures.works) c.settle_full.ensures.works
 
 pub release-requires-in-Err : goal.release-requires-in-Err
 release-requires-in-Err g c =
@@ -56,4 +56,4 @@ returns-in-Err-clause-days g c =
 pub returns-in-Err-clause-works : goal.returns-in-Err-clause-works
 returns-in-Err-clause-works g c =
     let archive = c.args.walker.now.archive.now in
-    goes_works_then archive c.args.walker.now.apart true _ _ _ (goes_settled archive true _ _ _ c.turn_to.ensures.works) (goes_settled archive true _ _ _ c.release-in-Err.ensures)
+    goes_waiting_then archive c.args.walker.now.apart _ _ _ (settles_waiting archive _ _ _ c.turn_to.ensures.works) (settles_waiting archive _ _ _ c.release-in-Err.ensures)

@@ -8,7 +8,7 @@ use Rattle.msr_walk.proofs.Days.{drops_works, outcome_of, says_dropped, tells_wo
 use Rattle.msr_walk.proofs.EntriesTold.{counted_on, none_told}
 use Rattle.msr_walk.proofs.Visited.{visited_day}
 use Rattle.msr_walk.proofs.Ours.{none_after}
-use Rattle.msr_walk.proofs.Working.{goes_end, goes_works_none, goes_works_then}
+use Rattle.msr_walk.proofs.Working.{goes_end, goes_waiting, goes_works_none, goes_works_then}
 use Rattle.msr_outcomes.specs.Entries.{Entry, IsDayOf}
 use Rattle.msr_outcomes.specs.Known.{known_as}
 use Rattle.msr_walk.proofs.walker.Walker.visit_day.Goals as goal
@@ -71,4 +71,4 @@ pub returns-clause-works : goal.returns-clause-works
 returns-clause-works g c =
     let archive = c.args.self.now.archive.now in
     goes_end archive _ _ _ (goes_works_then archive c.args.self.now.apart true _ _ _ (drops_works archive c.args.path.now _ _ c.make_way.ensures.works)
-    (goes_works_then archive c.args.self.now.apart true _ _ _ (tells_works archive _ _ _ _ _ _ c.in_ok-handled.ensures.goes) c.wait.ensures.works))
+    (goes_works_then archive c.args.self.now.apart true _ _ _ (tells_works archive _ _ _ _ _ _ c.in_ok-handled.ensures.goes) (goes_waiting archive true _ _ c.wait.ensures.works)))
