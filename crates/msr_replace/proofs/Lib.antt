@@ -10,3 +10,4 @@ pub mod Reading
 pub mod Restored
 pub mod Saying
 pub mod Stamps
+pub mod Touching

@@ -1,33 +1,33 @@
 -- What is said on a walk, visit by visit.
-use Rattle.std.proofs.Common.{◌≡◌, ◌<◌, inl, inr, ℕ, true, false, List, [], ◌∷◌, ◌++◌, refl, ◌∙◌, ap, subst, arith, Option, None, Some, is_some, String, Result, Ok, Err}
+use Rattle.std.proofs.Common.{◌≡◌, ◌<◌, inl, inr, ℕ, true, false, List, [], ◌∷◌, ◌++◌, refl, ◌∙◌, ap, subst, arith, Option, None, Some, is_some, String, Result, Err}
 use Rattle.std.specs.Borrow.{Bor}
 use Rattle.std.specs.List.{AllByRecursion}
 use Rattle.msr_devices.specs.Device.{Device, Takes}
 use Rattle.msr_devices.proofs.Chaining.{takes_append}
 use Rattle.msr_devices.specs.declared.fault.DeviceFault.{DeviceFault}
 use Rattle.msr_exchange.specs.declared.work.DayWork.{DayWork}
-use Rattle.msr_folders.proofs.StoppingLemmas.{later_still, not_both, until_line, until_more, until_none, until_stopped}
+use Rattle.msr_folders.proofs.StoppingLemmas.{not_both, until_line, until_more, until_none, until_stopped}
 use Rattle.msr_folders.proofs.VisitLemmas.{these_one}
 use Rattle.msr_folders.proofs.WalkedLemmas.{goes_none, goes_so, goes_then}
 use Rattle.msr_folders.specs.Entries.{AreEntriesBetween, Visit}
-use Rattle.msr_folders.specs.Stopping.{ComesAfter}
 use Rattle.msr_folders.specs.Visits.{IsWalk}
 use Rattle.msr_folders.specs.Walks.{TellsVisit, TellsWalk}
 use Rattle.msr_folders.specs.declared.found.WalkFound.{WalkFound}
 use Rattle.msr_options.specs.declared.task.Replacing.{Replacing}
 use Rattle.msr_tree.specs.Calls.{Goes, Tells}
-use Rattle.msr_tree.specs.Steps.{ChangesOnly, Failed, Path, Step, failures}
-use Rattle.msr_tree.specs.declared.tree.TreeFault.{TreeFault}
+use Rattle.msr_tree.specs.Steps.{Failed, Path, Step, failures}
 use Rattle.msr_tree.specs.declared.tree.TreeFault.TheVariants as fault
 use Rattle.msr_replace.specs.Entries.{ExchangeEntry, IsExchangeEntry, IsExchangeEntryLine, IsExchangeOf, IsExchangeTally, IsStoppedAt, entry_of, has_failed}
 use Rattle.msr_replace.specs.Said.{Does, IsSaid, IsSaidGoing, Said, TellsSaid, only_line, walked}
 use Rattle.msr_replace.specs.Sums.{exchange_summary}
+use Rattle.msr_replace.specs.Touched.{TouchesDays}
 use Rattle.msr_replace.specs.Tree.{IsWorkOf, ReplacesTree, TellsCourses}
 use Rattle.msr_replace.specs.Walk.{HasCome, Prints, TellsFound}
 use Rattle.msr_replace.specs.declared.lines.Outcome.{Outcome}
 use Rattle.msr_replace.specs.declared.progress.Progress.{Progress}
 use Rattle.msr_replace.specs.declared.replacer.Course.{Course}
 use Rattle.msr_replace.specs.declared.replacer.Course.TheVariants as course
+use Rattle.msr_replace.specs.Touching.{touched_still}
 
 all_going : {Z : Type 0} (before : List ExchangeEntry) (failed : Option (String Z)) → is_some failed ≡ false → IsStoppedAt before failed
     → AllByRecursion (λ (e : ExchangeEntry). has_failed e.outcome ≡ false) before
@@ -55,30 +55,21 @@ pub said_more : (one two : List Said) (out0 out1 out : Device) (old mid new : Pr
     → TellsSaid (one ++ two) out0 out old new
 said_more = until_more IsExchangeEntry IsExchangeEntryLine HasCome (λ progress. is_some progress.failed)
 
--- what is done of the tree
-pub later_changes : (names : List Path) (old new : List Step) → ChangesOnly names old new → ComesAfter old new
-later_changes names old new changes = record { made = changes.made; since = changes.since }
-
-pub later_tells : {A : Type 0} (Says : List Step → A → Type 0) (result : Result A TreeFault) (old new : List Step) → Tells Says result old new → ComesAfter old new
-later_tells Says (Ok x) old new is = record { made = []; since = is.0 }
-later_tells Says (Err fault.Memory) old new is = record { made = []; since = is }
-later_tells Says (Err fault.Failed) old new is = record { made = Failed ∷ []; since = is.2 ∙ ap (λ l. Failed ∷ l) is.1 }
-
 pub failed_tells : {A : Type 0} (Says : List Step → A → Type 0) (old new : List Step) → Tells {T = A} Says (Err fault.Failed) old new → failures old < failures new
 failed_tells Says old new is =
     let more : failures new ≡ failures (Failed ∷ old) = ap (λ l. failures l) (is.2 ∙ ap (λ l. Failed ∷ l) is.1) in
     omega (arith, more)
 
-pub does_of : {A : Type 0} (R : (old new : List Step) → Type 0) (Is : A → (old new : List Step) → Type 0) (result : Result A DeviceFault) (before after : List Step → Type 0)
-    → ((old new : List Step) → R old new → Does Is result old new) → Goes before after R → Goes before after (Does Is result)
-does_of R Is result before after so goes = goes_so _ _ before after (λ old new went is. so old new is) goes
+pub does_of : {A : Type 0} (work : DayWork) (R : (old new : List Step) → Type 0) (Is : A → (old new : List Step) → Type 0) (result : Result A DeviceFault) (before after : List Step → Type 0)
+    → ((old new : List Step) → R old new → Does work Is result old new) → Goes before after R → Goes before after (Does work Is result)
+does_of work R Is result before after so goes = goes_so _ _ before after (λ old new went is. so old new is) goes
 
 module _ (on : Course) (work : DayWork) where
   abbrev pub Visits : Visit → (before after : List Step → Type 0) (out0 out : Device) (old new : Progress) → Type 0
-  Visits visit before after out0 out old new = TellsVisit TellsSaid (IsSaid on work) ComesAfter ⊥ visit before after out0 out old new
+  Visits visit before after out0 out old new = TellsVisit TellsSaid (IsSaid on work) (TouchesDays work) ⊥ visit before after out0 out old new
 
   pub visited : (visit : Visit) (said : List Said) (R : (old new : List Step) → Type 0) (before after : List Step → Type 0) (out0 out : Device) (progress0 progress : Progress)
-      → ((old new : List Step) → R old new → ComesAfter old new × IsSaidGoing on work old new visit said)
+      → ((old new : List Step) → R old new → TouchesDays work old new × IsSaidGoing on work old new visit said)
       → Goes before after R → TellsSaid said out0 out progress0 progress → Visits visit before after out0 out progress0 progress
   visited visit said R before after out0 out progress0 progress so goes told = record {
     lines = said;
@@ -94,7 +85,7 @@ module _ (on : Course) (work : DayWork) where
   visited_still visit said before out0 out progress0 progress so told = record {
     lines = said;
     told = told;
-    goes = goes_none _ before (λ past. record { done = record { does = later_still past; lists_none = λ none. absurd none }; says = inr (so past) });
+    goes = goes_none _ before (λ past. record { done = record { does = touched_still work past; lists_none = λ none. absurd none }; says = inr (so past) });
   }
 
   -- where the tree has failed before
@@ -103,11 +94,11 @@ module _ (on : Course) (work : DayWork) where
   passed_by visit before out progress some = record {
     lines = None ∷ [];
     told = until_stopped IsExchangeEntry IsExchangeEntryLine HasCome (λ p. is_some p.failed) out progress some;
-    goes = goes_none _ before (λ past. record { done = record { does = later_still past; lists_none = λ none. absurd none }; says = inl refl });
+    goes = goes_none _ before (λ past. record { done = record { does = touched_still work past; lists_none = λ none. absurd none }; says = inl (refl, refl) });
   }
 
   abbrev pub Walks : (below : List (Bor Path)) (before after : List Step → Type 0) (out0 out : Device) (old new : Progress) → Type 0
-  Walks below before after out0 out old new = TellsWalk TellsSaid (IsSaid on work) ComesAfter ⊥ (walked on work) (λ past new. AreEntriesBetween ComesAfter past new (walked on work) below)
+  Walks below before after out0 out old new = TellsWalk TellsSaid (IsSaid on work) (TouchesDays work) ⊥ (walked on work) (λ past new. AreEntriesBetween (TouchesDays work) past new (walked on work) below)
       before after out0 out old new
 
 pub both_courses : (work : DayWork) (below : List (Bor Path)) (before mid after : List Step → Type 0) (out0 out1 out : Device) (old between new : Progress)

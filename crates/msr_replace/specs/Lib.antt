@@ -8,6 +8,8 @@ pub mod Restored
 pub mod Said
 pub mod Stamping
 pub mod Sums
+pub mod Touched
+pub mod Touching
 pub mod Tree
 pub mod Walk
 pub mod Ways

@@ -3,22 +3,25 @@ use Rattle.std.specs.Prelude.{◌<◌, ◌≡◌, ◌≢◌, ◌⊎◌, ⊤, tru
 use Rattle.std.specs.Borrow.{Bor}
 use Rattle.msr_devices.specs.Device.{Device}
 use Rattle.msr_devices.specs.declared.fault.DeviceFault.{DeviceFault}
+use Rattle.msr_exchange.specs.Stamped.{all_parts_in}
 use Rattle.msr_exchange.specs.Work.{names_in, stamp_in}
 use Rattle.msr_exchange.specs.declared.work.DayWork.{DayWork}
 use Rattle.msr_folders.specs.Days.{IsDay, IsNoDay}
 use Rattle.msr_folders.specs.Entries.{AreEntriesBetween, Entry, Left, Passed, Visit, WithoutList}
 use Rattle.msr_folders.specs.Paths.{joined, told_folder}
-use Rattle.msr_folders.specs.Stopping.{ComesAfter, TellsUntil}
+use Rattle.msr_folders.specs.Stopping.{TellsUntil}
 use Rattle.msr_folders.specs.Walks.{IsWalked}
 use Rattle.msr_sds.specs.declared.SdsFault.{SdsFault}
 use Rattle.msr_tree.specs.Listing.{is_there}
-use Rattle.msr_tree.specs.Steps.{Path, Step, failures}
+use Rattle.msr_tree.specs.Reads.{OnlyLooks}
+use Rattle.msr_tree.specs.Steps.{ChangesOnly, Path, Step, failures}
 use Rattle.msr_tree.specs.declared.kind.FileKind.{FileKind}
 use Rattle.msr_tree.specs.declared.kind.FileKind.TheVariants.{Gone}
 use Rattle.msr_tree.specs.declared.tree.TreeFault.TheVariants as fault
 use Rattle.msr_replace.specs.Answers.{Replaces, report_in}
 use Rattle.msr_replace.specs.Entries.{ExchangeEntry, IsExchangeEntry, IsExchangeEntryLine, entry_of}
 use Rattle.msr_replace.specs.Restored.{RestoresDay}
+use Rattle.msr_replace.specs.Touched.{TouchesDays}
 use Rattle.msr_replace.specs.Walk.{HasCome}
 use Rattle.msr_replace.specs.declared.lines.EntryRefusal.{EntryRefusal}
 use Rattle.msr_replace.specs.declared.lines.EntryRefusal.TheVariants as refusal
@@ -74,11 +77,16 @@ IsOfSearched work path None old new = (is_there old (joined work.root.now path) 
 IsOfSearched work path (Some Orphan) old new = is_there old (joined work.root.now path) ≡ false
 IsOfSearched work path (Some outcome) old new = ⊥
 
+-- What is told of a day of the records, which are left as they are.
+pub record SearchesDay (work : DayWork) (path : Path) (outcome : Option Outcome) (old new : List Step) : Type 0 where
+  pub looks : OnlyLooks old new
+  pub is : IsOfSearched work path outcome old new
+
 -- what is told of a day, if anything is
 abbrev pub IsOfDay : Course → DayWork → Path → Option Outcome → (old new : List Step) → Type 0
 IsOfDay course.Root work path None old new = ⊥
 IsOfDay course.Root work path (Some outcome) old new = IsOfReplaced work path outcome old new
-IsOfDay course.Out work path outcome old new = IsOfSearched work path outcome old new
+IsOfDay course.Out work path outcome old new = SearchesDay work path outcome old new
 IsOfDay course.Aside work path None old new = ⊥
 IsOfDay course.Aside work path (Some outcome) old new = IsOfRestored work path outcome old new
 
@@ -94,10 +102,10 @@ pub record TellsOther (on : Course) (path : Path) (kind : FileKind) (out0 out : 
   pub told : TellsSaid (said_of path outcome) out0 out old new
   pub is : IsOfOther on path kind outcome
 
--- What is told of an entry.
+-- What is told of an entry. What is no day is left as it is.
 pub record IsOfEntry (on : Course) (work : DayWork) (path : Path) (kind : FileKind) (outcome : Option Outcome) (old new : List Step) : Type 0 where
   pub day : IsDay path → IsOfDay on work path outcome old new
-  pub other : ¬ (IsDay path) → IsOfOther on path kind outcome
+  pub other : ¬ (IsDay path) → IsOfOther on path kind outcome × (new ≡ old)
 
 -- the folder that is walked
 abbrev pub walked : Course → DayWork → Path
@@ -117,21 +125,22 @@ IsWhyPassed (Refused refusal.NoFolder) = ⊤
 IsWhyPassed FolderFailed = ⊤
 IsWhyPassed outcome = ⊥
 
--- what is said of a visit, if the tree has not failed before
+-- what is said of a visit, and done in it but of a day, if the tree has not failed before
 abbrev pub IsSaidGoing : Course → DayWork → (old new : List Step) → Visit → List Said → Type 0
 IsSaidGoing on work old new (Entry path kind) said = (outcome : Option Outcome) × (said ≡ said_of path outcome) × IsOfEntry on work path kind outcome old new
-IsSaidGoing on work old new (WithoutList folder) said = (outcome : Option Outcome) × (said ≡ said_of (told_folder folder) outcome) × IsOfUnlisted on work folder outcome old
-IsSaidGoing on work old new (Passed folder) said = (outcome : Outcome) × (said ≡ only_line folder outcome) × IsWhyPassed outcome
-IsSaidGoing on work old new (Left folder) said = (said ≡ []) ⊎ (said ≡ only_line folder FolderFailed)
+IsSaidGoing on work old new (WithoutList folder) said = (outcome : Option Outcome) × (said ≡ said_of (told_folder folder) outcome) × IsOfUnlisted on work folder outcome old × OnlyLooks old new
+IsSaidGoing on work old new (Passed folder) said = (outcome : Outcome) × (said ≡ only_line folder outcome) × IsWhyPassed outcome × ChangesOnly (all_parts_in work folder) old new
+IsSaidGoing on work old new (Left folder) said = ((said ≡ []) ⊎ (said ≡ only_line folder FolderFailed)) × ChangesOnly [] old new
 
+-- what is said of a visit; after the tree has failed nothing is done
 abbrev pub IsSaid : Course → DayWork → (old new : List Step) → Visit → List Said → Type 0
-IsSaid on work old new visit said = (said ≡ None ∷ []) ⊎ IsSaidGoing on work old new visit said
+IsSaid on work old new visit said = ((said ≡ None ∷ []) × (new ≡ old)) ⊎ IsSaidGoing on work old new visit said
 
 -- these entries of a folder were visited, each as it was at a moment of the walk, and this was said
 abbrev pub IsCourse : Course → DayWork → List (Bor Path) → List Visit → List Said → (old new : List Step) → Type 0
-IsCourse on work below = IsWalked (IsSaid on work) ComesAfter ⊥ (walked on work) (λ past new. AreEntriesBetween ComesAfter past new (walked on work) below)
+IsCourse on work below = IsWalked (IsSaid on work) (TouchesDays work) ⊥ (walked on work) (λ past new. AreEntriesBetween (TouchesDays work) past new (walked on work) below)
 
 -- What is done of the tree in a function that answers what may be told.
-pub record Does {A : Type 0} (Is : A → (old new : List Step) → Type 0) (result : Result A DeviceFault) (old new : List Step) : Type 0 where
-  pub later : ComesAfter old new
+pub record Does (work : DayWork) {A : Type 0} (Is : A → (old new : List Step) → Type 0) (result : Result A DeviceFault) (old new : List Step) : Type 0 where
+  pub later : TouchesDays work old new
   pub says : IfOk result (λ answer. Is answer old new)

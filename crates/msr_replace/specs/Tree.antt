@@ -13,6 +13,7 @@ use Rattle.msr_tree.specs.Steps.{Step}
 use Rattle.msr_replace.specs.Entries.{IsExchangeEntry, IsExchangeEntryLine, IsStoppedAt}
 use Rattle.msr_replace.specs.Said.{IsCourse, Said, TellsSaid}
 use Rattle.msr_replace.specs.Sums.{exchange_summary}
+use Rattle.msr_replace.specs.Touched.{TouchesDays}
 use Rattle.msr_replace.specs.Walk.{TellsFound}
 use Rattle.msr_replace.specs.declared.progress.Progress.{Progress}
 use Rattle.msr_replace.specs.declared.replacer.Course.TheVariants as course
@@ -26,6 +27,12 @@ pub record IsWorkOf (asked : Replacing) (work : DayWork) : Type 0 where
   pub only_smaller : work.only_smaller ≡ asked.only_smaller
   pub touch : work.touch ≡ asked.touch
   pub int24 : work.int24 ≡ asked.int24
+
+-- No name is changed but those of days, and of what is in its making, in the folders that are asked for.
+pub record ChangesDays (asked : Replacing) (old new : List Step) : Type 0 where
+  pub work : DayWork
+  pub is_work : IsWorkOf asked work
+  pub touches : TouchesDays work old new
 
 -- The archive was walked, and then its records.
 pub record AreBothCourses (work : DayWork) (below : List (Bor (List ℕ))) (said : List Said) (old new : List Step) : Type 0 where

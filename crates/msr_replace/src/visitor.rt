@@ -1,21 +1,24 @@
 //! What is done of an entry of a folder, and told of it.
-ghost use Rattle.std.specs.Prelude.{◌≡◌, ◌≢◌, ◌∷◌, ◌++◌, [], IfErr, IfOk, IfSome, List, OnOk, false, is_some, true};
+ghost use Rattle.std.specs.Prelude.{◌≡◌, ◌≢◌, ◌∷◌, ◌++◌, [], IfErr, IfOk, IfSome, List, OnOk, false, true};
 ghost use Rattle.std.specs.List.{AllByRecursion};
 ghost use Rattle.msr_devices.specs.Device.{CanCountCall};
 ghost use Rattle.msr_devices.specs.declared.fault.DeviceFault.TheVariants.{Memory};
 ghost use Rattle.msr_folders.proofs.ReadingLemmas.{none_holds};
-ghost use Rattle.msr_folders.proofs.StoppingLemmas.{stopping_laws};
 ghost use Rattle.msr_folders.specs.Days.{IsDay, IsNoDay};
 ghost use Rattle.msr_folders.specs.Entries.{Entry};
-ghost use Rattle.msr_folders.specs.Stopping.{ComesAfter};
 ghost use Rattle.msr_folders.specs.Walks.{TellsVisit, VisitDoes};
 ghost use Rattle.msr_replace.specs.Entries.{ExchangeEntry, IsExchangeEntry, IsExchangeEntryLine, IsExchangeTally, IsExchangeOf, IsStoppedAt, entry_of, has_failed};
-ghost use Rattle.msr_replace.specs.Said.{Does, IsOfDay, IsOfReplaced, IsOfRestored, IsOfSearched, IsSaid, IsWhyPassed, Said, TellsOther, TellsSaid, only_line, other_outcome, walked};
-ghost use Rattle.msr_replace.specs.Walk.{HasCome, Prints, StopsTellingExchanges};
+ghost use Rattle.msr_replace.specs.Said.{Does, IsOfDay, IsOfReplaced, IsOfRestored, IsSaid, IsWhyPassed, Said, SearchesDay, TellsOther, TellsSaid, only_line, other_outcome, walked};
+ghost use Rattle.msr_replace.specs.Touching.{touching_laws};
+ghost use Rattle.msr_replace.specs.Touched.{TouchesDays};
+ghost use Rattle.msr_replace.specs.Walk.{Prints, StopsTellingExchanges};
 ghost use Rattle.msr_sds.specs.declared.SdsFault.{SdsFault};
+ghost use Rattle.msr_exchange.specs.Stamped.{all_parts_in};
 ghost use Rattle.msr_exchange.specs.Work.{AreThreeFolders};
 ghost use Rattle.msr_tree.specs.Calls.{Goes};
 ghost use Rattle.msr_tree.specs.Listing.{is_there};
+ghost use Rattle.msr_tree.specs.Reads.{OnlyLooks};
+ghost use Rattle.msr_tree.specs.Steps.{ChangesOnly};
 ghost use Rattle.msr_tree.specs.declared.kind.FileKind.{FileKind};
 
 use crate::day::{replace_path, restore_path};
@@ -97,7 +100,7 @@ fn tell<O: Sink>(
 fn replaced<T: Tree>(tree: &mut T, work: &DayWork<'_>, path: &str) -> Result<Outcome, DeviceFault>
     requires apart { AreThreeFolders work.now }
     requires day { IsDay path.now }
-    ensures goes { Goes (T.went tree.old) (T.went tree.new) (Does (λ outcome. IsOfReplaced work.now path.now outcome) result) }
+    ensures goes { Goes (T.went tree.old) (T.went tree.new) (Does work.now (λ outcome. IsOfReplaced work.now path.now outcome) result) }
     ensures of { IfOk result (IsExchangeOf path.now) }
     ensures memory { IfErr result (λ fault. fault ≡ Memory) }
 {
@@ -112,7 +115,7 @@ fn replaced<T: Tree>(tree: &mut T, work: &DayWork<'_>, path: &str) -> Result<Out
 fn restored<T: Tree>(tree: &mut T, work: &DayWork<'_>, path: &str) -> Result<Outcome, DeviceFault>
     requires apart { AreThreeFolders work.now }
     requires day { IsDay path.now }
-    ensures goes { Goes (T.went tree.old) (T.went tree.new) (Does (λ outcome. IsOfRestored work.now path.now outcome) result) }
+    ensures goes { Goes (T.went tree.old) (T.went tree.new) (Does work.now (λ outcome. IsOfRestored work.now path.now outcome) result) }
     ensures of { IfOk result (IsExchangeOf path.now) }
     ensures memory { IfErr result (λ fault. fault ≡ Memory) }
 {
@@ -130,7 +133,7 @@ fn searched<T: Tree>(
     path: &str,
 ) -> Result<Option<Outcome>, DeviceFault>
     requires { IsDay path.now }
-    ensures goes { Goes (T.went tree.old) (T.went tree.new) (Does (λ outcome. IsOfSearched work.now path.now outcome) result) }
+    ensures goes { Goes (T.went tree.old) (T.went tree.new) (Does work.now (λ outcome. SearchesDay work.now path.now outcome) result) }
     ensures of { IfOk result (λ outcome. IfSome outcome (IsExchangeOf path.now)) }
     ensures memory { IfErr result (λ fault. fault ≡ Memory) }
 {
@@ -188,7 +191,7 @@ where
     fn handle<T: Tree>(&self, tree: &mut T, path: &str) -> Result<Option<Outcome>, DeviceFault>
         requires { IsDay path.now }
         ensures goes { Goes (T.went tree.old) (T.went tree.new)
-            (Does (λ outcome. IsOfDay self.now.course self.now.work path.now outcome) result) }
+            (Does self.now.work (λ outcome. IsOfDay self.now.course self.now.work path.now outcome) result) }
         ensures of { IfOk result (λ outcome. IfSome outcome (IsExchangeOf path.now)) }
         ensures memory { IfErr result (λ fault. fault ≡ Memory) }
     {
@@ -210,10 +213,10 @@ where
         requires day { IsDay path.now }
         requires going { progress.old.failed ≡ None }
         requires count { CanCountCall (O.device out.old) }
-        ensures told { (kind : FileKind) → OnOk result (TellsVisit TellsSaid (IsSaid self.now.course self.now.work) ComesAfter ⊥ (Entry path.now kind)
+        ensures told { (kind : FileKind) → OnOk result (TellsVisit TellsSaid (IsSaid self.now.course self.now.work) (TouchesDays self.now.work) ⊥ (Entry path.now kind)
             (T.went tree.old) (T.went tree.new) (O.device out.old) (O.device out.new) progress.old progress.new) }
         ensures stops { IfErr result (StopsTellingExchanges (O.device out.old) (O.device out.new)) }
-        ensures does { Goes (T.went tree.old) (T.went tree.new) (VisitDoes ComesAfter ⊥) }
+        ensures does { Goes (T.went tree.old) (T.went tree.new) (VisitDoes (TouchesDays self.now.work) ⊥) }
     {
         match self.handle(tree, path)? {
             Some(outcome) => tell(self.work.alloc, path, outcome, out, progress),
@@ -249,7 +252,7 @@ where
 
     /// Begins with a folder of days that this process has; what is told of it, if it is left alone.
     fn begin<T: Tree>(&self, tree: &mut T, folder: &str) -> Result<Option<Outcome>, DeviceFault>
-        ensures goes { Goes (T.went tree.old) (T.went tree.new) ComesAfter }
+        ensures goes { Goes (T.went tree.old) (T.went tree.new) (ChangesOnly (all_parts_in self.now.work folder.now)) }
         ensures why { IfOk result (λ outcome. IfSome outcome IsWhyPassed) }
         ensures memory { IfErr result (λ fault. fault ≡ Memory) }
     {
@@ -264,7 +267,7 @@ where
     /// Whether a folder of records or originals is not there.
     fn may_lack<T: Tree>(&self, tree: &mut T, place: &str) -> Result<bool, DeviceFault>
         ensures goes { Goes (T.went tree.old) (T.went tree.new)
-            (Does (λ lacks past new. lacks ≡ true → (self.now.course ≢ Course.Root) × (is_there past place.now ≡ false)) result) }
+            (Does self.now.work (λ lacks past new. OnlyLooks past new × (lacks ≡ true → (self.now.course ≢ Course.Root) × (is_there past place.now ≡ false))) result) }
         ensures memory { IfErr result (λ fault. fault ≡ Memory) }
     {
         if self.course == Course::Root {
@@ -296,7 +299,7 @@ where
 
     ghost says = { λ replacer. IsSaid replacer.course replacer.work };
 
-    ghost does = { λ _ _. ComesAfter };
+    ghost does = { λ replacer _. TouchesDays replacer.work };
 
     ghost listless = { λ _. ⊥ };
 
@@ -304,7 +307,7 @@ where
 
     ghost root = { λ replacer. walked replacer.course replacer.work };
 
-    ghost laws = { stopping_laws IsExchangeEntry IsExchangeEntryLine HasCome (λ progress. is_some progress.failed) };
+    ghost laws = { touching_laws (λ replacer. replacer.work) };
 
     ghost listed = { none_holds };
 

@@ -1,12 +1,15 @@
 use Rattle.std.proofs.Common.{◌∙◌, refl, sym}
 use Rattle.std.proofs.lemmas.Result.{err_from_is_err_and}
 use Rattle.msr_folders.specs.Entries.{Passed}
-use Rattle.msr_folders.specs.Stopping.{ComesAfter}
+use Rattle.msr_exchange.specs.Stamped.{all_parts_in}
+use Rattle.msr_tree.proofs.Changes.{changes_none}
+use Rattle.msr_tree.specs.Steps.{ChangesOnly}
 use Rattle.msr_replace.specs.Said.{only_line}
 use Rattle.msr_replace.specs.declared.lines.EntryRefusal.TheVariants.{Busy}
 use Rattle.msr_replace.specs.declared.lines.Outcome.TheVariants.{Refused}
 use Rattle.msr_replace.proofs.LinesTold.{none_told}
 use Rattle.msr_replace.proofs.Saying.{none_said, passed_by, visited, visited_still}
+use Rattle.msr_replace.proofs.Touching.{touched_parts, visit_still}
 use Rattle.msr_replace.proofs.visitor.ReplacerEntryVisitor.enter_folder.Goals as goal
 
 pub returns-then-is_some-clause-told : goal.returns-then-is_some-clause-told
@@ -26,7 +29,7 @@ pub returns-in_default-clause-told : goal.returns-in_default-clause-told
 returns-in_default-clause-told g c =
     visited_still c.args.self.now.course c.args.self.now.work (Passed c.args.folder.now) (only_line c.args.folder.now (Refused Busy)) (g.T.Tree.went c.args.tree.now)
     (g.O.Sink.device c.args.out.now) (g.O.Sink.device c.tell.new.out) c.args.progress.now c.tell.new.progress
-    (λ past. (Refused Busy, refl, tt)) c.in_ok-tell.ensures.told
+    (λ past. (Refused Busy, refl, tt, changes_none (all_parts_in c.args.self.now.work c.args.folder.now) past)) c.in_ok-tell.ensures.told
 
 pub returns-in_err-outcome-clause-stops : goal.returns-in_err-outcome-clause-stops
 returns-in_err-outcome-clause-stops g c =
@@ -35,11 +38,26 @@ returns-in_err-outcome-clause-stops g c =
 
 pub returns-in-Some-2-clause-told : goal.returns-in-Some-2-clause-told
 returns-in-Some-2-clause-told g c =
-    visited c.args.self.now.course c.args.self.now.work (Passed c.args.folder.now) (only_line c.args.folder.now c.in-Some-2.outcome) ComesAfter
+    visited c.args.self.now.course c.args.self.now.work (Passed c.args.folder.now) (only_line c.args.folder.now c.in-Some-2.outcome) (ChangesOnly (all_parts_in c.args.self.now.work c.args.folder.now))
     (g.T.Tree.went c.args.tree.now) (g.T.Tree.went c.begin.new.tree)
     (g.O.Sink.device c.args.out.now) (g.O.Sink.device c.tell-in-Some-2.new.out) c.args.progress.now c.tell-in-Some-2.new.progress
-    (λ old new later. (later, (c.in-Some-2.outcome, refl, rw c.in-Some-2.is at c.in_ok-outcome.ensures.why)))
+    (λ old new changes. (touched_parts c.args.self.now.work c.args.folder.now old new changes, (c.in-Some-2.outcome, refl, rw c.in-Some-2.is at c.in_ok-outcome.ensures.why, changes)))
     c.begin.ensures.goes c.in_ok-tell-2.ensures.told
 
 pub returns-clause-told : goal.returns-clause-told
 returns-clause-told g c = none_said (g.O.Sink.device c.args.out.now) c.args.progress.now
+
+pub returns-then-is_some-clause-does : goal.returns-then-is_some-clause-does
+returns-then-is_some-clause-does g c = visit_still c.args.self.now.work (g.T.Tree.went c.args.tree.now)
+
+pub returns-then-levels-gt0-clause-does : goal.returns-then-levels-gt0-clause-does
+returns-then-levels-gt0-clause-does g c = visit_still c.args.self.now.work (g.T.Tree.went c.args.tree.now)
+
+pub returns-in_err-locked-clause-does : goal.returns-in_err-locked-clause-does
+returns-in_err-locked-clause-does g c = visit_still c.args.self.now.work (g.T.Tree.went c.args.tree.now)
+
+pub returns-in_err-tell-clause-does : goal.returns-in_err-tell-clause-does
+returns-in_err-tell-clause-does g c = visit_still c.args.self.now.work (g.T.Tree.went c.args.tree.now)
+
+pub returns-in_default-clause-does : goal.returns-in_default-clause-does
+returns-in_default-clause-does g c = visit_still c.args.self.now.work (g.T.Tree.went c.args.tree.now)

@@ -4,6 +4,7 @@ use Rattle.msr_folders.specs.Entries.{Entry}
 use Rattle.msr_verify.proofs.VisitedLemmas.{no_day}
 use Rattle.msr_replace.specs.Said.{said_of}
 use Rattle.msr_replace.proofs.Saying.{passed_by, visited_still}
+use Rattle.msr_replace.proofs.Touching.{visit_still}
 use Rattle.msr_replace.proofs.visitor.ReplacerEntryVisitor.visit_entry.Goals as goal
 
 pub returns-then-is_some-clause-told : goal.returns-then-is_some-clause-told
@@ -24,5 +25,11 @@ returns-in-Err-clause-told g c =
     let said = c.parse.ensures in
     on_ok_as c.tell_other.result (λ told. visited_still c.args.self.now.course c.args.self.now.work (Entry c.args.path.now c.args.kind) (said_of c.args.path.now told.outcome)
     (g.T.Tree.went c.args.tree.now) (g.O.Sink.device c.args.out.now) (g.O.Sink.device c.tell_other.new.out) c.args.progress.now c.tell_other.new.progress
-    (λ past. (told.outcome, refl, record { day = λ day. let one = said.only day.0 day.1 in let other = c.in-Err.is in absurd cc; other = λ no. told.is })) told.told)
+    (λ past. (told.outcome, refl, record { day = λ day. let one = said.only day.0 day.1 in let other = c.in-Err.is in absurd cc; other = λ no. (told.is, refl) })) told.told)
     c.tell_other.ensures.told
+
+pub returns-then-is_some-clause-does : goal.returns-then-is_some-clause-does
+returns-then-is_some-clause-does g c = visit_still c.args.self.now.work (g.T.Tree.went c.args.tree.now)
+
+pub returns-in-Err-clause-does : goal.returns-in-Err-clause-does
+returns-in-Err-clause-does g c = visit_still c.args.self.now.work (g.T.Tree.went c.args.tree.now)
