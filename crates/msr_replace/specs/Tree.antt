@@ -1,5 +1,5 @@
 -- What a walk to its end told of the folders, by what their names lead to.
-use Rattle.std.specs.Prelude.{◌≡◌, ℕ, Bool, true, false, List, ◌++◌, Option, is_some, String}
+use Rattle.std.specs.Prelude.{◌≡◌, ◌<◌, ℕ, Bool, true, false, List, ◌++◌, Option, None, IsSome, is_some, String}
 use Rattle.std.specs.Borrow.{Bor}
 use Rattle.msr_devices.specs.Device.{Device, Takes}
 use Rattle.msr_exchange.specs.declared.work.DayWork.{DayWork}
@@ -27,6 +27,8 @@ pub record IsWorkOf (asked : Replacing) (work : DayWork) : Type 0 where
   pub only_smaller : work.only_smaller ≡ asked.only_smaller
   pub touch : work.touch ≡ asked.touch
   pub int24 : work.int24 ≡ asked.int24
+  pub any_age : asked.older_than ≡ 0 → work.changed_before ≡ None
+  pub of_age : 0 < asked.older_than → IsSome work.changed_before
 
 -- No name is changed but those of days, and of what is in its making, in the folders that are asked for.
 pub record ChangesDays (asked : Replacing) (old new : List Step) : Type 0 where
