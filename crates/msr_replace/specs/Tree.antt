@@ -31,7 +31,7 @@ pub record IsWorkOf (asked : Replacing) (work : DayWork) : Type 0 where
   pub of_age : 0 < asked.older_than → IsSome work.changed_before
 
 -- No name is changed but those of days, and of what is in its making, in the folders that are asked for.
-pub record ChangesDays (asked : Replacing) (old new : List Step) : Type 0 where
+pub record ChangesAsked (asked : Replacing) (old new : List Step) : Type 0 where
   pub work : DayWork
   pub is_work : IsWorkOf asked work
   pub touches : TouchesDays work old new

@@ -9,7 +9,7 @@ ghost use Rattle.msr_tree.specs.Calls.{Goes};
 ghost use Rattle.msr_options.specs.Tasks.{AreApartFrom, StandApart};
 ghost use Rattle.msr_replace.specs.Said.{IsSaid, TellsSaid, walked};
 ghost use Rattle.msr_replace.specs.Touched.{TouchesDays};
-ghost use Rattle.msr_replace.specs.Tree.{ChangesDays, IsWorkOf, ReplacesTree, TellsCourses};
+ghost use Rattle.msr_replace.specs.Tree.{ChangesAsked, IsWorkOf, ReplacesTree, TellsCourses};
 ghost use Rattle.msr_replace.specs.Walk.{HasCome, ReplacesDays, StopsTellingExchanges};
 
 use crate::progress::Progress;
@@ -184,7 +184,7 @@ where
         (O.device out.old) (O.device out.new) result.failed) }
 
     // However it ends, what is no day's leads to what it led to.
-    ensures changes { Goes (T.went tree.old) (T.went tree.new) (ChangesDays asked.now) }
+    ensures changes { Goes (T.went tree.old) (T.went tree.new) (ChangesAsked asked.now) }
 {
     let work = work_of(alloc, asked, now);
     let mut progress = Progress {
