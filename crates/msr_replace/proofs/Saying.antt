@@ -18,7 +18,7 @@ use Rattle.msr_tree.specs.Calls.{Goes, Tells}
 use Rattle.msr_tree.specs.Steps.{Failed, Path, Step, failures}
 use Rattle.msr_tree.specs.declared.tree.TreeFault.TheVariants as fault
 use Rattle.msr_replace.specs.Entries.{ExchangeEntry, IsExchangeEntry, IsExchangeEntryLine, IsExchangeOf, IsExchangeTally, IsStoppedAt, entry_of, has_failed}
-use Rattle.msr_replace.specs.Said.{Does, IsSaid, IsSaidGoing, Said, TellsSaid, only_line, walked}
+use Rattle.msr_replace.specs.Said.{DoesFor, IsSaid, IsSaidGoing, Said, TellsSaid, only_line, walked}
 use Rattle.msr_replace.specs.Sums.{exchange_summary}
 use Rattle.msr_replace.specs.Touched.{TouchesDays}
 use Rattle.msr_replace.specs.Tree.{IsWorkOf, ReplacesTree, TellsCourses}
@@ -61,7 +61,7 @@ failed_tells Says old new is =
     omega (arith, more)
 
 pub does_of : {A : Type 0} (work : DayWork) (R : (old new : List Step) → Type 0) (Is : A → (old new : List Step) → Type 0) (result : Result A DeviceFault) (before after : List Step → Type 0)
-    → ((old new : List Step) → R old new → Does work Is result old new) → Goes before after R → Goes before after (Does work Is result)
+    → ((old new : List Step) → R old new → DoesFor work Is result old new) → Goes before after R → Goes before after (DoesFor work Is result)
 does_of work R Is result before after so goes = goes_so _ _ before after (λ old new went is. so old new is) goes
 
 module _ (on : Course) (work : DayWork) where

@@ -141,6 +141,6 @@ abbrev pub IsCourse : Course → DayWork → List (Bor Path) → List Visit → 
 IsCourse on work below = IsWalked (IsSaid on work) (TouchesDays work) ⊥ (walked on work) (λ past new. AreEntriesBetween (TouchesDays work) past new (walked on work) below)
 
 -- What is done of the tree in a function that answers what may be told.
-pub record Does (work : DayWork) {A : Type 0} (Is : A → (old new : List Step) → Type 0) (result : Result A DeviceFault) (old new : List Step) : Type 0 where
+pub record DoesFor (work : DayWork) {A : Type 0} (Is : A → (old new : List Step) → Type 0) (result : Result A DeviceFault) (old new : List Step) : Type 0 where
   pub later : TouchesDays work old new
   pub says : IfOk result (λ answer. Is answer old new)

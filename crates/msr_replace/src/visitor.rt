@@ -8,7 +8,7 @@ ghost use Rattle.msr_folders.specs.Days.{IsDay, IsNoDay};
 ghost use Rattle.msr_folders.specs.Entries.{Entry};
 ghost use Rattle.msr_folders.specs.Walks.{TellsVisit, VisitDoes};
 ghost use Rattle.msr_replace.specs.Entries.{ExchangeEntry, IsExchangeEntry, IsExchangeEntryLine, IsExchangeTally, IsExchangeOf, IsStoppedAt, entry_of, has_failed};
-ghost use Rattle.msr_replace.specs.Said.{Does, IsOfDay, IsOfReplaced, IsOfRestored, IsSaid, IsWhyPassed, Said, SearchesDay, TellsOther, TellsSaid, only_line, other_outcome, walked};
+ghost use Rattle.msr_replace.specs.Said.{DoesFor, IsOfDay, IsOfReplaced, IsOfRestored, IsSaid, IsWhyPassed, Said, SearchesDay, TellsOther, TellsSaid, only_line, other_outcome, walked};
 ghost use Rattle.msr_replace.specs.Touching.{touching_laws};
 ghost use Rattle.msr_replace.specs.Touched.{TouchesDays};
 ghost use Rattle.msr_replace.specs.Walk.{Prints, StopsTellingExchanges};
@@ -100,7 +100,7 @@ fn tell<O: Sink>(
 fn replaced<T: Tree>(tree: &mut T, work: &DayWork<'_>, path: &str) -> Result<Outcome, DeviceFault>
     requires apart { AreThreeFolders work.now }
     requires day { IsDay path.now }
-    ensures goes { Goes (T.went tree.old) (T.went tree.new) (Does work.now (λ outcome. IsOfReplaced work.now path.now outcome) result) }
+    ensures goes { Goes (T.went tree.old) (T.went tree.new) (DoesFor work.now (λ outcome. IsOfReplaced work.now path.now outcome) result) }
     ensures of { IfOk result (IsExchangeOf path.now) }
     ensures memory { IfErr result (λ fault. fault ≡ Memory) }
 {
@@ -115,7 +115,7 @@ fn replaced<T: Tree>(tree: &mut T, work: &DayWork<'_>, path: &str) -> Result<Out
 fn restored<T: Tree>(tree: &mut T, work: &DayWork<'_>, path: &str) -> Result<Outcome, DeviceFault>
     requires apart { AreThreeFolders work.now }
     requires day { IsDay path.now }
-    ensures goes { Goes (T.went tree.old) (T.went tree.new) (Does work.now (λ outcome. IsOfRestored work.now path.now outcome) result) }
+    ensures goes { Goes (T.went tree.old) (T.went tree.new) (DoesFor work.now (λ outcome. IsOfRestored work.now path.now outcome) result) }
     ensures of { IfOk result (IsExchangeOf path.now) }
     ensures memory { IfErr result (λ fault. fault ≡ Memory) }
 {
@@ -133,7 +133,7 @@ fn searched<T: Tree>(
     path: &str,
 ) -> Result<Option<Outcome>, DeviceFault>
     requires { IsDay path.now }
-    ensures goes { Goes (T.went tree.old) (T.went tree.new) (Does work.now (λ outcome. SearchesDay work.now path.now outcome) result) }
+    ensures goes { Goes (T.went tree.old) (T.went tree.new) (DoesFor work.now (λ outcome. SearchesDay work.now path.now outcome) result) }
     ensures of { IfOk result (λ outcome. IfSome outcome (IsExchangeOf path.now)) }
     ensures memory { IfErr result (λ fault. fault ≡ Memory) }
 {
@@ -191,7 +191,7 @@ where
     fn handle<T: Tree>(&self, tree: &mut T, path: &str) -> Result<Option<Outcome>, DeviceFault>
         requires { IsDay path.now }
         ensures goes { Goes (T.went tree.old) (T.went tree.new)
-            (Does self.now.work (λ outcome. IsOfDay self.now.course self.now.work path.now outcome) result) }
+            (DoesFor self.now.work (λ outcome. IsOfDay self.now.course self.now.work path.now outcome) result) }
         ensures of { IfOk result (λ outcome. IfSome outcome (IsExchangeOf path.now)) }
         ensures memory { IfErr result (λ fault. fault ≡ Memory) }
     {
@@ -267,7 +267,7 @@ where
     /// Whether a folder of records or originals is not there.
     fn may_lack<T: Tree>(&self, tree: &mut T, place: &str) -> Result<bool, DeviceFault>
         ensures goes { Goes (T.went tree.old) (T.went tree.new)
-            (Does self.now.work (λ lacks past new. OnlyLooks past new × (lacks ≡ true → (self.now.course ≢ Course.Root) × (is_there past place.now ≡ false))) result) }
+            (DoesFor self.now.work (λ lacks past new. OnlyLooks past new × (lacks ≡ true → (self.now.course ≢ Course.Root) × (is_there past place.now ≡ false))) result) }
         ensures memory { IfErr result (λ fault. fault ≡ Memory) }
     {
         if self.course == Course::Root {

@@ -7,7 +7,7 @@ use Rattle.msr_tree.specs.Listing.{is_there}
 use Rattle.msr_tree.specs.Reads.{OnlyLooks}
 use Rattle.msr_tree.specs.Steps.{Step}
 use Rattle.std.specs.Prelude.{List}
-use Rattle.msr_replace.specs.Said.{Does, only_line, unlisted_of}
+use Rattle.msr_replace.specs.Said.{DoesFor, only_line, unlisted_of}
 use Rattle.msr_replace.specs.declared.lines.Outcome.TheVariants.{Refused}
 use Rattle.msr_replace.specs.declared.replacer.Course.TheVariants as course
 use Rattle.msr_replace.proofs.LinesTold.{none_told}
@@ -30,7 +30,7 @@ returns-then-branch-clause-told g c =
     let on = c.args.self.now.course in
     let work = c.args.self.now.work in
     let Lacks : Bool → (past new : List Step) → Type 0 = λ lacks past new. OnlyLooks past new × (lacks ≡ true → (on ≢ course.Root) × (is_there past c.args.place.now ≡ false)) in
-    visited on work (WithoutList c.args.folder.now) [] (Does work Lacks (Ok true))
+    visited on work (WithoutList c.args.folder.now) [] (DoesFor work Lacks (Ok true))
     (g.T.Tree.went c.args.tree.now) (g.T.Tree.went c.may_lack.new.tree) (g.O.Sink.device c.args.out.now) (g.O.Sink.device c.args.out.now)
     c.args.progress.now c.args.progress.now
     (λ old new is.
@@ -44,7 +44,7 @@ returns-clause-told g c =
     let work = c.args.self.now.work in
     let Lacks : Bool → (past new : List Step) → Type 0 = λ lacks past new. OnlyLooks past new × (lacks ≡ true → (on ≢ course.Root) × (is_there past c.args.place.now ≡ false)) in
     on_ok_as c.tell.result (λ told. visited on work (WithoutList c.args.folder.now) (only_line (told_folder c.args.folder.now) (Refused (unlisted_of on)))
-    (Does work Lacks (Ok c.in_ok-may_lack.field-0))
+    (DoesFor work Lacks (Ok c.in_ok-may_lack.field-0))
     (g.T.Tree.went c.args.tree.now) (g.T.Tree.went c.may_lack.new.tree) (g.O.Sink.device c.args.out.now) (g.O.Sink.device c.tell.new.out)
     c.args.progress.now c.tell.new.progress
     (λ old new is. (is.later, (Some (Refused (unlisted_of on)), refl, refl, is.says.0)))
