@@ -60,16 +60,16 @@ failed_tells Says old new is =
     let more : failures new ≡ failures (Failed ∷ old) = ap (λ l. failures l) (is.2 ∙ ap (λ l. Failed ∷ l) is.1) in
     omega (arith, more)
 
-pub does_of : {A : Type 0} (work : DayWork) (R : (old new : List Step) → Type 0) (Is : A → (old new : List Step) → Type 0) (result : Result A DeviceFault) (before after : List Step → Type 0)
-    → ((old new : List Step) → R old new → DoesFor work Is result old new) → Goes before after R → Goes before after (DoesFor work Is result)
-does_of work R Is result before after so goes = goes_so _ _ before after (λ old new went is. so old new is) goes
+pub does_of : {A : Type 0} (on : Course) (work : DayWork) (R : (old new : List Step) → Type 0) (Is : A → (old new : List Step) → Type 0) (result : Result A DeviceFault) (before after : List Step → Type 0)
+    → ((old new : List Step) → R old new → DoesFor on work Is result old new) → Goes before after R → Goes before after (DoesFor on work Is result)
+does_of on work R Is result before after so goes = goes_so _ _ before after (λ old new went is. so old new is) goes
 
 module _ (on : Course) (work : DayWork) where
   abbrev pub Visits : Visit → (before after : List Step → Type 0) (out0 out : Device) (old new : Progress) → Type 0
-  Visits visit before after out0 out old new = TellsVisit TellsSaid (IsSaid on work) (TouchesDays work) ⊥ visit before after out0 out old new
+  Visits visit before after out0 out old new = TellsVisit TellsSaid (IsSaid on work) (TouchesDays on work) ⊥ visit before after out0 out old new
 
   pub visited : (visit : Visit) (said : List Said) (R : (old new : List Step) → Type 0) (before after : List Step → Type 0) (out0 out : Device) (progress0 progress : Progress)
-      → ((old new : List Step) → R old new → TouchesDays work old new × IsSaidGoing on work old new visit said)
+      → ((old new : List Step) → R old new → TouchesDays on work old new × IsSaidGoing on work old new visit said)
       → Goes before after R → TellsSaid said out0 out progress0 progress → Visits visit before after out0 out progress0 progress
   visited visit said R before after out0 out progress0 progress so goes told = record {
     lines = said;
@@ -85,7 +85,7 @@ module _ (on : Course) (work : DayWork) where
   visited_still visit said before out0 out progress0 progress so told = record {
     lines = said;
     told = told;
-    goes = goes_none _ before (λ past. record { done = record { does = touched_still work past; lists_none = λ none. absurd none }; says = inr (so past) });
+    goes = goes_none _ before (λ past. record { done = record { does = touched_still on work past; lists_none = λ none. absurd none }; says = inr (so past) });
   }
 
   -- where the tree has failed before
@@ -94,11 +94,11 @@ module _ (on : Course) (work : DayWork) where
   passed_by visit before out progress some = record {
     lines = None ∷ [];
     told = until_stopped IsExchangeEntry IsExchangeEntryLine HasCome (λ p. is_some p.failed) out progress some;
-    goes = goes_none _ before (λ past. record { done = record { does = touched_still work past; lists_none = λ none. absurd none }; says = inl (refl, refl) });
+    goes = goes_none _ before (λ past. record { done = record { does = touched_still on work past; lists_none = λ none. absurd none }; says = inl (refl, refl) });
   }
 
   abbrev pub Walks : (below : List (Bor Path)) (before after : List Step → Type 0) (out0 out : Device) (old new : Progress) → Type 0
-  Walks below before after out0 out old new = TellsWalk TellsSaid (IsSaid on work) (TouchesDays work) ⊥ (walked on work) (λ past new. AreEntriesBetween (TouchesDays work) past new (walked on work) below)
+  Walks below before after out0 out old new = TellsWalk TellsSaid (IsSaid on work) (TouchesDays on work) ⊥ (walked on work) (λ past new. AreEntriesBetween (TouchesDays on work) past new (walked on work) below)
       before after out0 out old new
 
 pub both_courses : (work : DayWork) (below : List (Bor Path)) (before mid after : List Step → Type 0) (out0 out1 out : Device) (old between new : Progress)

@@ -13,7 +13,7 @@ use Rattle.msr_tree.specs.Steps.{Step}
 use Rattle.msr_replace.specs.Entries.{IsExchangeEntry, IsExchangeEntryLine, IsStoppedAt}
 use Rattle.msr_replace.specs.Said.{IsCourse, Said, TellsSaid}
 use Rattle.msr_replace.specs.Sums.{exchange_summary}
-use Rattle.msr_replace.specs.Touched.{TouchesDays}
+use Rattle.msr_replace.specs.Touched.{TouchesDays, course_of}
 use Rattle.msr_replace.specs.Walk.{TellsFound}
 use Rattle.msr_replace.specs.declared.progress.Progress.{Progress}
 use Rattle.msr_replace.specs.declared.replacer.Course.TheVariants as course
@@ -30,11 +30,11 @@ pub record IsWorkOf (asked : Replacing) (work : DayWork) : Type 0 where
   pub any_age : asked.older_than ≡ 0 → work.changed_before ≡ None
   pub of_age : 0 < asked.older_than → IsSome work.changed_before
 
--- No name is changed but those of days, and of what is in its making, in the folders that are asked for.
+-- Days were replaced, or restored, in the folders that are asked for, and nothing else was changed.
 pub record ChangesAsked (asked : Replacing) (old new : List Step) : Type 0 where
   pub work : DayWork
   pub is_work : IsWorkOf asked work
-  pub touches : TouchesDays work old new
+  pub touches : TouchesDays (course_of asked.undo) work old new
 
 -- The archive was walked, and then its records.
 pub record AreBothCourses (work : DayWork) (below : List (Bor (List ℕ))) (said : List Said) (old new : List Step) : Type 0 where

@@ -100,7 +100,7 @@ fn tell<O: Sink>(
 fn replaced<T: Tree>(tree: &mut T, work: &DayWork<'_>, path: &str) -> Result<Outcome, DeviceFault>
     requires apart { AreThreeFolders work.now }
     requires day { IsDay path.now }
-    ensures goes { Goes (T.went tree.old) (T.went tree.new) (DoesFor work.now (λ outcome. IsOfReplaced work.now path.now outcome) result) }
+    ensures goes { Goes (T.went tree.old) (T.went tree.new) (DoesFor Course.Root work.now (λ outcome. IsOfReplaced work.now path.now outcome) result) }
     ensures of { IfOk result (IsExchangeOf path.now) }
     ensures memory { IfErr result (λ fault. fault ≡ Memory) }
 {
@@ -115,7 +115,7 @@ fn replaced<T: Tree>(tree: &mut T, work: &DayWork<'_>, path: &str) -> Result<Out
 fn restored<T: Tree>(tree: &mut T, work: &DayWork<'_>, path: &str) -> Result<Outcome, DeviceFault>
     requires apart { AreThreeFolders work.now }
     requires day { IsDay path.now }
-    ensures goes { Goes (T.went tree.old) (T.went tree.new) (DoesFor work.now (λ outcome. IsOfRestored work.now path.now outcome) result) }
+    ensures goes { Goes (T.went tree.old) (T.went tree.new) (DoesFor Course.Aside work.now (λ outcome. IsOfRestored work.now path.now outcome) result) }
     ensures of { IfOk result (IsExchangeOf path.now) }
     ensures memory { IfErr result (λ fault. fault ≡ Memory) }
 {
@@ -133,7 +133,7 @@ fn searched<T: Tree>(
     path: &str,
 ) -> Result<Option<Outcome>, DeviceFault>
     requires { IsDay path.now }
-    ensures goes { Goes (T.went tree.old) (T.went tree.new) (DoesFor work.now (λ outcome. SearchesDay work.now path.now outcome) result) }
+    ensures goes { Goes (T.went tree.old) (T.went tree.new) (DoesFor Course.Out work.now (λ outcome. SearchesDay work.now path.now outcome) result) }
     ensures of { IfOk result (λ outcome. IfSome outcome (IsExchangeOf path.now)) }
     ensures memory { IfErr result (λ fault. fault ≡ Memory) }
 {
@@ -191,7 +191,7 @@ where
     fn handle<T: Tree>(&self, tree: &mut T, path: &str) -> Result<Option<Outcome>, DeviceFault>
         requires { IsDay path.now }
         ensures goes { Goes (T.went tree.old) (T.went tree.new)
-            (DoesFor self.now.work (λ outcome. IsOfDay self.now.course self.now.work path.now outcome) result) }
+            (DoesFor self.now.course self.now.work (λ outcome. IsOfDay self.now.course self.now.work path.now outcome) result) }
         ensures of { IfOk result (λ outcome. IfSome outcome (IsExchangeOf path.now)) }
         ensures memory { IfErr result (λ fault. fault ≡ Memory) }
     {
@@ -213,10 +213,10 @@ where
         requires day { IsDay path.now }
         requires going { progress.old.failed ≡ None }
         requires count { CanCountCall (O.device out.old) }
-        ensures told { (kind : FileKind) → OnOk result (TellsVisit TellsSaid (IsSaid self.now.course self.now.work) (TouchesDays self.now.work) ⊥ (Entry path.now kind)
+        ensures told { (kind : FileKind) → OnOk result (TellsVisit TellsSaid (IsSaid self.now.course self.now.work) (TouchesDays self.now.course self.now.work) ⊥ (Entry path.now kind)
             (T.went tree.old) (T.went tree.new) (O.device out.old) (O.device out.new) progress.old progress.new) }
         ensures stops { IfErr result (StopsTellingExchanges (O.device out.old) (O.device out.new)) }
-        ensures does { Goes (T.went tree.old) (T.went tree.new) (VisitDoes (TouchesDays self.now.work) ⊥) }
+        ensures does { Goes (T.went tree.old) (T.went tree.new) (VisitDoes (TouchesDays self.now.course self.now.work) ⊥) }
     {
         match self.handle(tree, path)? {
             Some(outcome) => tell(self.work.alloc, path, outcome, out, progress),
@@ -267,7 +267,7 @@ where
     /// Whether a folder of records or originals is not there.
     fn may_lack<T: Tree>(&self, tree: &mut T, place: &str) -> Result<bool, DeviceFault>
         ensures goes { Goes (T.went tree.old) (T.went tree.new)
-            (DoesFor self.now.work (λ lacks past new. OnlyLooks past new × (lacks ≡ true → (self.now.course ≢ Course.Root) × (is_there past place.now ≡ false))) result) }
+            (DoesFor self.now.course self.now.work (λ lacks past new. OnlyLooks past new × (lacks ≡ true → (self.now.course ≢ Course.Root) × (is_there past place.now ≡ false))) result) }
         ensures memory { IfErr result (λ fault. fault ≡ Memory) }
     {
         if self.course == Course::Root {
@@ -299,7 +299,7 @@ where
 
     ghost says = { λ replacer. IsSaid replacer.course replacer.work };
 
-    ghost does = { λ replacer _. TouchesDays replacer.work };
+    ghost does = { λ replacer _. TouchesDays replacer.course replacer.work };
 
     ghost listless = { λ _. ⊥ };
 
@@ -307,7 +307,7 @@ where
 
     ghost root = { λ replacer. walked replacer.course replacer.work };
 
-    ghost laws = { touching_laws (λ replacer. replacer.work) };
+    ghost laws = { touching_laws (λ replacer. replacer.course) (λ replacer. replacer.work) };
 
     ghost listed = { none_holds };
 

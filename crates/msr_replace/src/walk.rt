@@ -8,7 +8,7 @@ ghost use Rattle.msr_folders.specs.Entries.{AreEntriesBetween};
 ghost use Rattle.msr_tree.specs.Calls.{Goes};
 ghost use Rattle.msr_options.specs.Tasks.{AreApartFrom, StandApart};
 ghost use Rattle.msr_replace.specs.Said.{IsSaid, TellsSaid, walked};
-ghost use Rattle.msr_replace.specs.Touched.{TouchesDays};
+ghost use Rattle.msr_replace.specs.Touched.{TouchesDays, course_of};
 ghost use Rattle.msr_replace.specs.Tree.{ChangesAsked, IsWorkOf, ReplacesTree, TellsCourses};
 ghost use Rattle.msr_replace.specs.Walk.{HasCome, ReplacesDays, StopsTellingExchanges};
 
@@ -65,11 +65,11 @@ where
     R::File: LockFile,
     requires apart { AreThreeFolders work.now }
     requires count { CanCountCall (O.device out.old) }
-    ensures told { OnOk result (TellsWalk TellsSaid (IsSaid course work.now) (TouchesDays work.now) ⊥ (walked course work.now)
-        (λ past new. AreEntriesBetween (TouchesDays work.now) past new (walked course work.now) below.now)
+    ensures told { OnOk result (TellsWalk TellsSaid (IsSaid course work.now) (TouchesDays course work.now) ⊥ (walked course work.now)
+        (λ past new. AreEntriesBetween (TouchesDays course work.now) past new (walked course work.now) below.now)
         (T.went tree.old) (T.went tree.new) (O.device out.old) (O.device out.new) progress.old progress.new) }
     ensures stops { IfErr result (StopsTellingExchanges (O.device out.old) (O.device out.new)) }
-    ensures changes { Goes (T.went tree.old) (T.went tree.new) (TouchesDays work.now) }
+    ensures changes { Goes (T.went tree.old) (T.went tree.new) (TouchesDays course work.now) }
 {
     let walk = EntryWalk {
         alloc: work.alloc,
@@ -100,7 +100,7 @@ where
     ensures told { OnOk result (TellsCourses false work.now below.now
         (T.went tree.old) (T.went tree.new) (O.device out.old) (O.device out.new) progress.old progress.new) }
     ensures stops { IfErr result (StopsTellingExchanges (O.device out.old) (O.device out.new)) }
-    ensures changes { Goes (T.went tree.old) (T.went tree.new) (TouchesDays work.now) }
+    ensures changes { Goes (T.went tree.old) (T.went tree.new) (TouchesDays Course.Root work.now) }
 {
     walk_course(rt, tree, work, below, Course::Root, out, progress)?;
     walk_course(rt, tree, work, below, Course::Out, out, progress)
@@ -122,7 +122,7 @@ where
     ensures told { OnOk result (TellsCourses asked.now.undo work.now asked.now.below.items
         (T.went tree.old) (T.went tree.new) (O.device out.old) (O.device out.new) progress.old progress.new) }
     ensures stops { IfErr result (StopsTellingExchanges (O.device out.old) (O.device out.new)) }
-    ensures changes { Goes (T.went tree.old) (T.went tree.new) (TouchesDays work.now) }
+    ensures changes { Goes (T.went tree.old) (T.went tree.new) (TouchesDays (course_of asked.now.undo) work.now) }
 {
     let below = asked.below.as_slice();
     if asked.undo {
@@ -150,7 +150,7 @@ where
     ensures write { IsErrOf result DeviceFault.Failed ↔ HasFailed (O.device out.old) (O.device out.new) }
     ensures tree { IfOk result (ReplacesTree asked.now (T.went tree.old) (T.went tree.new)
         (O.device out.old) (O.device out.new) progress.new.failed) }
-    ensures changes { Goes (T.went tree.old) (T.went tree.new) (TouchesDays work.now) }
+    ensures changes { Goes (T.went tree.old) (T.went tree.new) (TouchesDays (course_of asked.now.undo) work.now) }
 {
     walk_all(rt, tree, work, asked, out, progress)?;
     let tally = &progress.tally;
@@ -183,7 +183,7 @@ where
     ensures tree { IfOk result.found (ReplacesTree asked.now (T.went tree.old) (T.went tree.new)
         (O.device out.old) (O.device out.new) result.failed) }
 
-    // However it ends, what is no day's leads to what it led to.
+    // However it ends, days are replaced, or restored, one after another, and nothing else is changed.
     ensures changes { Goes (T.went tree.old) (T.went tree.new) (ChangesAsked asked.now) }
 {
     let work = work_of(alloc, asked, now);

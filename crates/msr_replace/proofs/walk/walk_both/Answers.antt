@@ -4,7 +4,7 @@ use Rattle.msr_folders.proofs.WalkedLemmas.{on_ok_as}
 use Rattle.msr_replace.specs.Walk.{StopsTellingExchanges}
 use Rattle.msr_replace.proofs.LinesTold.{stops_more}
 use Rattle.msr_replace.proofs.Saying.{both_courses}
-use Rattle.msr_replace.proofs.Touching.{touched_goes}
+use Rattle.msr_replace.proofs.Touching.{touched_both}
 use Rattle.msr_replace.proofs.walk.walk_both.Goals as goal
 
 if_err_as : {A : Type 0} (result : Result A DeviceFault) (P Q : DeviceFault → Type 0) → ((fault : DeviceFault) → P fault → Q fault) → IfErr result P → IfErr result Q
@@ -28,5 +28,5 @@ returns-clause-stops g c =
 
 pub returns-clause-changes : goal.returns-clause-changes
 returns-clause-changes g c =
-    touched_goes c.args.work.now (g.T.Tree.went c.args.tree.now) (g.T.Tree.went c.walk_course.new.tree) (g.T.Tree.went c.walk_course-2.new.tree)
+    touched_both c.args.work.now (g.T.Tree.went c.args.tree.now) (g.T.Tree.went c.walk_course.new.tree) (g.T.Tree.went c.walk_course-2.new.tree)
     c.walk_course.ensures.changes c.walk_course-2.ensures.changes

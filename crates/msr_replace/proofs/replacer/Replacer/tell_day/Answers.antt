@@ -17,7 +17,7 @@ returns-in-Some-clause-told g c = λ kind.
     let on = c.args.self.now.course in
     let work = c.args.self.now.work in
     let path = c.args.path.now in
-    on_ok_as c.tell.result (λ told. visited on work (Entry path kind) (only_line path c.in-Some.outcome) (DoesFor work (IsOfDay on work path) (Ok (Some c.in-Some.outcome)))
+    on_ok_as c.tell.result (λ told. visited on work (Entry path kind) (only_line path c.in-Some.outcome) (DoesFor on work (IsOfDay on work path) (Ok (Some c.in-Some.outcome)))
     (g.T.Tree.went c.args.tree.now) (g.T.Tree.went c.handle.new.tree) (g.O.Sink.device c.args.out.now) (g.O.Sink.device c.tell.new.out)
     c.args.progress.now c.tell.new.progress
     (λ old new is. (is.later, (Some c.in-Some.outcome, refl, record { day = λ one. is.says; other = λ none. absurd (none c.requires.day) })))
@@ -28,7 +28,7 @@ returns-in-None-clause-told g c = λ kind.
     let on = c.args.self.now.course in
     let work = c.args.self.now.work in
     let path = c.args.path.now in
-    visited on work (Entry path kind) [] (DoesFor work (IsOfDay on work path) (Ok None))
+    visited on work (Entry path kind) [] (DoesFor on work (IsOfDay on work path) (Ok None))
     (g.T.Tree.went c.args.tree.now) (g.T.Tree.went c.handle.new.tree) (g.O.Sink.device c.args.out.now) (g.O.Sink.device c.args.out.now)
     c.args.progress.now c.args.progress.now
     (λ old new is. (is.later, (None, refl, record { day = λ one. is.says; other = λ none. absurd (none c.requires.day) })))

@@ -9,7 +9,8 @@ use Rattle.msr_replace.specs.declared.lines.EntryRefusal.TheVariants.{Busy}
 use Rattle.msr_replace.specs.declared.lines.Outcome.TheVariants.{Refused}
 use Rattle.msr_replace.proofs.LinesTold.{none_told}
 use Rattle.msr_replace.proofs.Saying.{none_said, passed_by, visited, visited_still}
-use Rattle.msr_replace.proofs.Touching.{touched_parts, visit_still}
+use Rattle.msr_replace.specs.Touching.{touched_parts}
+use Rattle.msr_replace.proofs.Touching.{visit_does, visit_still}
 use Rattle.msr_replace.proofs.visitor.ReplacerEntryVisitor.enter_folder.Goals as goal
 
 pub returns-then-is_some-clause-told : goal.returns-then-is_some-clause-told
@@ -41,23 +42,43 @@ returns-in-Some-2-clause-told g c =
     visited c.args.self.now.course c.args.self.now.work (Passed c.args.folder.now) (only_line c.args.folder.now c.in-Some-2.outcome) (ChangesOnly (all_parts_in c.args.self.now.work c.args.folder.now))
     (g.T.Tree.went c.args.tree.now) (g.T.Tree.went c.begin.new.tree)
     (g.O.Sink.device c.args.out.now) (g.O.Sink.device c.tell-in-Some-2.new.out) c.args.progress.now c.tell-in-Some-2.new.progress
-    (λ old new changes. (touched_parts c.args.self.now.work c.args.folder.now old new changes, (c.in-Some-2.outcome, refl, rw c.in-Some-2.is at c.in_ok-outcome.ensures.why, changes)))
+    (λ old new changes. (touched_parts c.args.self.now.course c.args.self.now.work c.args.folder.now old new changes, (c.in-Some-2.outcome, refl, rw c.in-Some-2.is at c.in_ok-outcome.ensures.why, changes)))
     c.begin.ensures.goes c.in_ok-tell-2.ensures.told
 
 pub returns-clause-told : goal.returns-clause-told
 returns-clause-told g c = none_said (g.O.Sink.device c.args.out.now) c.args.progress.now
 
 pub returns-then-is_some-clause-does : goal.returns-then-is_some-clause-does
-returns-then-is_some-clause-does g c = visit_still c.args.self.now.work (g.T.Tree.went c.args.tree.now)
+returns-then-is_some-clause-does g c = visit_still c.args.self.now.course c.args.self.now.work (g.T.Tree.went c.args.tree.now)
 
 pub returns-then-levels-gt0-clause-does : goal.returns-then-levels-gt0-clause-does
-returns-then-levels-gt0-clause-does g c = visit_still c.args.self.now.work (g.T.Tree.went c.args.tree.now)
+returns-then-levels-gt0-clause-does g c = visit_still c.args.self.now.course c.args.self.now.work (g.T.Tree.went c.args.tree.now)
 
 pub returns-in_err-locked-clause-does : goal.returns-in_err-locked-clause-does
-returns-in_err-locked-clause-does g c = visit_still c.args.self.now.work (g.T.Tree.went c.args.tree.now)
+returns-in_err-locked-clause-does g c = visit_still c.args.self.now.course c.args.self.now.work (g.T.Tree.went c.args.tree.now)
 
 pub returns-in_err-tell-clause-does : goal.returns-in_err-tell-clause-does
-returns-in_err-tell-clause-does g c = visit_still c.args.self.now.work (g.T.Tree.went c.args.tree.now)
+returns-in_err-tell-clause-does g c = visit_still c.args.self.now.course c.args.self.now.work (g.T.Tree.went c.args.tree.now)
 
 pub returns-in_default-clause-does : goal.returns-in_default-clause-does
-returns-in_default-clause-does g c = visit_still c.args.self.now.work (g.T.Tree.went c.args.tree.now)
+returns-in_default-clause-does g c = visit_still c.args.self.now.course c.args.self.now.work (g.T.Tree.went c.args.tree.now)
+
+pub returns-in_err-outcome-clause-does : goal.returns-in_err-outcome-clause-does
+returns-in_err-outcome-clause-does g c =
+    visit_does c.args.self.now.course c.args.self.now.work (ChangesOnly (all_parts_in c.args.self.now.work c.args.folder.now))
+    (g.T.Tree.went c.args.tree.now) (g.T.Tree.went c.begin.new.tree) (touched_parts c.args.self.now.course c.args.self.now.work c.args.folder.now) c.begin.ensures.goes
+
+pub returns-in_err-tell-2-clause-does : goal.returns-in_err-tell-2-clause-does
+returns-in_err-tell-2-clause-does g c =
+    visit_does c.args.self.now.course c.args.self.now.work (ChangesOnly (all_parts_in c.args.self.now.work c.args.folder.now))
+    (g.T.Tree.went c.args.tree.now) (g.T.Tree.went c.begin.new.tree) (touched_parts c.args.self.now.course c.args.self.now.work c.args.folder.now) c.begin.ensures.goes
+
+pub returns-in-Some-2-clause-does : goal.returns-in-Some-2-clause-does
+returns-in-Some-2-clause-does g c =
+    visit_does c.args.self.now.course c.args.self.now.work (ChangesOnly (all_parts_in c.args.self.now.work c.args.folder.now))
+    (g.T.Tree.went c.args.tree.now) (g.T.Tree.went c.begin.new.tree) (touched_parts c.args.self.now.course c.args.self.now.work c.args.folder.now) c.begin.ensures.goes
+
+pub returns-clause-does : goal.returns-clause-does
+returns-clause-does g c =
+    visit_does c.args.self.now.course c.args.self.now.work (ChangesOnly (all_parts_in c.args.self.now.work c.args.folder.now))
+    (g.T.Tree.went c.args.tree.now) (g.T.Tree.went c.begin.new.tree) (touched_parts c.args.self.now.course c.args.self.now.work c.args.folder.now) c.begin.ensures.goes

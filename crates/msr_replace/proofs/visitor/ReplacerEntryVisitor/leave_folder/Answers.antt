@@ -21,7 +21,7 @@ returns-in-Ok-clause-told g c =
     visited c.args.self.now.course c.args.self.now.work (Left c.args.folder.now) [] (ChangesOnly [])
     (g.T.Tree.went c.args.tree.now) (g.T.Tree.went c.end_folder.new.tree)
     (g.O.Sink.device c.args.out.now) (g.O.Sink.device c.args.out.now) c.args.progress.now c.args.progress.now
-    (λ old new is. (touched_none c.args.self.now.work old new is, (inl refl, is))) c.end_folder.ensures (none_said (g.O.Sink.device c.args.out.now) c.args.progress.now)
+    (λ old new is. (touched_none c.args.self.now.course c.args.self.now.work old new is, (inl refl, is))) c.end_folder.ensures (none_said (g.O.Sink.device c.args.out.now) c.args.progress.now)
 
 pub returns-in-Err-Memory-clause-stops : goal.returns-in-Err-Memory-clause-stops
 returns-in-Err-Memory-clause-stops g c = none_told (g.O.Sink.device c.args.out.now)
@@ -31,22 +31,22 @@ returns-in-Err-Failed-clause-told g c =
     on_ok_as c.tell.result (λ told. visited c.args.self.now.course c.args.self.now.work (Left c.args.folder.now) (only_line c.args.folder.now FolderFailed) (ChangesOnly [])
     (g.T.Tree.went c.args.tree.now) (g.T.Tree.went c.end_folder.new.tree)
     (g.O.Sink.device c.args.out.now) (g.O.Sink.device c.tell.new.out) c.args.progress.now c.tell.new.progress
-    (λ old new is. (touched_none c.args.self.now.work old new is, (inr refl, is))) c.end_folder.ensures told) c.tell.ensures.told
+    (λ old new is. (touched_none c.args.self.now.course c.args.self.now.work old new is, (inr refl, is))) c.end_folder.ensures told) c.tell.ensures.told
 
 pub returns-then-levels-gt0-clause-does : goal.returns-then-levels-gt0-clause-does
-returns-then-levels-gt0-clause-does g c = visit_still c.args.self.now.work (g.T.Tree.went c.args.tree.now)
+returns-then-levels-gt0-clause-does g c = visit_still c.args.self.now.course c.args.self.now.work (g.T.Tree.went c.args.tree.now)
 
 pub returns-in-Ok-clause-does : goal.returns-in-Ok-clause-does
 returns-in-Ok-clause-does g c =
-    visit_does c.args.self.now.work (ChangesOnly []) (g.T.Tree.went c.args.tree.now) (g.T.Tree.went c.end_folder.new.tree)
-    (touched_none c.args.self.now.work) c.end_folder.ensures
+    visit_does c.args.self.now.course c.args.self.now.work (ChangesOnly []) (g.T.Tree.went c.args.tree.now) (g.T.Tree.went c.end_folder.new.tree)
+    (touched_none c.args.self.now.course c.args.self.now.work) c.end_folder.ensures
 
 pub returns-in-Err-Memory-clause-does : goal.returns-in-Err-Memory-clause-does
 returns-in-Err-Memory-clause-does g c =
-    visit_does c.args.self.now.work (ChangesOnly []) (g.T.Tree.went c.args.tree.now) (g.T.Tree.went c.end_folder.new.tree)
-    (touched_none c.args.self.now.work) c.end_folder.ensures
+    visit_does c.args.self.now.course c.args.self.now.work (ChangesOnly []) (g.T.Tree.went c.args.tree.now) (g.T.Tree.went c.end_folder.new.tree)
+    (touched_none c.args.self.now.course c.args.self.now.work) c.end_folder.ensures
 
 pub returns-in-Err-Failed-clause-does : goal.returns-in-Err-Failed-clause-does
 returns-in-Err-Failed-clause-does g c =
-    visit_does c.args.self.now.work (ChangesOnly []) (g.T.Tree.went c.args.tree.now) (g.T.Tree.went c.end_folder.new.tree)
-    (touched_none c.args.self.now.work) c.end_folder.ensures
+    visit_does c.args.self.now.course c.args.self.now.work (ChangesOnly []) (g.T.Tree.went c.args.tree.now) (g.T.Tree.went c.end_folder.new.tree)
+    (touched_none c.args.self.now.course c.args.self.now.work) c.end_folder.ensures

@@ -29,7 +29,7 @@ returns-in-Err-clause-told g c =
     c.tell_other.ensures.told
 
 pub returns-then-is_some-clause-does : goal.returns-then-is_some-clause-does
-returns-then-is_some-clause-does g c = visit_still c.args.self.now.work (g.T.Tree.went c.args.tree.now)
+returns-then-is_some-clause-does g c = visit_still c.args.self.now.course c.args.self.now.work (g.T.Tree.went c.args.tree.now)
 
 pub returns-in-Err-clause-does : goal.returns-in-Err-clause-does
-returns-in-Err-clause-does g c = visit_still c.args.self.now.work (g.T.Tree.went c.args.tree.now)
+returns-in-Err-clause-does g c = visit_still c.args.self.now.course c.args.self.now.work (g.T.Tree.went c.args.tree.now)

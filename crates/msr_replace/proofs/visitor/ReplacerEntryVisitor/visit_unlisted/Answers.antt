@@ -30,7 +30,7 @@ returns-then-branch-clause-told g c =
     let on = c.args.self.now.course in
     let work = c.args.self.now.work in
     let Lacks : Bool → (past new : List Step) → Type 0 = λ lacks past new. OnlyLooks past new × (lacks ≡ true → (on ≢ course.Root) × (is_there past c.args.place.now ≡ false)) in
-    visited on work (WithoutList c.args.folder.now) [] (DoesFor work Lacks (Ok true))
+    visited on work (WithoutList c.args.folder.now) [] (DoesFor on work Lacks (Ok true))
     (g.T.Tree.went c.args.tree.now) (g.T.Tree.went c.may_lack.new.tree) (g.O.Sink.device c.args.out.now) (g.O.Sink.device c.args.out.now)
     c.args.progress.now c.args.progress.now
     (λ old new is.
@@ -44,11 +44,11 @@ returns-clause-told g c =
     let work = c.args.self.now.work in
     let Lacks : Bool → (past new : List Step) → Type 0 = λ lacks past new. OnlyLooks past new × (lacks ≡ true → (on ≢ course.Root) × (is_there past c.args.place.now ≡ false)) in
     on_ok_as c.tell.result (λ told. visited on work (WithoutList c.args.folder.now) (only_line (told_folder c.args.folder.now) (Refused (unlisted_of on)))
-    (DoesFor work Lacks (Ok c.in_ok-may_lack.field-0))
+    (DoesFor on work Lacks (Ok c.in_ok-may_lack.field-0))
     (g.T.Tree.went c.args.tree.now) (g.T.Tree.went c.may_lack.new.tree) (g.O.Sink.device c.args.out.now) (g.O.Sink.device c.tell.new.out)
     c.args.progress.now c.tell.new.progress
     (λ old new is. (is.later, (Some (Refused (unlisted_of on)), refl, refl, is.says.0)))
     c.in_ok-may_lack.ensures.goes told) (rw (c.told_folder.ensures, c.unlisted.ensures) at c.tell.ensures.told)
 
 pub returns-then-is_some-clause-does : goal.returns-then-is_some-clause-does
-returns-then-is_some-clause-does g c = visit_still c.args.self.now.work (g.T.Tree.went c.args.tree.now)
+returns-then-is_some-clause-does g c = visit_still c.args.self.now.course c.args.self.now.work (g.T.Tree.went c.args.tree.now)
