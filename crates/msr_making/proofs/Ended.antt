@@ -12,8 +12,8 @@ use Rattle.msr_naming.proofs.FallingBack.{goes_both}
 use Rattle.msr_naming.specs.Naming.{AreDayNames, day_paths}
 use Rattle.msr_naming.specs.Promise.{HasOwn, HasReport, IsFreeIf, IsUnseenIf}
 use Rattle.msr_naming.specs.declared.files.DayFiles.{DayFiles}
-use Rattle.msr_making.specs.Clearing.{EndsRefused}
-use Rattle.msr_making.specs.Ending.{DoesFound, IsMade, MadeAs, MakesDay, SeeksDay}
+use Rattle.msr_making.specs.Clearing.{EndsSwept, SeesNoneBeside, StaysOrGoes}
+use Rattle.msr_making.specs.Ending.{DoesFound, FailsFor, IsMade, MadeAs, MakesDay, SeeksDay}
 use Rattle.msr_making.specs.Looking.{IsDayLook, IsLookedAt, IsSightAt, IsUnfound}
 use Rattle.msr_making.specs.Making.{DoesDay, IsOwnOfFile, WaitsForStamp}
 use Rattle.msr_making.specs.Places.{AreFileNames, DayPaths, ShowsAllLeft, paths_of}
@@ -38,7 +38,7 @@ use Rattle.msr_making.proofs.Cleared.{unseen_by}
 use Rattle.msr_making.proofs.Lefts.{either_before}
 use Rattle.msr_making.proofs.Owns.{free_kept, more_stamp, none_empty, none_stamp, own_each, own_kept, report_each, report_kept, shows_kept}
 use Rattle.msr_making.proofs.Sights.{day_look_later, looks_kept}
-use Rattle.msr_making.proofs.Untouched.{kept_for, left_claimed, left_then, spared_later, spared_then, still_there, untouched_then}
+use Rattle.msr_making.proofs.Untouched.{given_then, kept_for, left_claimed, left_then, spared_later, spared_then, still_there, untouched_then}
 
 -- a refusal said of a day is so later
 refused_later : (asked : DayOptions) (paths : DayPaths) (why : DayFault) (old mid new : List Step) → failures mid ≤ failures new → IsRefusedThere asked paths why old mid → IsRefusedThere asked paths why old new
@@ -107,6 +107,7 @@ module _ (input : Path) (look : DayLook) (files : DayFiles) (was_left : Bool) (a
               shows_kept files (files.stamp.part ∷ []) (none_stamp files names.names) q r y.changes
               (x.leaves (λ stops. let so = is in cc) (omega arith) names looked (unseen_if is_free p free looked.are) shows);
           unstored = λ not. let few = no_fewer (files.stamp.part ∷ []) q r y.changes in let more = x.unstored not in omega arith;
+          rest = λ nothing undone names. absurd undone;
           changes = changes_then (day_paths files) p q r x.changes (changes_more (files.stamp.part ∷ []) (day_paths files) q r (λ n none. more_stamp files n none) y.changes);
         }) first second
       where
@@ -139,43 +140,44 @@ module _ (input : Path) (look : DayLook) (files : DayFiles) (was_left : Bool) (a
             }
 
     refused_so : (why : DayFault) (outcome : Result DayOutcome AllocError) (p q r : List Step) → failures p ≤ failures q → failures q ≤ failures r
-        → IfOk outcome (λ o. ((o ≡ Refused ClaimedByAnother) × (AreDayNames files → AreUntouched paths q r)) ⊎ ((o ≡ Refused why) × (AreDayNames files → IsLeftFor (stays_for asked why) why paths q r))) → AreDayNames files
-        → IsRefusedThere asked paths why p q × IsKeptFor why paths p q × AreSpared paths p q → IfOk outcome (λ o. IsOutcomeThere asked paths o p r)
+        → IfOk outcome (λ o. ((o ≡ Refused ClaimedByAnother) × (AreDayNames files → AreUntouched paths q r)) ⊎ ((o ≡ Refused why) × (AreDayNames files → StaysOrGoes (stays_for asked why) why paths q r))) → AreDayNames files
+        → IsRefusedThere asked paths why p q × FailsFor why p q × IsKeptFor why paths p q × AreSpared paths p q → IfOk outcome (λ o. IsOutcomeThere asked paths o p r)
     refused_so why (Ok o) p q r few more left are is = ⊎_elim
         (λ claimed. subst (λ (x : DayOutcome). IsOutcomeThere asked paths x p r) (sym claimed.0)
-        (tt, left_claimed paths p r asked.keep_old (spared_then paths p q r few more is.2 (inl (claimed.1 are)))))
+        (tt, left_claimed paths p r asked.keep_old (spared_then paths p q r few more is.3 (inl (claimed.1 are)))))
         (λ so. subst (λ (x : DayOutcome). IsOutcomeThere asked paths x p r) (sym so.0)
-        (refused_later asked paths why p q r more is.0, left_then paths p q r (spared_then paths p q r few more is.2) (stays_for asked why) why few is.1 (so.1 are)))
+        (refused_later asked paths why p q r more is.0, given_then paths p q r (spared_then paths p q r few more is.3) (stays_for asked why) why few more is.1 is.2 (so.1 are)))
         left
     refused_so why (Err e) p q r few more left are is = tt
 
     -- it is refused
     pub given_up : (why : DayFault) (end : DayEnd) (is_stored : Bool) (one mid two : List Step → Type 0) → making.result ≡ Err (stop.Refused why) → (is_stored ≡ true → (end.is_stored ≡ true) × (making.is_stored ≡ true)) → (is_stored ≡ false → (end.is_stored ≡ false) ⊎ (making.is_stored ≡ false))
-        → Goes one mid (MakesDay input look files is_free asked making) → Goes mid two (EndsRefused paths files asked why end)
+        → Goes one mid (MakesDay input look files is_free asked making) → Goes mid two (EndsSwept paths files asked why end)
         → Goes one two (DoesFound input look files was_left asked (record { outcome = end.outcome; left = end.left; is_stored = is_stored }))
     given_up why end is_stored one mid two is both neither first second = goes_both _ _ _ one mid two
         (λ p q r x y. record {
           safe = λ stored is_own is_of names looked settled own has.
               let so = x.safe (both stored).1 is_own is_of names looked (free_if is_free p free looked.are settled) own has in
-              joined (HasOwn is_own is_of files) p q r so (y.safe (both stored).0 is_own is_of names.names (at_end (HasOwn is_own is_of files) p q so));
+              joined (HasOwn is_own is_of files) p q r so (y.ends.safe (both stored).0 is_own is_of names.names (at_end (HasOwn is_own is_of files) p q so));
           killed = λ is_own names looked own has.
               let so = x.killed is_own names looked (unseen_if is_free p free looked.are) own has in
-              joined (HasReport is_own files) p q r so (y.killed is_own names.names (at_end (HasReport is_own files) p q so));
+              joined (HasReport is_own files) p q r so (y.ends.killed is_own names.names (at_end (HasReport is_own files) p q so));
           outcome = λ names looked.
-              refused_so why end.outcome p q r (no_fewer (day_paths files) p q x.changes) (no_fewer (day_paths files) q r y.changes) y.stays names.names
+              refused_so why end.outcome p q r (no_fewer (day_paths files) p q x.changes) (no_fewer (day_paths files) q r y.ends.changes) y.ends.stays names.names
               (subst (λ (m : Result Repacked Stop). MadeAs input files asked is_free making.is_stored m p q) is (x.said names looked));
-          stamp = λ waits names looked settled. absurd (y.unstamped waits);
-          waits = λ waits names looked. absurd (y.unstamped waits);
+          stamp = λ waits names looked settled. absurd (y.ends.unstamped waits);
+          waits = λ waits names looked. absurd (y.ends.unstamped waits);
           leaves = λ ok same names looked shows.
               let few = no_fewer (day_paths files) p q x.changes in
-              let more = no_fewer (day_paths files) q r y.changes in
-              y.leaves ok (omega arith) names.names
+              let more = no_fewer (day_paths files) q r y.ends.changes in
+              y.ends.leaves ok (omega arith) names.names
               (x.leaves (λ stops. let so = is in cc) (omega arith) names looked (unseen_if is_free p free looked.are) shows);
           unstored = λ not.
               let few = no_fewer (day_paths files) p q x.changes in
-              let more = no_fewer (day_paths files) q r y.changes in
-              ⊎_elim (λ n. let fails = y.unstored n in omega arith) (λ n. let fails = x.unstored n in omega arith) (neither not);
-          changes = changes_then (day_paths files) p q r x.changes y.changes;
+              let more = no_fewer (day_paths files) q r y.ends.changes in
+              ⊎_elim (λ n. let fails = y.ends.unstored n in omega arith) (λ n. let fails = x.unstored n in omega arith) (neither not);
+          rest = λ nothing undone names. y.rest nothing names.names;
+          changes = changes_then (day_paths files) p q r x.changes y.ends.changes;
         }) first second
 
     -- memory was refused
@@ -190,6 +192,7 @@ module _ (input : Path) (look : DayLook) (files : DayFiles) (was_left : Bool) (a
           waits = λ waits names looked. absurd cc;
           leaves = λ ok same names looked shows. absurd cc;
           unstored = x.unstored;
+          rest = λ nothing undone names. absurd cc;
           changes = x.changes;
         }) goes
 
@@ -311,6 +314,13 @@ seeks_at a b asked result one two same goes = subst (λ (d : DayPaths). Goes one
 
 -- the whole day
 module _ (input : Path) (files : DayFiles) (was_left : Bool) (asked : DayOptions) where
+  beside_later : (old new : List Step) → ChangesFiles [] old new → SeesNoneBeside files old → SeesNoneBeside files new
+  beside_later old new changes none = (
+    seen_kept [] files.records.part old new tt changes ∙ none.0,
+    seen_kept [] files.report.part old new tt changes ∙ none.1,
+    seen_kept [] files.stamp.part old new tt changes ∙ none.2,
+  )
+
   -- it is left as it is
   pub day_left : (outcome : DayOutcome) (rest : Left) (one two : List Step → Type 0) → (rest ≡ left.Stamp → ⊥) → Goes one two (SeeksDay (paths_of input files) asked (Ok (Ended outcome)))
       → Goes one two (DoesDay input files was_left asked (record { outcome = Ok outcome; left = rest; is_stored = true }))
@@ -322,6 +332,7 @@ module _ (input : Path) (files : DayFiles) (was_left : Bool) (asked : DayOptions
         stamp = λ waits names settled. absurd (unstamped waits);
         waits = λ waits names. absurd (unstamped waits);
         leaves = λ ok same names shows. shows_kept files [] (none_empty files) p q x.changes shows;
+        rest = λ nothing undone names none. beside_later p q x.changes none;
         unstored = λ not. absurd cc;
         changes = changes_more [] (day_paths files) p q (λ n none. tt) x.changes;
       }) goes
@@ -336,6 +347,7 @@ module _ (input : Path) (files : DayFiles) (was_left : Bool) (asked : DayOptions
         stamp = λ waits names settled. absurd (unstamped waits);
         waits = λ waits names. absurd (unstamped waits);
         leaves = λ ok same names shows. absurd cc;
+        rest = λ nothing undone names none. beside_later p q x.changes none;
         unstored = λ not. absurd cc;
         changes = changes_more [] (day_paths files) p q (λ n none. tt) x.changes;
       }) goes
@@ -395,6 +407,7 @@ module _ (input : Path) (files : DayFiles) (was_left : Bool) (asked : DayOptions
             let few = no_fewer [] p q x.changes in
             let more = no_fewer (day_paths files) q r y.changes in
             y.leaves ok (omega arith) names looked (shows_kept files [] (none_empty files) p q x.changes shows);
+        rest = λ nothing undone names none. y.rest nothing undone names;
         unstored = λ not. let few = no_fewer [] p q x.changes in let more = y.unstored not in omega arith;
         changes = changes_then (day_paths files) p q r (changes_more [] (day_paths files) p q (λ n none. tt) x.changes) y.changes;
       }) first second

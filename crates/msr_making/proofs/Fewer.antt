@@ -8,6 +8,7 @@ use Rattle.msr_devices.specs.Device.{Device}
 use Rattle.msr_folders.specs.Totals.{saturated}
 use Rattle.msr_naming.specs.declared.files.DayFiles.{DayFiles}
 use Rattle.msr_options.specs.declared.days.DayOptions.{DayOptions}
+use Rattle.msr_options.specs.declared.hint.Side.TheVariants.{Report as OfReport}
 use Rattle.msr_report.specs.declared.report.Report.{Report}
 use Rattle.msr_report.specs.declared.report.SegmentLine.{SegmentLine}
 use Rattle.msr_report_reader.specs.Content.{Content, ContentLine, content_line}
@@ -139,12 +140,12 @@ module _ (files : DayFiles) (look : DayLook) (asked : DayOptions) where
   }
 
   -- that could not be opened
-  pub left_unopened : {R : Type 0} (device : R → Device) (stop : Stop) (one two : List Step → Type 0) → IsUnopened stop
+  pub left_unopened : {R : Type 0} (device : R → Device) (stop : Stop) (one two : List Step → Type 0) → IsUnopened OfReport stop
       → Goes one two (ActsOnFiles [] (OpensAt files.report.path device) (called_told {T = R} (Err stop))) → Goes one two (AsksForLeft files look asked (Err stop))
   left_unopened {R = R} device stop one two is goes = goes_as _ _ one two (λ p q acts. by_stop stop is p q acts) goes
     where
-      by_stop : (why : Stop) → IsUnopened why → (p q : List Step) → ActsOnFiles [] (OpensAt files.report.path device) (called_told {T = R} (Err why)) p q → AsksForLeft files look asked (Err why) p q
-      by_stop (Refused (CannotOpen u)) ok p q acts = record { changes = acts.changes; said = λ input looked. acts.cause refl }
+      by_stop : (why : Stop) → IsUnopened OfReport why → (p q : List Step) → ActsOnFiles [] (OpensAt files.report.path device) (called_told {T = R} (Err why)) p q → AsksForLeft files look asked (Err why) p q
+      by_stop (Refused (CannotOpen u)) ok p q acts = record { changes = acts.changes; said = λ input looked. (ok, acts.cause refl) }
       by_stop (Refused why) ok p q acts = absurd ok
       by_stop Memory ok p q acts = record { changes = acts.changes; said = λ input looked. tt }
 
@@ -200,7 +201,7 @@ module _ (files : DayFiles) (look : DayLook) (asked : DayOptions) where
       (λ p q asks. record { changes = asks.changes; said = λ input looked. held_as repacked written (Err stop) (paths_of input files) p q case (inr (inr (why stop is (paths_of input files) p q (asks.said input looked)))) }) goes
     where
       why : (s : Stop) → IsStopOfReading s → (paths : DayPaths) (p q : List Step) → IsToldLeft paths look asked (Err s) p q → IsSamplesUntold (Err s) p q
-      why (Refused (CannotOpen u)) ok paths p q failed = record { stop = Refused (CannotOpen u); told = refl; why = inr (inr (u, refl, failed)) }
+      why (Refused (CannotOpen u)) ok paths p q failed = record { stop = Refused (CannotOpen u); told = refl; why = inr (inr (u, refl, failed.1)) }
       why (Refused (Tool fault)) ok paths p q failed = record { stop = Refused (Tool fault); told = refl; why = inr (inl (fault, refl, ok)) }
       why (Refused other) ok paths p q failed = absurd ok
       why Memory ok paths p q failed = record { stop = Memory; told = refl; why = inl refl }

@@ -16,7 +16,7 @@ use Rattle.msr_making.specs.Parts.{part_paths}
 use Rattle.msr_making.specs.Places.{AreFileNames, DayPaths, paths_of}
 use Rattle.msr_making.specs.Shrinking.{HeldAgainst, HeldFor, HoldsAgainst, IsFewer, IsNoFewer, IsSamplesUntold, counts_repacked}
 use Rattle.msr_making.specs.Told.{IsRepackOf, IsUnshrunk, LeavesSamples}
-use Rattle.msr_making.specs.Writing.{IfSeen, IsWrittenTo, WritesDay, WrittenAs}
+use Rattle.msr_making.specs.Writing.{IfSeen, IsOwnOrMade, IsWrittenTo, WritesDay, WrittenAs}
 use Rattle.msr_making.specs.declared.answer.DayFault.TheVariants.{CannotOpen, Larger, Misplaced, Tool}
 use Rattle.msr_making.specs.declared.answer.Repacked.{Repacked}
 use Rattle.msr_making.specs.declared.answer.Stop.{Stop}
@@ -108,7 +108,7 @@ module _ (input : Path) (look : DayLook) (files : DayFiles) (asked : DayOptions)
           (λ rest. ⊎_elim
           (λ is. subst (λ (s : Stop). PreparedAs input files asked (Err s) old new) (sym is.1) (unread is.0 is.2))
           (λ failed. subst (λ (s : Stop). PreparedAs input files asked (Err s) old new) (sym failed.1)
-          (let few = no_fewer l old mid changes in let more = failed.2 in inr (omega arith)))
+          (let few = no_fewer l old mid changes in let more = failed.2 in omega arith))
           rest)
           untold.why)
         where
@@ -124,7 +124,7 @@ module _ (input : Path) (look : DayLook) (files : DayFiles) (asked : DayOptions)
           (λ rest. ⊎_elim (λ fewer. shrunk_there repacked records text result repack fewer) (λ untold. untold_there repacked records text result repack untold) rest)
           held
 
-      held_said : (written result : Result Repacked Stop) → ChangesFiles [] mid new → WrittenAs (IfSeen input old) ((look.input ≡ Unknown) ⊎ (failures old < failures mid)) files asked (λ bytes. length bytes) written mid
+      held_said : (written result : Result Repacked Stop) → ChangesFiles [] mid new → WrittenAs (IfSeen input old) (λ side. IsOwnOrMade side old mid × ((look.input ≡ Unknown) ⊎ (failures old < failures mid))) files asked (λ bytes. length bytes) written mid
           → HeldAgainst paths look asked (counts_repacked written) written result mid new → HeldAs input files asked result old new
       held_said (Ok repacked) result still wrote held = held_of repacked wrote.2.records wrote.2.text (Ok repacked) result
           (record { input = wrote.0; has_input = wrote.1; answers = wrote.2.fit.counted; belong = wrote.2.fit.belong; bytes_read = wrote.2.fit.read })
@@ -154,7 +154,7 @@ module _ (input : Path) (look : DayLook) (files : DayFiles) (asked : DayOptions)
             unshrunk = unshrunk;
           })) held
       held_said (Err (Refused (CannotOpen why))) result still wrote held = subst (λ (r : Result Repacked Stop). HeldAs input files asked r old new) (sym held)
-          (⊎_elim (λ unknown. absurd (at.known.input unknown)) (λ failed. let few = no_fewer [] mid new still in inr (omega arith)) wrote)
+          (⊎_elim (λ unknown. absurd (at.known.input unknown)) (λ failed. let few = no_fewer [] mid new still in omega arith) wrote.1)
       held_said (Err (Refused (Tool why))) result still wrote held = subst (λ (r : Result Repacked Stop). HeldAs input files asked r old new) (sym held)
           (record { input = wrote.0; written = wrote.2.records; told = wrote.2.text; has_input = wrote.1; answers = wrote.2.answers })
       held_said (Err (Refused (Misplaced found))) result still wrote held = subst (λ (r : Result Repacked Stop). HeldAs input files asked r old new) (sym held)

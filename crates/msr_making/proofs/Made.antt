@@ -18,10 +18,10 @@ use Rattle.msr_naming.specs.declared.fallback.Naming.{Naming}
 use Rattle.msr_naming.specs.declared.files.DayFiles.{DayFiles}
 use Rattle.msr_naming.specs.declared.naming.Stopped.{Stopped}
 use Rattle.msr_naming.specs.declared.files.Name.TheVariants.{RecordsPart, ReportPart}
-use Rattle.msr_making.specs.Ending.{IsMadeSide, IsNamedAs, MadeAs, MakesDay, NamedAs, PreparedAs, PreparesDay, WritesHeld}
+use Rattle.msr_making.specs.Ending.{IsNamedAs, MadeAs, MakesDay, NamedAs, PreparedAs, PreparesDay, WritesHeld}
 use Rattle.msr_making.specs.Looking.{IsLookedAt}
 use Rattle.msr_making.specs.Making.{IsOwnOfFile}
-use Rattle.msr_making.specs.Parts.{part_paths}
+use Rattle.msr_making.specs.Parts.{IsMadeSide, part_paths}
 use Rattle.msr_making.specs.Places.{AreFileNames, paths_of}
 use Rattle.msr_making.specs.Verifying.{FailsIfUnopened, VerifiedOf, VerifiesAsked}
 use Rattle.msr_making.specs.Writing.{IfSeen, IsFitOf, IsWrittenTo}
@@ -32,7 +32,7 @@ use Rattle.msr_making.specs.declared.answer.Stop.TheVariants.{Memory, Refused}
 use Rattle.msr_making.specs.declared.looks.DayLook.{DayLook}
 use Rattle.msr_making.proofs.Days.{unread_of}
 use Rattle.msr_making.proofs.Owns.{free_kept, more_parts, none_parts, own_each, own_kept, report_each, report_kept, shows_kept}
-use Rattle.msr_making.proofs.Untouched.{kept_for, unless_made, untouched_by}
+use Rattle.msr_making.proofs.Untouched.{kept_for, spared_made, untouched_by}
 
 -- what is not false
 pub is_so : (b : Bool) → (b ≡ false → ⊥) → b ≡ true
@@ -55,7 +55,7 @@ module _ (input : Path) (look : DayLook) (files : DayFiles) (asked : DayOptions)
   unverified_as : (repacked : Repacked) (stop : Stop) (bytes records text : List ℕ) (old mid new : List Step) → failures old ≤ failures mid → seen old input ≡ Some bytes
       → IsFitOf asked (length bytes) bytes records text repacked → IsTrue asked.check → FailsIfUnopened (Err stop) mid new → VerifiedOf asked.options bytes records text (Err stop)
       → PreparedAs input files asked (Err stop) old new
-  unverified_as repacked (Refused (CannotOpen why)) bytes records text old mid new few has fit check failed is = inr (omega arith)
+  unverified_as repacked (Refused (CannotOpen why)) bytes records text old mid new few has fit check failed is = omega arith
   unverified_as repacked (Refused NotShown) bytes records text old mid new few has fit check failed is = record {
     repacked = repacked;
     records = records;
@@ -160,9 +160,12 @@ module _ (input : Path) (look : DayLook) (files : DayFiles) (asked : DayOptions)
     }) goes
       where
         by_stop : (why : Stop) (p q : List Step) → AreFileNames input files → ChangesFiles l p q → PreparedAs input files asked (Err why) p q → MadeAs input files asked is_free true (Err why) p q
+        by_stop (Refused (CannotOpen u)) p q names changes is =
+            let still = untouched_by input files l (none_parts files names.names) p q changes in
+            (inr is, is, kept_for (paths_of input files) p q (CannotOpen u) still, inl still)
         by_stop (Refused why) p q names changes is =
             let still = untouched_by input files l (none_parts files names.names) p q changes in
-            (is, kept_for (paths_of input files) p q why still, inl still)
+            (is, tt, kept_for (paths_of input files) p q why still, inl still)
         by_stop Memory p q names changes is = tt
 
     module _ (repacked : Repacked) (naming : Naming) (old mid new : List Step) (prepares : PreparesDay input look files asked (Ok repacked) old mid) (names_it : NamesDay files is_free naming mid new) where
@@ -205,7 +208,8 @@ module _ (input : Path) (look : DayLook) (files : DayFiles) (asked : DayOptions)
       made_as (Err fault.Failed) result is sees stores gives cause names at =
           let few = no_fewer l old mid prepares.changes in
           let more = cause refl in
-          subst (λ (r : Result Repacked Stop). MadeAs input files asked is_free naming.is_stored r old new) (sym is.2) (inr (omega arith), unless_made is.0.side _ is.1, inr (omega arith))
+          subst (λ (r : Result Repacked Stop). MadeAs input files asked is_free naming.is_stored r old new) (sym is.2)
+          (inr (omega arith), omega arith, spared_made (paths_of input files) is.0.side old new is.1 (inr (omega arith)), inr (omega arith))
       made_as (Err fault.Memory) result is sees stores gives cause names at =
           subst (λ (r : Result Repacked Stop). MadeAs input files asked is_free naming.is_stored r old new) (sym is) tt
 

@@ -36,7 +36,7 @@ said_then paths look old mid new changes said = record { are = said.are; failed 
 module _ (paths : DayPaths) (asked : DayOptions) (look : DayLook) where
   -- nothing was made
   untouched : (u : Unopened) (p q : List Step) → ChangesFiles [] p q → IsLeftFor asked.keep_old (CannotOpen u) paths p q
-  untouched u p q changes = left_untouched paths p q asked.keep_old (CannotOpen u) (still_there paths p q changes) tt
+  untouched u p q changes = left_untouched paths p q asked.keep_old (CannotOpen u) (still_there paths p q changes) (inl (still_there paths p q changes))
 
   pub found_unknown : (u : Unopened) (one two : List Step → Type 0) → HasUnknown look → Goes one two (FindsDay paths (Ok look)) → Goes one two (SeeksDay paths asked (Ok (Ended (Refused (CannotOpen u)))))
   found_unknown u one two unknown goes = asks_as _ (SaysFound paths asked) (given look) (given (Ended (Refused (CannotOpen u)))) one two (λ p q x said. (inr (said.failed unknown), untouched u p q x)) goes

@@ -3,6 +3,7 @@ use Rattle.std.proofs.Common.{◌≡◌, ⊎_elim, ◌≤◌, ℕ, false, List, 
 use Rattle.msr_devices.specs.Device.{Device, HasLeft, unused}
 use Rattle.msr_options.specs.Choice.{Choice}
 use Rattle.msr_options.specs.declared.days.DayOptions.{DayOptions}
+use Rattle.msr_options.specs.declared.hint.Side.{Side}
 use Rattle.msr_tree.specs.Folders.{ActsOnFiles}
 use Rattle.msr_tree.specs.Calls.{Goes, Opens, Tells}
 use Rattle.msr_tree.specs.Folders.{ChangesFiles}
@@ -59,11 +60,11 @@ module _ (input : Path) (files : DayFiles) (choice : Choice) where
         said = λ file records text f c t. y.said file records text (seen_kept [] input p q tt x.changes ∙ f) (seen_kept [] files.records.part p q tt x.changes ∙ c) (seen_kept [] files.report.part p q tt x.changes ∙ t);
       }) first second
 
-  pub not_opened : {A : Type 0} (First : (old new : List Step) → A → Type 0) (stop : Stop) (one two : List Step → Type 0) → IsUnopened stop
+  pub not_opened : {A : Type 0} (First : (old new : List Step) → A → Type 0) (side : Side) (stop : Stop) (one two : List Step → Type 0) → IsUnopened side stop
       → Goes one two (ActsOnFiles [] First (called_told {T = A} (Err stop))) → Goes one two (V (Err stop))
-  not_opened {A = A} First stop one two is goes = goes_as _ _ one two (λ p q acts. by_stop stop is p q acts) goes
+  not_opened {A = A} First side stop one two is goes = goes_as _ _ one two (λ p q acts. by_stop stop is p q acts) goes
     where
-      by_stop : (why : Stop) → IsUnopened why → (p q : List Step) → ActsOnFiles [] First (called_told {T = A} (Err why)) p q → V (Err why) p q
+      by_stop : (why : Stop) → IsUnopened side why → (p q : List Step) → ActsOnFiles [] First (called_told {T = A} (Err why)) p q → V (Err why) p q
       by_stop (Refused (CannotOpen u)) ok p q acts = record { changes = acts.changes; failed = acts.cause refl; said = λ file records text f c t. tt }
       by_stop (Refused why) ok p q acts = absurd ok
       by_stop Memory ok p q acts = record { changes = acts.changes; failed = tt; said = λ file records text f c t. tt }
@@ -169,7 +170,7 @@ unasked_verified input files asked one not = record {
 }
 
 -- a file that was not opened says nothing of some day
-pub unopened_was : (choice : Choice) (stop : Stop) → IsUnopened stop → WasVerifiedAs choice (Err stop)
-unopened_was choice (Refused (CannotOpen u)) is = tt
-unopened_was choice (Refused why) is = absurd is
-unopened_was choice Memory is = tt
+pub unopened_was : (choice : Choice) (side : Side) (stop : Stop) → IsUnopened side stop → WasVerifiedAs choice (Err stop)
+unopened_was choice side (Refused (CannotOpen u)) is = tt
+unopened_was choice side (Refused why) is = absurd is
+unopened_was choice side Memory is = tt

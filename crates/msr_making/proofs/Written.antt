@@ -2,6 +2,8 @@
 use Rattle.std.proofs.Common.{◌≡◌, ◌⊎◌, ◌<◌, inl, inr, ⊎_elim, ℕ, List, [], refl, sym, ◌∙◌, ap, subst, Result, Ok, Err, Some, None, length, option_map}
 use Rattle.msr_devices.specs.Device.{Device, HasLeft, unused}
 use Rattle.msr_options.specs.declared.days.DayOptions.{DayOptions}
+use Rattle.msr_options.specs.declared.hint.Side.{Side}
+use Rattle.msr_options.specs.declared.hint.Side.TheVariants.{File as OwnFile}
 use Rattle.msr_tool.specs.declared.fault.ToolFault.TheVariants as tool
 use Rattle.msr_tree.specs.Folders.{ActsOnFiles}
 use Rattle.msr_tree.specs.Calls.{Goes, Looks, Opens, Tells}
@@ -14,8 +16,8 @@ use Rattle.msr_tree.proofs.Filing.{changes_more, changes_then}
 use Rattle.msr_naming.proofs.FallingBack.{goes_both}
 use Rattle.msr_naming.specs.declared.files.DayFiles.{DayFiles}
 use Rattle.msr_making.specs.Looking.{IsSightAt}
-use Rattle.msr_making.specs.Parts.{AreBegun, AreFinished, IsUnopened, called_told, part_paths}
-use Rattle.msr_making.specs.Writing.{IfHasLeft, IfSeen, IsUnfit, IsWrittenTo, RefusesNothing, RepackedOf, RepacksParts, SaysNothing, WasRepacked, WritesDay, WritesFrom, WrittenAs}
+use Rattle.msr_making.specs.Parts.{AreBegun, AreFinished, IsMadeSide, IsUnmade, IsUnopened, called_told, part_paths}
+use Rattle.msr_making.specs.Writing.{IfHasLeft, IfSeen, IsOwnOrMade, IsUnfit, IsWrittenTo, RefusesNothing, RepackedOf, RepacksParts, WasRepacked, WritesDay, WritesFrom, WrittenAs}
 use Rattle.msr_making.specs.declared.answer.DayFault.TheVariants.{CannotOpen, Tool}
 use Rattle.msr_making.specs.declared.answer.Repacked.{Repacked}
 use Rattle.msr_making.specs.declared.answer.Stop.{Stop}
@@ -34,16 +36,16 @@ module _ (source : Device) (files : DayFiles) (asked : DayOptions) (bytes_read :
   abbrev From : Result Repacked Stop → (old new : List Step) → Type 0
   From result old new = WritesFrom source files asked bytes_read result old new
 
-  unopened : {A : Type 0} (Done : (old new : List Step) → A → Type 0) (stop : Stop) (old new : List Step) → IsUnopened stop → ActsOnFiles l Done (called_told {T = A} (Err stop)) old new → From (Err stop) old new
-  unopened Done (Refused (CannotOpen why)) old new is acts = record { changes = acts.changes; said = acts.cause refl }
-  unopened Done (Refused why) old new is acts = absurd is
+  unopened : {A : Type 0} (Done : (old new : List Step) → A → Type 0) (stop : Stop) (old new : List Step) → IsUnmade stop → ActsOnFiles l Done (called_told {T = A} (Err stop)) old new → From (Err stop) old new
+  unopened Done (Refused (CannotOpen why)) old new is acts = record { changes = acts.changes; said = (subst (λ (s : Side). IsMadeSide s) (sym is.2) is.1, acts.cause refl) }
+  unopened Done (Refused why) old new is acts = absurd is.2
   unopened Done Memory old new is acts = record { changes = acts.changes; said = tt }
 
-  pub not_begun : {W : Type 0} (device : W → Device) (stop : Stop) (one two : List Step → Type 0) → IsUnopened stop
+  pub not_begun : {W : Type 0} (device : W → Device) (stop : Stop) (one two : List Step → Type 0) → IsUnmade stop
       → Goes one two (ActsOnFiles l (AreBegun device) (called_told {T = Parts W} (Err stop))) → Goes one two (From (Err stop))
   not_begun {W = W} device stop one two is goes = goes_as _ _ one two (λ p q acts. unopened {A = Parts W} (AreBegun device) stop p q is acts) goes
 
-  said_unfit : (U : Type 0) (stop : Stop) (input records text : List ℕ) (new : List Step) → HasLeft source input → RepackedOf asked bytes_read input records text (Err stop)
+  said_unfit : (U : Side → Type 0) (stop : Stop) (input records text : List ℕ) (new : List Step) → HasLeft source input → RepackedOf asked bytes_read input records text (Err stop)
       → WrittenAs (IfHasLeft source) U files asked (λ bytes. bytes_read) (Err stop) new
   said_unfit U (Refused (CannotOpen why)) input records text new left is = absurd is
   said_unfit U (Refused why) input records text new left is = (input, left, record { records = records; text = text; answers = is })
@@ -54,7 +56,7 @@ module _ (source : Device) (files : DayFiles) (asked : DayOptions) (bytes_read :
       → RepacksParts asked bytes_read source records0 records text0 text (Err stop)
       → Goes one two (ActsOnFiles l (AreBegun device) (giving parts)) → Goes one two (From (Err stop))
   not_fit device parts stop records0 records text0 text one two does goes =
-      goes_as _ _ one two (λ p q acts. record { changes = acts.changes; said = said_unfit (failures p < failures q) stop does.input does.written does.told q does.left does.answers }) goes
+      goes_as _ _ one two (λ p q acts. record { changes = acts.changes; said = said_unfit (λ side. IsMadeSide side × (failures p < failures q)) stop does.input does.written does.told q does.left does.answers }) goes
 
   module _ {W : Type 0} (device : W → Device) (parts : Parts W) (records text : Device) (repacked : Repacked)
       (does : RepacksParts asked bytes_read source (device parts.records) records (device parts.report) text (Ok repacked)) (one mid two : List Step → Type 0)
@@ -107,11 +109,11 @@ module _ (input : Path) (files : DayFiles) (asked : DayOptions) where
       (is.0, has, so is.0 has is.2)
 
   opened_as : (sight : Sight) (facts : Facts) (source : Device) (result : Result Repacked Stop) (old new : List Step) → Looks input old (Some facts) → Opens input old source
-      → WrittenAs (IfHasLeft source) (failures old < failures new) files asked (λ bytes. facts.bytes) result new
-      → WrittenAs (IfSeen input old) ((sight ≡ Unknown) ⊎ (failures old < failures new)) files asked (λ bytes. length bytes) result new
+      → WrittenAs (IfHasLeft source) (λ side. IsMadeSide side × (failures old < failures new)) files asked (λ bytes. facts.bytes) result new
+      → WrittenAs (IfSeen input old) (λ side. IsOwnOrMade side old new × ((sight ≡ Unknown) ⊎ (failures old < failures new))) files asked (λ bytes. length bytes) result new
   opened_as sight facts source (Ok repacked) old new looks opens said =
       seen_left source _ _ old opens (λ bytes has is. subst (λ (n : ℕ). IsWrittenTo files asked n bytes new repacked) (found_length input old facts bytes looks has) is) said
-  opened_as sight facts source (Err (Refused (CannotOpen why))) old new looks opens said = inr said
+  opened_as sight facts source (Err (Refused (CannotOpen why))) old new looks opens said = (inr said.0, inr said.1)
   opened_as sight facts source (Err (Refused why)) old new looks opens said =
       seen_left source _ _ old opens (λ bytes has is. subst (λ (n : ℕ). IsUnfit asked n bytes (Refused why)) (found_length input old facts bytes looks has) is) said
   opened_as sight facts source (Err Memory) old new looks opens said = tt
@@ -125,16 +127,17 @@ module _ (input : Path) (files : DayFiles) (asked : DayOptions) where
         said = λ looks. opened_as (Found facts) facts (device reader) result q r looks (subst (λ (l : List Step). Opens input l (device reader)) (sym x.0) x.1) y.said;
       })) opened writes
 
-  pub day_unopened : {R : Type 0} (device : R → Device) (sight : Sight) (stop : Stop) (answer : Result R TreeFault) (one two : List Step → Type 0) → called_told {T = R} (Err stop) ≡ answer → IsUnopened stop
-      → Goes one two (Tells (λ past reader. Opens input past (device reader)) answer) → Goes one two (WritesDay input sight files asked (Err stop))
-  day_unopened {R = R} device sight stop answer one two is un goes =
-      goes_as _ _ one two (λ p q tells. by_stop stop un p q tells) (subst (λ (a : Result R TreeFault). Goes one two (Tells (λ past reader. Opens input past (device reader)) a)) (sym is) goes)
+  pub day_unopened : {R : Type 0} (device : R → Device) (sight : Sight) (stop : Stop) (one two : List Step → Type 0) → IsUnopened OwnFile stop
+      → Goes one two (Tells (λ past reader. Opens input past (device reader)) (called_told {T = R} (Err stop))) → Goes one two (WritesDay input sight files asked (Err stop))
+  day_unopened {R = R} device sight stop one two un goes = goes_as _ _ one two (λ p q tells. by_stop stop un p q tells) goes
     where
-      by_stop : (why : Stop) → IsUnopened why → (p q : List Step) → Tells (λ past reader. Opens input past (device reader)) (called_told {T = R} (Err why)) p q → WritesDay input sight files asked (Err why) p q
-      by_stop (Refused (CannotOpen u)) ok p q tells = record {
-        changes = changes_more [] (part_paths files) p q (λ n none. tt) (tells_changes (λ past reader. Opens input past (device reader)) (stopping R fault.Failed) p q tells);
-        said = λ looks. inr (tells_failed {A = R} (λ past reader. Opens input past (device reader)) p q tells);
-      }
+      by_stop : (why : Stop) → IsUnopened OwnFile why → (p q : List Step) → Tells (λ past reader. Opens input past (device reader)) (called_told {T = R} (Err why)) p q → WritesDay input sight files asked (Err why) p q
+      by_stop (Refused (CannotOpen u)) ok p q tells =
+          let none = tells_changes (λ past reader. Opens input past (device reader)) (stopping R fault.Failed) p q tells in
+          record {
+            changes = changes_more [] (part_paths files) p q (λ n none. tt) none;
+            said = λ looks. (inl (ok, none), inr (tells_failed {A = R} (λ past reader. Opens input past (device reader)) p q tells));
+          }
       by_stop (Refused u) ok p q tells = absurd ok
       by_stop Memory ok p q tells = record {
         changes = changes_more [] (part_paths files) p q (λ n none. tt) (tells_changes (λ past reader. Opens input past (device reader)) (stopping R fault.Memory) p q tells);
@@ -142,24 +145,27 @@ module _ (input : Path) (files : DayFiles) (asked : DayOptions) where
       }
 
   -- a file that a look did not find
-  nothing_as : (sight : Sight) (stop : Stop) (old new : List Step) → ((facts : Facts) → sight ≡ Found facts → ⊥) → SaysNothing input stop old new → IsSightAt input old sight
-      → WrittenAs (IfSeen input old) ((sight ≡ Unknown) ⊎ (failures old < failures new)) files asked (λ bytes. length bytes) (Err stop) new
-  nothing_as (Found facts) stop old new not said is = absurd (not facts refl)
-  nothing_as Unknown (Refused (CannotOpen why)) old new not said is = inl refl
-  nothing_as Nothing (Refused (CannotOpen why)) old new not said is = ⊎_elim
-      (λ has. let other : seen old input ≡ None = ap (λ found. option_map (λ file. file.bytes) found) is in let here = has.1 in absurd cc)
-      (λ failed. inr failed) said
-  nothing_as sight (Refused why) old new not said is = absurd said
-  nothing_as sight Memory old new not said is = tt
+  nothing_as : (sight : Sight) (stop : Stop) (old new : List Step) → ((facts : Facts) → sight ≡ Found facts → ⊥) → IsUnopened OwnFile stop → RefusesNothing input stop old new → IsSightAt input old sight
+      → WrittenAs (IfSeen input old) (λ side. IsOwnOrMade side old new × ((sight ≡ Unknown) ⊎ (failures old < failures new))) files asked (λ bytes. length bytes) (Err stop) new
+  nothing_as (Found facts) stop old new not own refuses is = absurd (not facts refl)
+  nothing_as Unknown (Refused (CannotOpen why)) old new not own refuses is = (inl (own, refuses.changes), inl refl)
+  nothing_as Nothing (Refused (CannotOpen why)) old new not own refuses is = (
+    inl (own, refuses.changes),
+    ⊎_elim
+        (λ has. let other : seen old input ≡ None = ap (λ found. option_map (λ file. file.bytes) found) is in let here = has.1 in absurd cc)
+        (λ failed. inr failed) refuses.said,
+  )
+  nothing_as sight (Refused why) old new not own refuses is = absurd own
+  nothing_as sight Memory old new not own refuses is = tt
 
-  pub day_refused : (sight : Sight) (stop : Stop) (one two : List Step → Type 0) → ((facts : Facts) → sight ≡ Found facts → ⊥) → Goes one two (RefusesNothing input stop) → Goes one two (WritesDay input sight files asked (Err stop))
-  day_refused sight stop one two not goes = goes_as _ _ one two (λ p q refuses. record {
+  pub day_refused : (sight : Sight) (stop : Stop) (one two : List Step → Type 0) → ((facts : Facts) → sight ≡ Found facts → ⊥) → IsUnopened OwnFile stop → Goes one two (RefusesNothing input stop) → Goes one two (WritesDay input sight files asked (Err stop))
+  day_refused sight stop one two not own goes = goes_as _ _ one two (λ p q refuses. record {
     changes = changes_more [] (part_paths files) p q (λ n none. tt) refuses.changes;
-    said = λ is. nothing_as sight stop p q not refuses.said is;
+    said = λ is. nothing_as sight stop p q not own refuses is;
   }) goes
 
 -- a file that was not opened or made says nothing of some day
-pub unopened_repacked : (asked : DayOptions) (stop : Stop) → IsUnopened stop → WasRepacked asked (Err stop)
-unopened_repacked asked (Refused (CannotOpen u)) is = tt
-unopened_repacked asked (Refused why) is = absurd is
-unopened_repacked asked Memory is = tt
+pub unopened_repacked : (asked : DayOptions) (side : Side) (stop : Stop) → IsUnopened side stop → WasRepacked asked (Err stop)
+unopened_repacked asked side (Refused (CannotOpen u)) is = tt
+unopened_repacked asked side (Refused why) is = absurd is
+unopened_repacked asked side Memory is = tt

@@ -2,8 +2,6 @@
 use Rattle.std.specs.Prelude.{◌≡◌, ◌⊎◌, ◌<◌, ℕ, ⊤, Bool, true, false, List, IfOk, IsOk, IsTrue, Some, Result, Ok, Err, length}
 use Rattle.std.specs.declared.alloc.AllocError.{AllocError}
 use Rattle.msr_options.specs.declared.days.DayOptions.{DayOptions}
-use Rattle.msr_options.specs.declared.hint.Side.{Side}
-use Rattle.msr_options.specs.declared.hint.Side.TheVariants.{Records, Report as OfReport}
 use Rattle.msr_options.specs.declared.hint.Unopened.{Unopened}
 use Rattle.msr_tree.specs.Folders.{ChangesFiles}
 use Rattle.msr_tree.specs.Steps.{AtEachMoment, Path, Step, failures, seen}
@@ -13,14 +11,16 @@ use Rattle.msr_naming.specs.Naming.{day_paths, told}
 use Rattle.msr_naming.specs.Promise.{AreNamed, AreReady, HasOwn, HasReport, HaveDayNames, IsFreeIf, IsUnseenIf, ShowsDay}
 use Rattle.msr_naming.specs.declared.fallback.Naming.{Naming}
 use Rattle.msr_naming.specs.declared.files.DayFiles.{DayFiles}
+use Rattle.msr_making.specs.Clearing.{SeesNoneBeside}
 use Rattle.msr_making.specs.Day.{IsDayOutcome, IsDone, IsRepackedDay, IsVerifiedBy}
 use Rattle.msr_making.specs.Looking.{Asks, IsSightKnown, IsLookedAt, SaysDay}
-use Rattle.msr_making.specs.Making.{AwaitsStamp, IsOwnOfFile, WaitsForStamp}
-use Rattle.msr_making.specs.Parts.{part_paths}
+use Rattle.msr_making.specs.Making.{AwaitsStamp, IsOwnOfFile, IsUndone, WaitsForStamp}
+use Rattle.msr_making.specs.Parts.{IsMadeSide, part_paths}
 use Rattle.msr_making.specs.Places.{AreFileNames, DayPaths, ShowsAllLeft, paths_of}
 use Rattle.msr_making.specs.Told.{AreSpared, IsKeptFor, IsOutcomeThere, IsRefusedThere, IsUnshrunk}
 use Rattle.msr_making.specs.Writing.{IfSeen, IsFit, IsFitOf, IsWrittenTo}
 use Rattle.msr_making.specs.declared.answer.DayEnd.{DayEnd}
+use Rattle.msr_making.specs.declared.answer.DayFault.{DayFault}
 use Rattle.msr_making.specs.declared.answer.DayFault.TheVariants.{CannotOpen}
 use Rattle.msr_making.specs.declared.answer.Left.TheVariants as left
 use Rattle.msr_making.specs.declared.answer.Repacked.{Repacked}
@@ -61,9 +61,15 @@ pub record IsMadeReady (input : Path) (files : DayFiles) (asked : DayOptions) (r
   pub unshrunk : IsUnshrunk asked (paths_of input files) repacked old
   pub ready : AreReady files records text new
 
+-- a call failed if a day that is to be made is refused for what could not be opened or made
+abbrev pub FailsFor : DayFault → (old new : List Step) → Type 0
+FailsFor (CannotOpen unopened) old new = failures old < failures new
+FailsFor why old new = Unit {0}
+
 -- what an answer says of a day of which a look told
 abbrev pub PreparedAs : Path → DayFiles → DayOptions → Result Repacked Stop → (old new : List Step) → Type 0
 PreparedAs input files asked (Ok repacked) old new = IsMadeReady input files asked repacked old new
+PreparedAs input files asked (Err (Refused (CannotOpen unopened))) old new = FailsFor (CannotOpen unopened) old new
 PreparedAs input files asked (Err (Refused why)) old new = IsRefusedThere asked (paths_of input files) why old new
 PreparedAs input files asked (Err Memory) old new = Unit {0}
 
@@ -88,10 +94,6 @@ pub record WritesHeld (input : Path) (look : DayLook) (files : DayFiles) (asked 
 abbrev pub WasHeld : DayOptions → Result Repacked Stop → Type 0
 WasHeld asked (Ok repacked) = IsFit asked repacked
 WasHeld asked (Err stop) = IsRepackedAs asked (Err stop)
-
--- a file that is made
-abbrev pub IsMadeSide : Side → Type 0
-IsMadeSide side = (side ≡ Records) ⊎ (side ≡ OfReport)
 
 -- what is told where names were given, or not
 abbrev pub NamedAs : Repacked → Result (Unit {0}) TreeFault → Result Repacked Stop → Type 0
@@ -119,7 +121,7 @@ pub record IsMade (input : Path) (files : DayFiles) (asked : DayOptions) (is_fre
 abbrev pub MadeAs : Path → DayFiles → DayOptions → (is_free is_stored : Bool) → Result Repacked Stop → (old new : List Step) → Type 0
 MadeAs input files asked is_free is_stored (Ok repacked) old new = IsMade input files asked is_free is_stored repacked old new
 MadeAs input files asked is_free is_stored (Err (Refused why)) old new = IsRefusedThere asked (paths_of input files) why old new
-    × IsKeptFor why (paths_of input files) old new × AreSpared (paths_of input files) old new
+    × FailsFor why old new × IsKeptFor why (paths_of input files) old new × AreSpared (paths_of input files) old new
 MadeAs input files asked is_free is_stored (Err Memory) old new = Unit {0}
 
 pub record MakesDay (input : Path) (look : DayLook) (files : DayFiles) (is_free : Bool) (asked : DayOptions) (making : Making) (old new : List Step) : Type 0 where
@@ -150,5 +152,6 @@ pub record DoesFound (input : Path) (look : DayLook) (files : DayFiles) (was_lef
   pub waits : end.left ≡ left.Stamp → AreFileNames input files → IsLookedAt (paths_of input files) look old → WaitsForStamp input files asked.options old new
   pub leaves : IsOk end.outcome → failures new ≡ failures old
       → AreFileNames input files → IsLookedAt (paths_of input files) look old → ShowsDay files old → ShowsDay files new
+  pub rest : end.left ≡ left.Nothing → IfOk end.outcome IsUndone → AreFileNames input files → SeesNoneBeside files new
   pub unstored : end.is_stored ≡ false → failures old < failures new
   pub changes : ChangesFiles (day_paths files) old new

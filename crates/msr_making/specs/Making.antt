@@ -12,11 +12,14 @@ use Rattle.msr_tree.specs.declared.facts.Facts.{Facts}
 use Rattle.msr_naming.specs.Naming.{day_paths}
 use Rattle.msr_naming.specs.Promise.{HasOwn, HasReport, HaveDayNames, ShowsDay}
 use Rattle.msr_naming.specs.declared.files.DayFiles.{DayFiles}
+use Rattle.msr_making.specs.Clearing.{SeesNoneBeside}
 use Rattle.msr_making.specs.Places.{AreFileNames, DayPaths, ShowsAllLeft, paths_of}
 use Rattle.msr_stamp.specs.Stamp.{stamp_of, stamp_text}
 use Rattle.msr_stamp.specs.declared.stamp.StampOf.TheVariants.{Input}
 use Rattle.msr_making.specs.Told.{IsOutcomeThere, IsSameThere}
 use Rattle.msr_making.specs.declared.answer.DayEnd.{DayEnd}
+use Rattle.msr_making.specs.declared.answer.DayOutcome.{DayOutcome}
+use Rattle.msr_making.specs.declared.answer.DayOutcome.TheVariants.{Done}
 use Rattle.msr_making.specs.declared.answer.Left.TheVariants as left
 use Rattle.msr_making.specs.declared.answer.Repacked.{Repacked}
 
@@ -49,9 +52,15 @@ pub record AwaitsStamp (input : Path) (files : DayFiles) (choice : Choice) (old 
   pub waits : WaitsForStamp input files choice old new
   pub unstamped : Leaves new files.stamp.path None
 
+-- a day is left as it is, or refused
+abbrev pub IsUndone : DayOutcome → Type 0
+IsUndone (Done repacked) = ⊥
+IsUndone outcome = Unit {0}
+
 -- A day is done, or left as it is, or refused. If it has its own before, it has it at each moment since: whatever a crash
 -- leaves then, if each folder was stored that was to be; and in any case if the walk is killed then. If it ends and no call
--- fails, what is not seen of it cannot come back, if it could not before.
+-- fails, what is not seen of it cannot come back, if it could not before. If it is not done, and told that nothing is left,
+-- nothing is seen beside its names, also if a call failed, if nothing was before.
 pub record DoesDay (input : Path) (files : DayFiles) (was_left : Bool) (asked : DayOptions) (end : DayEnd) (old new : List Step) : Type 0 where
   pub safe : end.is_stored ≡ true → (is_own : (records report : List ℕ) → Bool) (is_of : (stamp records report : List ℕ) → Bool)
       → AreFileNames input files → ShowsAllLeft was_left input files old → IsOwnOfFile input asked.options is_own old
@@ -64,6 +73,7 @@ pub record DoesDay (input : Path) (files : DayFiles) (was_left : Bool) (asked : 
       → AwaitsStamp input files asked.options old new
   pub waits : end.left ≡ left.Stamp → AreFileNames input files → WaitsForStamp input files asked.options old new
   pub leaves : IsOk end.outcome → failures new ≡ failures old → AreFileNames input files → ShowsDay files old → ShowsDay files new
+  pub rest : end.left ≡ left.Nothing → IfOk end.outcome IsUndone → AreFileNames input files → SeesNoneBeside files old → SeesNoneBeside files new
   pub unstored : end.is_stored ≡ false → failures old < failures new
   pub changes : ChangesFiles (day_paths files) old new
 

@@ -1,11 +1,13 @@
 -- Records and report of a day, beside their names.
-use Rattle.std.specs.Prelude.{◌≡◌, false, List, [], ◌∷◌, bytes_eq, Result, Ok, Err}
+use Rattle.std.specs.Prelude.{◌≡◌, ◌⊎◌, false, List, [], ◌∷◌, bytes_eq, Result, Ok, Err}
 use Rattle.msr_devices.specs.Device.{Device}
 use Rattle.msr_tree.specs.Steps.{Path, Step}
 use Rattle.msr_tree.specs.declared.tree.TreeFault.{TreeFault}
 use Rattle.msr_tree.specs.declared.tree.TreeFault.TheVariants as fault
 use Rattle.msr_stamp.specs.Making.{IsBegun, LeadsToTaken}
 use Rattle.msr_naming.specs.declared.files.DayFiles.{DayFiles}
+use Rattle.msr_options.specs.declared.hint.Side.{Side}
+use Rattle.msr_options.specs.declared.hint.Side.TheVariants.{Records, Report as OfReport}
 use Rattle.msr_making.specs.declared.answer.DayFault.TheVariants.{CannotOpen}
 use Rattle.msr_making.specs.declared.answer.Stop.{Stop}
 use Rattle.msr_making.specs.declared.answer.Stop.TheVariants.{Refused, Memory}
@@ -21,11 +23,19 @@ abbrev pub called_told : {T : Type 0} → Result T Stop → Result T TreeFault
 called_told (Ok x) = Ok x
 called_told (Err stop) = Err (call_fault stop)
 
--- a file could not be opened or made, or memory was refused
-abbrev pub IsUnopened : Stop → Type 0
-IsUnopened (Refused (CannotOpen unopened)) = Unit {0}
-IsUnopened (Refused why) = ⊥
-IsUnopened Memory = Unit {0}
+-- this of a day could not be opened or made, or memory was refused
+abbrev pub IsUnopened : Side → Stop → Type 0
+IsUnopened side (Refused (CannotOpen unopened)) = unopened.side ≡ side
+IsUnopened side (Refused why) = ⊥
+IsUnopened side Memory = Unit {0}
+
+-- a file that is made
+abbrev pub IsMadeSide : Side → Type 0
+IsMadeSide side = (side ≡ Records) ⊎ (side ≡ OfReport)
+
+-- one of these could not be made
+abbrev pub IsUnmade : Stop → Type 0
+IsUnmade stop = (side : Side) × IsMadeSide side × IsUnopened side stop
 
 -- the names beside those of records and report
 abbrev pub part_paths : DayFiles → List Path

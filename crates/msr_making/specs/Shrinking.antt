@@ -4,6 +4,7 @@ use Rattle.msr_devices.specs.Device.{Device, HasLeft}
 use Rattle.msr_folders.specs.Totals.{saturated}
 use Rattle.msr_naming.specs.declared.files.DayFiles.{DayFiles}
 use Rattle.msr_options.specs.declared.days.DayOptions.{DayOptions}
+use Rattle.msr_options.specs.declared.hint.Side.TheVariants.{Report as OfReport}
 use Rattle.msr_options.specs.declared.hint.Unopened.{Unopened}
 use Rattle.msr_report.specs.declared.report.Report.{Report}
 use Rattle.msr_report_reader.specs.Reading.{IsReadFrom}
@@ -51,7 +52,7 @@ abbrev pub IsToldLeft : DayPaths → DayLook → DayOptions → Result (Option �
 IsToldLeft paths look asked (Ok (Some was)) old new = LeavesSamples paths was old
 IsToldLeft paths look asked (Ok None) old new =
     IsTrue asked.keep_old → (look.records ≡ Unknown → ⊥) → (look.report ≡ Unknown → ⊥) → (was : ℕ) → ¬ (LeavesSamples paths was old)
-IsToldLeft paths look asked (Err (Refused (CannotOpen unopened))) old new = failures old < failures new
+IsToldLeft paths look asked (Err (Refused (CannotOpen unopened))) old new = (unopened.side ≡ OfReport) × (failures old < failures new)
 IsToldLeft paths look asked (Err (Refused why)) old new = Unit {0}
 IsToldLeft paths look asked (Err Memory) old new = Unit {0}
 

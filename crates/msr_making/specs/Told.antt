@@ -164,21 +164,23 @@ AreUntouched paths old new = (now new paths.records ≡ now old paths.records) �
 abbrev pub AreSpared : DayPaths → (old new : List Step) → Type 0
 AreSpared paths old new = AreUntouched paths old new ⊎ (failures old < failures new)
 
--- whether what was made of a day goes if it is refused for that: unless nothing was made, or another walk has it
+-- whether what was made of a day goes if it is refused for that: it stays if another walk has it, or if something could not
+-- be opened or made and no call failed
 abbrev pub IsClearedFor : DayFault → DayPaths → (old new : List Step) → Type 0
-IsClearedFor (CannotOpen unopened) paths old new = Unit {0}
+IsClearedFor (CannotOpen unopened) paths old new = AreSpared paths old new
 IsClearedFor ClaimedByAnother paths old new = AreSpared paths old new
 IsClearedFor why paths old new = IsClearedThere paths old new
 
--- unless a file that is made could not be, or not get its name
-abbrev pub UnlessMade : Side → Type 0 → Type 0
-UnlessMade Records kept = Unit {0}
-UnlessMade OfReport kept = Unit {0}
-UnlessMade side kept = kept
+-- whether it is what it was if this could not be opened or made: a file that is made may not have got its name, for which a
+-- call failed; a day that cannot be claimed is told as its records
+abbrev pub IsKeptBeside : Side → DayPaths → (old new : List Step) → Type 0
+IsKeptBeside Records paths old new = AreSpared paths old new
+IsKeptBeside OfReport paths old new = AreSpared paths old new
+IsKeptBeside side paths old new = AreUntouched paths old new
 
 -- whether what was made of a day is what it was if it is refused for that
 abbrev pub IsKeptFor : DayFault → DayPaths → (old new : List Step) → Type 0
-IsKeptFor (CannotOpen unopened) paths old new = UnlessMade unopened.side (AreUntouched paths old new)
+IsKeptFor (CannotOpen unopened) paths old new = IsKeptBeside unopened.side paths old new
 IsKeptFor ClaimedByAnother paths old new = AreSpared paths old new
 IsKeptFor why paths old new = AreUntouched paths old new
 

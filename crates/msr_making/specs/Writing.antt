@@ -2,6 +2,8 @@
 use Rattle.std.specs.Prelude.{◌≡◌, ◌<◌, ◌⊎◌, ℕ, ⊤, IsTrue, List, [], None, Some, Result, Ok, Err, length}
 use Rattle.msr_devices.specs.Device.{Device, HasLeft, Takes}
 use Rattle.msr_options.specs.declared.days.DayOptions.{DayOptions}
+use Rattle.msr_options.specs.declared.hint.Side.{Side}
+use Rattle.msr_options.specs.declared.hint.Side.TheVariants.{File}
 use Rattle.msr_tree.specs.Folders.{ChangesFiles}
 use Rattle.msr_tree.specs.Steps.{Path, Step, failures, seen}
 use Rattle.msr_naming.specs.Promise.{AreReady}
@@ -9,7 +11,7 @@ use Rattle.msr_naming.specs.declared.files.DayFiles.{DayFiles}
 use Rattle.msr_belonging.specs.Belonging.{IsFoundAsAsked, told_segments}
 use Rattle.msr_making.specs.Day.{CountAnswers, GotSmaller, HasAnswer, IsLarger, IsMisplaced, WasMisplaced}
 use Rattle.msr_making.specs.Looking.{IsSightAt}
-use Rattle.msr_making.specs.Parts.{ArePartsApart, part_paths}
+use Rattle.msr_making.specs.Parts.{ArePartsApart, IsMadeSide, part_paths}
 use Rattle.msr_making.specs.declared.answer.DayFault.TheVariants.{CannotOpen, Larger, Misplaced, Tool}
 use Rattle.msr_making.specs.declared.answer.Repacked.{Repacked}
 use Rattle.msr_making.specs.declared.answer.Stop.{Stop}
@@ -80,10 +82,10 @@ pub record IsUnfit (asked : DayOptions) (bytes_read : ℕ) (input : List ℕ) (s
   pub text : List ℕ
   pub answers : RepackedOf asked bytes_read input records text (Err stop)
 
--- what an answer says of some bytes of which P tells, where U says why a file may not have been opened
-abbrev pub WrittenAs : ((List ℕ → Type 0) → Type 0) → Type 0 → DayFiles → DayOptions → (List ℕ → ℕ) → Result Repacked Stop → (new : List Step) → Type 0
+-- what an answer says of some bytes of which P tells, where U says why this of the day may not have been opened or made
+abbrev pub WrittenAs : ((List ℕ → Type 0) → Type 0) → (Side → Type 0) → DayFiles → DayOptions → (List ℕ → ℕ) → Result Repacked Stop → (new : List Step) → Type 0
 WrittenAs P U files asked count (Ok repacked) new = P (λ bytes. IsWrittenTo files asked (count bytes) bytes new repacked)
-WrittenAs P U files asked count (Err (Refused (CannotOpen unopened))) new = U
+WrittenAs P U files asked count (Err (Refused (CannotOpen unopened))) new = U unopened.side
 WrittenAs P U files asked count (Err (Refused why)) new = P (λ bytes. IsUnfit asked (count bytes) bytes (Refused why))
 WrittenAs P U files asked count (Err Memory) new = Unit {0}
 
@@ -97,13 +99,18 @@ IfSeen input past P = (bytes : List ℕ) × (seen past input ≡ Some bytes) × 
 -- What a source has was repacked, or why it was not.
 pub record WritesFrom (source : Device) (files : DayFiles) (asked : DayOptions) (bytes_read : ℕ) (result : Result Repacked Stop) (old new : List Step) : Type 0 where
   pub changes : ChangesFiles (part_paths files) old new
-  pub said : WrittenAs (IfHasLeft source) (failures old < failures new) files asked (λ bytes. bytes_read) result new
+  pub said : WrittenAs (IfHasLeft source) (λ side. IsMadeSide side × (failures old < failures new)) files asked (λ bytes. bytes_read) result new
+
+-- the day's own file could not be opened, and no name was changed; or a file that is made could not be
+abbrev pub IsOwnOrMade : Side → (old new : List Step) → Type 0
+IsOwnOrMade side old new = ((side ≡ File) × ChangesFiles [] old new) ⊎ IsMadeSide side
 
 -- The day's own file, of which a look told, was repacked, or why it was not.
 pub record WritesDay (input : Path) (sight : Sight) (files : DayFiles) (asked : DayOptions) (result : Result Repacked Stop) (old new : List Step) : Type 0 where
   pub changes : ChangesFiles (part_paths files) old new
   pub said : IsSightAt input old sight
-      → WrittenAs (IfSeen input old) ((sight ≡ Unknown) ⊎ (failures old < failures new)) files asked (λ bytes. length bytes) result new
+      → WrittenAs (IfSeen input old) (λ side. IsOwnOrMade side old new × ((sight ≡ Unknown) ⊎ (failures old < failures new))) files asked
+      (λ bytes. length bytes) result new
 
 -- it was not there, or a call failed
 abbrev pub SaysNothing : Path → Stop → (old new : List Step) → Type 0

@@ -2,7 +2,7 @@
 ghost use Rattle.std.specs.Prelude.{◌≡◌, [], true};
 ghost use Rattle.msr_tree.specs.Calls.{Goes};
 ghost use Rattle.msr_tree.specs.Folders.{ChangesFiles};
-ghost use Rattle.msr_making.specs.Clearing.{EndsRefused, FindsNone, GivesUp, SaysEnd, beside_paths};
+ghost use Rattle.msr_making.specs.Clearing.{EndsRefused, EndsSwept, FindsNone, GivesUp, SaysEnd, SweepsDay};
 ghost use Rattle.msr_making.specs.Told.{stays_for};
 ghost use Rattle.msr_making.specs.Places.{paths_at, paths_of};
 ghost use Rattle.msr_making.specs.declared.answer.DayFault.TheVariants.{ClaimedByAnother};
@@ -22,6 +22,14 @@ impl Left {
         ensures { result ≡ Left.Stamp → ⊥ }
     {
         if is_swept { Left::Nothing } else { Left::Parts }
+    }
+
+    /// What is left where this is, and what stands beside the names was removed, or not.
+    fn beside(self, is_swept: bool) -> Left
+        ensures stamp { result ≡ Left.Stamp → self ≡ Left.Stamp }
+        ensures rest { result ≡ Left.Nothing → is_swept ≡ true }
+    {
+        if is_swept { self } else { Left::Parts }
     }
 
     /// What is left of a day that was not touched: if a walk was killed that had it, that is known by the claim alone.
@@ -44,7 +52,7 @@ impl Left {
 
 /// Removes what stands beside the names of a day, and tells whether nothing is there any more.
 fn sweep<T: Tree>(tree: &mut T, files: &DayFiles) -> bool
-    ensures { Goes (T.went tree.old) (T.went tree.new) (ChangesFiles (beside_paths files.now)) }
+    ensures { Goes (T.went tree.old) (T.went tree.new) (SweepsDay files.now result) }
 {
     let records = tree.remove(files.records.part.as_str()).is_ok();
     let report = tree.remove(files.report.part.as_str()).is_ok();
@@ -74,13 +82,7 @@ fn is_seen<T: Tree>(tree: &mut T, places: Places<'_>) -> bool
 }
 
 /// What was made of a day goes.
-fn clear_made<T: Tree>(
-    tree: &mut T,
-    input: &str,
-    files: &DayFiles,
-    is_swept: bool,
-    why: DayFault,
-) -> DayEnd
+fn clear_made<T: Tree>(tree: &mut T, input: &str, files: &DayFiles, why: DayFault) -> DayEnd
     ensures told { SaysEnd why result }
     ensures goes { Goes (T.went tree.old) (T.went tree.new) (GivesUp (paths_of input.now files.now) files.now why result) }
 {
@@ -88,13 +90,13 @@ fn clear_made<T: Tree>(
     match naming.answer {
         Ok(()) => DayEnd {
             outcome: Ok(DayOutcome::Refused(why)),
-            left: Left::of_swept(is_swept),
+            left: Left::Nothing,
             is_stored: naming.is_stored,
         },
         Err(stopped) => match stopped.fault {
             TreeFault::Failed => DayEnd {
                 outcome: Ok(DayOutcome::Refused(why)),
-                left: Left::of_swept(is_seen(tree, places_of(input, files)) & is_swept),
+                left: Left::of_swept(is_seen(tree, places_of(input, files))),
                 is_stored: naming.is_stored,
             },
             TreeFault::Memory => DayEnd {
@@ -112,7 +114,6 @@ fn clear_day<T: Tree>(
     input: &str,
     files: &DayFiles,
     was_left: bool,
-    is_swept: bool,
     why: DayFault,
 ) -> DayEnd
     ensures told { SaysEnd why result }
@@ -121,10 +122,10 @@ fn clear_day<T: Tree>(
     match is_gone(tree, places_of(input, files), was_left) {
         Ok(true) => DayEnd {
             outcome: Ok(DayOutcome::Refused(why)),
-            left: Left::of_swept(is_swept),
+            left: Left::Nothing,
             is_stored: true,
         },
-        Ok(false) => clear_made(tree, input, files, is_swept, why),
+        Ok(false) => clear_made(tree, input, files, why),
         Err(_) => DayEnd {
             outcome: Err(AllocError),
             left: Left::Parts,
@@ -164,9 +165,8 @@ fn is_lost<H: Hold>(hold: &H, why: DayFault) -> bool
     }
 }
 
-/// A day is refused: what stands beside its names goes, and if it is this walk's still, what has its names, unless that is to
-/// stay.
-pub(crate) fn give_up<T: Tree, H: Hold>(
+/// A day is refused: if it is this walk's still, what has its names goes, unless that is to stay.
+fn end_refused<T: Tree, H: Hold>(
     tree: &mut T,
     input: &str,
     files: &DayFiles,
@@ -178,11 +178,10 @@ pub(crate) fn give_up<T: Tree, H: Hold>(
     ensures told { SaysEnd why result }
     ensures goes { Goes (T.went tree.old) (T.went tree.new) (EndsRefused (paths_of input.now files.now) files.now asked.now why result) }
 {
-    let is_swept = sweep(tree, files);
     if is_lost(hold, why) {
         return DayEnd {
             outcome: Ok(DayOutcome::Refused(DayFault::ClaimedByAnother)),
-            left: Left::of_swept(is_swept),
+            left: Left::Nothing,
             is_stored: true,
         };
     }
@@ -190,9 +189,31 @@ pub(crate) fn give_up<T: Tree, H: Hold>(
         let is_shown = shows_left(tree, places_of(input, files), was_left);
         return DayEnd {
             outcome: Ok(DayOutcome::Refused(why)),
-            left: Left::of_swept(is_shown & is_swept),
+            left: Left::of_swept(is_shown),
             is_stored: true,
         };
     }
-    clear_day(tree, input, files, was_left, is_swept, why)
+    clear_day(tree, input, files, was_left, why)
+}
+
+/// The same, and what stands beside its names goes.
+pub(crate) fn give_up<T: Tree, H: Hold>(
+    tree: &mut T,
+    input: &str,
+    files: &DayFiles,
+    hold: &H,
+    was_left: bool,
+    asked: &DayOptions,
+    why: DayFault,
+) -> DayEnd
+    ensures told { SaysEnd why result }
+    ensures goes { Goes (T.went tree.old) (T.went tree.new) (EndsSwept (paths_of input.now files.now) files.now asked.now why result) }
+{
+    let end = end_refused(tree, input, files, hold, was_left, asked, why);
+    let is_swept = sweep(tree, files);
+    DayEnd {
+        outcome: end.outcome,
+        left: end.left.beside(is_swept),
+        is_stored: end.is_stored,
+    }
 }

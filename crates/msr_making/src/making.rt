@@ -2,8 +2,9 @@
 ghost use Rattle.std.specs.Prelude.{IfOk};
 ghost use Rattle.msr_tree.specs.Calls.{Goes};
 ghost use Rattle.msr_making.specs.Day.{IsDayOutcome};
-ghost use Rattle.msr_making.specs.Ending.{DoesFound, IsMadeSide, IsNamedAs, IsRepackedAs, MakesDay, PreparesDay, SeeksDay, WasFound};
+ghost use Rattle.msr_making.specs.Ending.{DoesFound, IsNamedAs, IsRepackedAs, MakesDay, PreparesDay, SeeksDay, WasFound};
 ghost use Rattle.msr_making.specs.Making.{DoesDay};
+ghost use Rattle.msr_making.specs.Parts.{IsMadeSide};
 ghost use Rattle.msr_making.specs.Places.{paths_at};
 
 use crate::answer::{DayEnd, DayFault, DayOutcome, Left, Repacked, Stop};

@@ -4,7 +4,7 @@ ghost use Rattle.msr_devices.specs.Device.{CanCountCall};
 ghost use Rattle.msr_tree.specs.Folders.{ActsOnFiles};
 ghost use Rattle.msr_tree.specs.Calls.{Goes};
 ghost use Rattle.msr_stamp.specs.Making.{IsBegun};
-ghost use Rattle.msr_making.specs.Parts.{AreBegun, AreFinished, IsUnopened, called_told, part_paths};
+ghost use Rattle.msr_making.specs.Parts.{AreBegun, AreFinished, IsUnmade, IsUnopened, called_told, part_paths};
 
 use crate::answer::{DayFault, Stop};
 use crate::hold::Hold;
@@ -28,7 +28,7 @@ pub(crate) fn called<V>(
     why: Option<io::Error>,
 ) -> Result<V, Stop>
     ensures told { called_told result ≡ answer }
-    ensures refuses { IfErr result IsUnopened }
+    ensures refuses { IfErr result (IsUnopened side) }
 {
     match answer {
         Ok(value) => Ok(value),
@@ -40,7 +40,7 @@ pub(crate) fn called<V>(
 /// Makes a file beside its name.
 fn make_part<T: Tree>(tree: &mut T, side: Side, path: &str) -> Result<T::Writer, Stop>
     ensures count { IfOk result (λ writer. CanCountCall (T.Writer.device writer)) }
-    ensures refuses { IfErr result IsUnopened }
+    ensures refuses { IfErr result (IsUnopened side) }
     ensures goes { Goes (T.went tree.old) (T.went tree.new)
         (ActsOnFiles (path.now ∷ []) (IsBegun (λ writer. T.Writer.device writer)) (called_told result)) }
 {
@@ -57,7 +57,7 @@ pub(crate) fn begin_part<T: Tree>(
     name: &NewName,
 ) -> Result<T::Writer, Stop>
     ensures count { IfOk result (λ writer. CanCountCall (T.Writer.device writer)) }
-    ensures refuses { IfErr result IsUnopened }
+    ensures refuses { IfErr result (IsUnopened side) }
     ensures goes { Goes (T.went tree.old) (T.went tree.new)
         (ActsOnFiles (name.now.part ∷ []) (IsBegun (λ writer. T.Writer.device writer)) (called_told result)) }
 {
@@ -76,7 +76,7 @@ pub(crate) fn begin<T: Tree, H: Hold>(
     hold: &mut H,
 ) -> Result<Parts<T::Writer>, Stop>
     ensures count { IfOk result (λ parts. CanCountCall (T.Writer.device parts.records) × CanCountCall (T.Writer.device parts.report)) }
-    ensures refuses { IfErr result IsUnopened }
+    ensures refuses { IfErr result IsUnmade }
     ensures goes { Goes (T.went tree.old) (T.went tree.new)
         (ActsOnFiles (part_paths files.now) (AreBegun (λ writer. T.Writer.device writer)) (called_told result)) }
 {

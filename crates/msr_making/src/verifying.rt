@@ -19,7 +19,7 @@ use std::alloc::{AllocError, Global};
 /// Opens a file of a day, links followed.
 pub(crate) fn open_again<T: Tree>(tree: &mut T, side: Side, path: &str) -> Result<T::Reader, Stop>
     ensures count { IfOk result (λ reader. CanCountCall (T.Reader.device reader)) }
-    ensures refuses { IfErr result IsUnopened }
+    ensures refuses { IfErr result (IsUnopened side) }
     ensures goes { Goes (T.went tree.old) (T.went tree.new)
         (ActsOnFiles [] (OpensAt path.now (λ reader. T.Reader.device reader)) (called_told result)) }
 {

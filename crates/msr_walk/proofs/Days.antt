@@ -11,7 +11,7 @@ use Rattle.msr_tree.specs.Folders.{ChangesFiles}
 use Rattle.msr_making.proofs.Untouched.{left_claimed, left_untouched, still_there, untouched_then}
 use Rattle.msr_making.proofs.Owns.{AreNone, more_beside, none_beside}
 use Rattle.msr_making.specs.Clearing.{beside_paths}
-use Rattle.msr_making.specs.Told.{AreUntouched, IsLeftFor, IsOutcomeThere, UnlessMade}
+use Rattle.msr_making.specs.Told.{AreUntouched, IsKeptBeside, IsLeftFor, IsOutcomeThere}
 use Rattle.msr_making.specs.declared.answer.DayEnd.{DayEnd}
 use Rattle.msr_making.specs.declared.answer.DayFault.{DayFault}
 use Rattle.msr_making.specs.declared.answer.DayFault.TheVariants.{CannotOpen, Changed, ClaimedByAnother, Differs, Gone, Larger, Listing, Misplaced, NotShown, Shrunk, Tool}
@@ -36,7 +36,6 @@ use Rattle.msr_options.specs.declared.task.Archiving.{Archiving}
 use Rattle.std.specs.declared.alloc.AllocError.{AllocError}
 use Rattle.msr_options.specs.declared.days.DayOptions.{DayOptions}
 use Rattle.msr_options.specs.declared.hint.Side.{Side}
-use Rattle.msr_options.specs.declared.hint.Side.TheVariants.{Records as OfRecords}
 use Rattle.msr_options.specs.declared.hint.Unopened.{Unopened}
 use Rattle.msr_folders.proofs.WithinLemmas.{within_none, within_then}
 use Rattle.msr_folders.specs.Within.{ChangesWithin}
@@ -160,13 +159,8 @@ module _ (names : DayNames) where
 
 -- with another reason
 left_again : (stays : Bool) (paths : DayPaths) (one other : Unopened) (old new : List Step) → other.side ≡ one.side → IsLeftFor stays (CannotOpen one) paths old new → IsLeftFor stays (CannotOpen other) paths old new
-left_again true paths one other old new same is = subst (λ (s : Side). UnlessMade s (AreUntouched paths old new)) (sym same) is
-left_again false paths one other old new same is = tt
-
--- records that were not made
-left_unmade : (stays : Bool) (paths : DayPaths) (unopened : Unopened) (old new : List Step) → unopened.side ≡ OfRecords → IsLeftFor stays (CannotOpen unopened) paths old new
-left_unmade true paths unopened old new is = subst (λ (s : Side). UnlessMade s (AreUntouched paths old new)) (sym is) tt
-left_unmade false paths unopened old new is = tt
+left_again true paths one other old new same is = subst (λ (s : Side). IsKeptBeside s paths old new) (sym same) is
+left_again false paths one other old new same is = is
 
 pub there_again : (asked : DayOptions) (paths : DayPaths) (outcome told : DayOutcome) (old new : List Step) → IsSameBut outcome told
     → IsOutcomeThere asked paths outcome old new → IsToldThere asked paths told old new
@@ -187,7 +181,7 @@ there_again asked paths (outcomes.Refused Gone) told old new same is = absurd is
 there_again asked paths (outcomes.Refused Listing) told old new same is = absurd is.0
 
 pub unclaimed_told : (asked : DayOptions) (paths : DayPaths) (why : DayFault) (old new : List Step) → IsUnclaimed why → AreUntouched paths old new → IsToldThere asked paths (outcomes.Refused why) old new
-unclaimed_told asked paths (CannotOpen unopened) old new is still = left_unmade asked.keep_old paths unopened old new is
+unclaimed_told asked paths (CannotOpen unopened) old new is still = left_untouched paths old new asked.keep_old (CannotOpen unopened) still (inl still)
 unclaimed_told asked paths ClaimedByAnother old new is still = (tt, left_claimed paths old new asked.keep_old (inl still))
 unclaimed_told asked paths NotShown old new is still = absurd is
 unclaimed_told asked paths Differs old new is still = absurd is
@@ -332,7 +326,7 @@ untouched_there days names out reports unopened old new leaves = record {
   of = outcomes.Refused (CannotOpen unopened);
   same = refl;
   there = λ are. told_now (in_length days.options.record_length days) names out reports (outcomes.Refused (CannotOpen unopened)) old new
-      (left_untouched (paths_of_names names) old new days.keep_old (CannotOpen unopened) (still_there (paths_of_names names) old new leaves) tt);
+      (left_untouched (paths_of_names names) old new days.keep_old (CannotOpen unopened) (still_there (paths_of_names names) old new leaves) (inl (still_there (paths_of_names names) old new leaves)));
 }
 
 -- of a day that is young

@@ -1,4 +1,5 @@
 use Rattle.std.proofs.Common.{inr, refl}
+use Rattle.msr_making.specs.declared.answer.Left.TheVariants.{Nothing}
 use Rattle.msr_making.proofs.Cleared.{ends_gone, ends_memory, finds_at, then_cleared}
 use Rattle.msr_making.proofs.clearing.clear_day.Goals as goal
 
@@ -6,7 +7,7 @@ pub returns-in-Ok-true-clause-told : goal.returns-in-Ok-true-clause-told
 returns-in-Ok-true-clause-told g c = inr refl
 
 pub returns-in-Ok-true-clause-goes : goal.returns-in-Ok-true-clause-goes
-returns-in-Ok-true-clause-goes g c = ends_gone c.args.input.now c.args.files.now c.args.why c.of_swept.result c.in-Ok-true.field-0 _ _ c.in-Ok-true.field-0-test c.of_swept.ensures (finds_at _ _ _ _ _ c.places_of.ensures c.in-Ok-true.ensures)
+returns-in-Ok-true-clause-goes g c = ends_gone c.args.input.now c.args.files.now c.args.why Nothing c.in-Ok-true.field-0 _ _ c.in-Ok-true.field-0-test (λ is. cc) (finds_at _ _ _ _ _ c.places_of.ensures c.in-Ok-true.ensures)
 
 pub returns-in-Ok-false-clause-told : goal.returns-in-Ok-false-clause-told
 returns-in-Ok-false-clause-told g c = c.clear_made.ensures.told

@@ -1,24 +1,8 @@
-use Rattle.std.proofs.Common.{inl, inr, refl, sym, ◌∙◌}
-use Rattle.msr_making.specs.Clearing.{beside_paths}
-use Rattle.msr_making.proofs.Cleared.{ends_cleared, ends_kept, ends_unheld, then_gives}
-use Rattle.msr_making.proofs.Owns.{more_beside, none_beside}
+use Rattle.msr_making.proofs.Cleared.{then_swept}
 use Rattle.msr_making.proofs.clearing.give_up.Goals as goal
 
-pub returns-then-is_lost-clause-told : goal.returns-then-is_lost-clause-told
-returns-then-is_lost-clause-told g c = inl refl
-
-pub returns-then-is_lost-clause-goes : goal.returns-then-is_lost-clause-goes
-returns-then-is_lost-clause-goes g c = ends_unheld c.args.input.now c.args.files.now c.args.asked.now c.args.why c.of_swept.result _ _ c.of_swept.ensures c.sweep-is_swept.ensures
-
-pub returns-then-stays-clause-told : goal.returns-then-stays-clause-told
-returns-then-stays-clause-told g c = inr refl
-
-pub returns-then-stays-clause-goes : goal.returns-then-stays-clause-goes
-returns-then-stays-clause-goes g c = ends_kept c.args.input.now c.args.files.now c.args.asked.now c.args.why c.of_swept-then-stays.result _ _ _ (sym c.stays.ensures ∙ c.if-stays.true) c.of_swept-then-stays.ensures c.sweep-is_swept.ensures c.shows_left-is_shown.ensures
-
 pub returns-clause-told : goal.returns-clause-told
-returns-clause-told g c = c.clear_day.ensures.told
+returns-clause-told g c = c.end_refused-end.ensures.told
 
 pub returns-clause-goes : goal.returns-clause-goes
-returns-clause-goes g c = ends_cleared c.args.input.now c.args.files.now c.args.asked.now c.args.why c.clear_day.result _ _
-    (λ is. let lost = c.is_lost.ensures is in let not = c.if-is_lost.false in absurd cc) (sym c.stays.ensures ∙ c.if-stays.false) (then_gives c.args.input.now c.args.files.now (beside_paths c.args.files.now) (none_beside c.args.files.now) (more_beside c.args.files.now) c.args.why c.clear_day.result _ _ _ c.sweep-is_swept.ensures c.clear_day.ensures.goes)
+returns-clause-goes g c = then_swept c.args.input.now c.args.files.now c.args.asked.now c.args.why c.end_refused-end.result c.sweep-is_swept.result c.beside.result _ _ _ c.beside.ensures.stamp c.beside.ensures.rest c.end_refused-end.ensures.goes c.sweep-is_swept.ensures

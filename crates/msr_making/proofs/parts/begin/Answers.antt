@@ -1,10 +1,21 @@
-use Rattle.std.proofs.Common.{◌∷◌, []}
+use Rattle.std.proofs.Common.{◌∷◌, [], inl, inr, refl}
+use Rattle.msr_options.specs.declared.hint.Side.TheVariants.{Records, Report}
 use Rattle.msr_tree.proofs.Acting.{goes_more, then_ok, then_stopped}
 use Rattle.std.proofs.lemmas.Result.{err_from_is_err_and}
 use Rattle.msr_stamp.specs.Making.{IsBegun}
 use Rattle.msr_making.specs.Parts.{AreBegun, part_paths}
 use Rattle.msr_making.specs.declared.parts.Parts.{Parts}
 use Rattle.msr_making.proofs.parts.begin.Goals as goal
+
+pub returns-in_err-records-clause-refuses : goal.returns-in_err-records-clause-refuses
+returns-in_err-records-clause-refuses g c =
+    let p = err_from_is_err_and c.from_residual.result c.from_residual.ensures.1 in
+    rw (p.1, p.2) (Records, inl refl, c.in_err-records.ensures.refuses)
+
+pub returns-in_err-report-clause-refuses : goal.returns-in_err-report-clause-refuses
+returns-in_err-report-clause-refuses g c =
+    let p = err_from_is_err_and c.from_residual-in_err-report.result c.from_residual-in_err-report.ensures.1 in
+    rw (p.1, p.2) (Report, inr refl, c.in_err-report.ensures.refuses)
 
 pub returns-in_err-report-clause-goes : goal.returns-in_err-report-clause-goes
 returns-in_err-report-clause-goes g c =

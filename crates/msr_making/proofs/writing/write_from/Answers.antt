@@ -6,7 +6,7 @@ use Rattle.msr_making.proofs.writing.write_from.Goals as goal
 pub returns-in_err-parts-clause-told : goal.returns-in_err-parts-clause-told
 returns-in_err-parts-clause-told g c =
     let p = err_from_is_err_and c.from_residual.result c.from_residual.ensures.1 in
-    rw (p.1, p.2) (unopened_repacked c.args.asked.now c.in_err-parts.field-0.0 c.in_err-parts.ensures.refuses)
+    rw (p.1, p.2) (unopened_repacked c.args.asked.now c.in_err-parts.ensures.refuses.0 c.in_err-parts.field-0.0 c.in_err-parts.ensures.refuses.2)
 
 pub returns-in_err-parts-clause-goes : goal.returns-in_err-parts-clause-goes
 returns-in_err-parts-clause-goes g c =
