@@ -1,9 +1,9 @@
 -- What killed runs left in a folder goes.
-use Rattle.std.proofs.Common.{◌≡◌, inl, inr, ⊎_elim, ℕ, List, [], ◌∷◌, ap, ◌∙◌, None, Result, Ok, Err}
+use Rattle.std.proofs.Common.{◌≡◌, ◌<◌, inl, inr, ⊎_elim, ℕ, Bool, true, List, [], ◌∷◌, refl, ap, ◌∙◌, subst, None, Result, Ok, Err}
 use Rattle.std.specs.List.{All}
 use Rattle.msr_tree.specs.Acts.{Acts}
 use Rattle.msr_tree.specs.Calls.{DoesStep, Goes}
-use Rattle.msr_tree.specs.Steps.{ChangesOnly, Path, Removed, Step, now}
+use Rattle.msr_tree.specs.Steps.{ChangesOnly, Path, Removed, Step, failures, now}
 use Rattle.msr_tree.specs.declared.tree.TreeFault.{TreeFault}
 use Rattle.msr_tree.specs.declared.tree.TreeFault.TheVariants as fault
 use Rattle.msr_tree.proofs.Acting.{acts_does, giving, goes_as, stopping}
@@ -14,7 +14,8 @@ use Rattle.msr_exchange.specs.Moves.{Clears}
 use Rattle.msr_exchange.specs.Stamped.{all_parts_in, stamp_part_in}
 use Rattle.msr_exchange.specs.Work.{parts_in}
 use Rattle.msr_exchange.specs.declared.work.DayWork.{DayWork}
-use Rattle.msr_replace.specs.Ways.{BeginsFolder, RemovesOnly}
+use Rattle.msr_replace.specs.Ways.{AreWays, BeginsFolder, RemovesOnly, goes_back, have_links}
+use Rattle.msr_replace.specs.declared.ways.Ways.{Ways}
 
 -- a name that leads to nothing is given no file by taking one away, done or not
 none_does : {T : Type 0} (path : Path) (result : Result T TreeFault) (old new : List Step) → DoesStep (Removed path) result old new → (name : Path) → now old name ≡ None → now new name ≡ None
@@ -39,24 +40,54 @@ removes_one path result one two goes = goes_as _ _ one two
 abbrev AreGone : DayWork → (folder : List ℕ) → (old new : List Step) → Type 0
 AreGone work folder old new = ChangesOnly (all_parts_in work folder) old new × All (λ name. now new name ≡ None) (parts_in work folder)
 
-module _ {T : Type 0} (work : DayWork) (folder : List ℕ) where
-  pub begun_stopped : (why : TreeFault) (one two : List Step → Type 0) → Goes one two (ChangesOnly (all_parts_in work folder))
-      → Goes one two (BeginsFolder work folder (stopping T why))
-  begun_stopped why one two goes = goes_as _ _ one two (λ p q changes. record { changes = changes; cleared = tt }) goes
+abbrev pub FindsWays : DayWork → (folder : List ℕ) → (old new : List Step) → Ways → Type 0
+FindsWays work folder old new ways = (new ≡ old) × AreWays work folder old ways
 
-  -- a link is on the way
-  pub begun_passed : (answer : T) (one two : List Step → Type 0) → Goes one two (ChangesOnly []) → Goes one two (BeginsFolder work folder (giving answer))
-  begun_passed answer one two goes = goes_as _ _ one two
-      (λ p q changes. record { changes = changes_more [] (all_parts_in work folder) p q (λ n none. tt) changes; cleared = inl changes }) goes
+module _ (work : DayWork) (folder : List ℕ) where
+  pub begun_stopped : (why : TreeFault) (one two : List Step → Type 0) → Goes one two (Acts [] (FindsWays work folder) (stopping Ways why))
+      → Goes one two (BeginsFolder work folder (stopping Bool why))
+  begun_stopped why one two goes = goes_as _ _ one two
+      (λ p q acts. record {
+        changes = changes_more [] (all_parts_in work folder) p q (λ n none. tt) acts.changes;
+        cause = λ is. let so : why ≡ fault.Failed = cc in acts.cause (ap (λ w. Err w) so);
+        leads = tt;
+        cleared = tt;
+      }) goes
 
-  pub begun_cleared : (answer : T) (one mid three two : List Step → Type 0) → Goes one mid (ChangesOnly [])
-      → Goes mid three (Acts (parts_in work folder) (Clears {T = Unit {0}} (parts_in work folder)) (giving tt))
-      → Goes three two (RemovesOnly (stamp_part_in work folder ∷ [])) → Goes one two (BeginsFolder work folder (giving answer))
-  begun_cleared answer one mid three two looks clears stamp =
+  pub begun_unfinished : (ways : Ways) (why : TreeFault) (one mid two : List Step → Type 0) → Goes one mid (Acts [] (FindsWays work folder) (giving ways))
+      → Goes mid two (Acts (parts_in work folder) (Clears {T = Unit {0}} (parts_in work folder)) (stopping (Unit {0}) why))
+      → Goes one two (BeginsFolder work folder (stopping Bool why))
+  begun_unfinished ways why one mid two looks clears =
       let whole = all_parts_in work folder in
       goes_both _ _ _ one mid two
-      (λ p q r quiet rest. record {
-        changes = changes_then whole p q r (changes_more [] whole p q (λ n none. tt) quiet) rest.0;
+      (λ p q r found acts. record {
+        changes = changes_then whole p q r (changes_more [] whole p q (λ n none. tt) found.changes) (changes_more (parts_in work folder) whole q r (λ n none. none.1) acts.changes);
+        cause = λ is. let so : why ≡ fault.Failed = cc in subst (λ s. failures s < failures r) found.does.0 (acts.cause (ap (λ w. Err w) so));
+        leads = tt;
+        cleared = tt;
+      }) looks clears
+
+  -- a link is on the way
+  pub begun_passed : (ways : Ways) (one two : List Step → Type 0) → have_links ways ≡ true → Goes one two (Acts [] (FindsWays work folder) (giving ways))
+      → Goes one two (BeginsFolder work folder (giving (goes_back ways.root ways.aside)))
+  begun_passed ways one two links goes = goes_as _ _ one two
+      (λ p q acts. record {
+        changes = changes_more [] (all_parts_in work folder) p q (λ n none. tt) acts.changes;
+        cause = λ is. cc;
+        leads = (ways, acts.does.1, refl);
+        cleared = inl (ways, acts.does.1, links, acts.changes);
+      }) goes
+
+  pub begun_cleared : (ways : Ways) (one mid three two : List Step → Type 0) → Goes one mid (Acts [] (FindsWays work folder) (giving ways))
+      → Goes mid three (Acts (parts_in work folder) (Clears {T = Unit {0}} (parts_in work folder)) (giving tt))
+      → Goes three two (RemovesOnly (stamp_part_in work folder ∷ [])) → Goes one two (BeginsFolder work folder (giving (goes_back ways.root ways.aside)))
+  begun_cleared ways one mid three two looks clears stamp =
+      let whole = all_parts_in work folder in
+      goes_both _ _ _ one mid two
+      (λ p q r found rest. record {
+        changes = changes_then whole p q r (changes_more [] whole p q (λ n none. tt) found.changes) rest.0;
+        cause = λ is. cc;
+        leads = (ways, found.does.1, refl);
         cleared = inr rest.1;
       }) looks
       (goes_both _ _ (AreGone work folder) mid three two

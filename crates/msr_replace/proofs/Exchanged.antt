@@ -1,11 +1,11 @@
 -- A day whose files have changed places is stamped.
-use Rattle.std.proofs.Common.{◌≡◌, inl, inr, ⊎_elim, ℕ, false, List, [], Some, refl, sym, ◌∙◌, subst}
+use Rattle.std.proofs.Common.{◌≡◌, inl, inr, ⊎_elim, ℕ, false, List, [], Some, refl, sym, ◌∙◌, subst, arith}
 use Rattle.std.specs.Str.{bytes_eq}
 use Rattle.msr_tree.specs.Calls.{Goes}
 use Rattle.msr_tree.specs.Steps.{AtEachMoment, ChangesOnly, IsNoneOf, Leaves, Path, Step, seen}
 use Rattle.msr_tree.specs.declared.tree.TreeFault.{TreeFault}
 use Rattle.msr_tree.specs.declared.tree.TreeFault.TheVariants as fault
-use Rattle.msr_tree.proofs.Acting.{giving, goes_as, stopping}
+use Rattle.msr_tree.proofs.Acting.{giving, goes_as, no_fewer, stopping}
 use Rattle.msr_tree.proofs.Changes.{changes_more, changes_none, changes_then, each_by_changes, leaves_kept, may_kept, seen_kept}
 use Rattle.msr_tree.proofs.Moments.{at_end, joined}
 use Rattle.msr_stamp.specs.declared.stamp.StampOf.TheVariants as stamped
@@ -18,12 +18,14 @@ use Rattle.msr_exchange.specs.declared.work.DayWork.{DayWork}
 use Rattle.msr_exchange.proofs.Alone.{alone_moments}
 use Rattle.msr_exchange.proofs.Back.{waits_moments}
 use Rattle.msr_exchange.proofs.Phases.{quiet_moments}
-use Rattle.msr_replace.specs.Answers.{Exchanges, Means, Replaces}
+use Rattle.msr_replace.specs.Answers.{Exchanges, IsNotOpened, IsRefusedFor, Means, Replaces}
 use Rattle.msr_replace.specs.Restored.{PutsBackDay, RestoresDay}
 use Rattle.msr_exchange.specs.Stamped.{LeavesStamp, StampsRecords, all_and_stamp, stamp_names}
 use Rattle.msr_replace.specs.Stamping.{StampsRestored}
 use Rattle.msr_replace.specs.declared.answers.DayAnswer.{DayAnswer}
 use Rattle.msr_replace.specs.declared.answers.DayAnswer.TheVariants as answer
+use Rattle.msr_replace.specs.declared.answers.DayRefusal.{DayRefusal}
+use Rattle.msr_replace.specs.declared.answers.DayRefusal.TheVariants as said
 use Rattle.msr_replace.specs.declared.answers.DayRestored.{DayRestored}
 use Rattle.msr_replace.specs.declared.answers.DayRestored.TheVariants as restored
 use Rattle.msr_exchange.proofs.Stamps.{other_way, quiet_stamp, stamp_then}
@@ -55,6 +57,25 @@ module _ (names : Names) (stamp : StampPlaces) (are : AreStampNames names stamp)
       (λ past ch. seen_kept (stamp_names stamp) (path_at names one) q past (are.apart one) ch ∙ at_end (λ past. seen past (path_at names one) ≡ Some bytes) p q so) r changes)
 
   module _ (work : DayWork) (report : Path) where
+    -- a call that had failed
+    unopened_on : (path : Path) (p q r : List Step) → ChangesOnly (stamp_names stamp) q r → IsNotOpened path p q → IsNotOpened path p r
+    unopened_on path p q r ch is = ⊎_elim (λ none. inl none) (λ more. inr (let few = no_fewer (stamp_names stamp) q r ch in omega arith)) is
+
+    refused_on : (why : DayRefusal) (p q r : List Step) → ChangesOnly (stamp_names stamp) q r → IsRefusedFor work names report why p q → IsRefusedFor work names report why p r
+    refused_on said.Link p q r ch is = is
+    refused_on said.RecordsLink p q r ch is = is
+    refused_on said.FileUnopened p q r ch is = unopened_on names.day p q r ch is
+    refused_on said.RecordsUnopened p q r ch is = ⊎_elim (λ shut. inl (unopened_on names.records p q r ch shut)) (λ found. inr found) is
+    refused_on said.ReportUnopened p q r ch is = unopened_on report p q r ch is
+    refused_on said.SameFile p q r ch is = is
+    refused_on (said.Fault fault) p q r ch is = is
+    refused_on said.Int24 p q r ch is = is
+    refused_on said.AsideLink p q r ch is = is
+    refused_on said.AsideTaken p q r ch is = is
+    refused_on said.RecordsTaken p q r ch is = is
+    refused_on said.Dress p q r ch is = is
+    refused_on said.AsideDress p q r ch is = is
+
     means_on : (x : DayAnswer) (p q r : List Step) → ChangesOnly (stamp_names stamp) q r → Means work names report x p q → Means work names report x p r
     means_on (answer.Replaced before after) p q r ch is = record {
       day = is.day;
@@ -72,7 +93,7 @@ module _ (names : Names) (stamp : StampPlaces) (are : AreStampNames names stamp)
     means_on answer.Missing p q r ch is = is
     means_on answer.NotShown p q r ch is = is
     means_on answer.Differs p q r ch is = is
-    means_on (answer.Refused refusal) p q r ch is = is
+    means_on (answer.Refused why) p q r ch is = refused_on why p q r ch is
 
     pub replaced_then : (x : DayAnswer) (one mid two : List Step → Type 0) → Goes one mid (Exchanges work names report (giving x)) → Goes mid two (StampsRecords names stamp) → Goes one two (Replaces work names report stamp (giving x))
     replaced_then x one mid two first second = goes_both _ _ _ one mid two

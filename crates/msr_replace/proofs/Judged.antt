@@ -13,11 +13,18 @@ use Rattle.msr_tree.proofs.Moments.{at_end, joined}
 use Rattle.msr_verify.specs.declared.judging.Finding.{Finding}
 use Rattle.msr_verify.specs.declared.judging.Finding.TheVariants as finding
 use Rattle.msr_verify.specs.declared.judging.VerifyFault.{VerifyFault}
-use Rattle.msr_replace.specs.Answers.{Exchanges, HaveBytes, HaveInt24, IsFoundDay, IsRefusedFor, IsToldDay, IsVerifiedDay, Means, replaced_of}
+use Rattle.msr_replace.specs.Answers.{AreVerified, Exchanges, HaveBytes, HaveInt24, HaveLengths, IsFoundDay, IsLinked, IsRefusedFor, IsToldDay, IsNotOpened, IsVerifiedDay, Means, replaced_of, report_in}
 use Rattle.msr_replace.specs.Restored.{refusal_of}
-use Rattle.msr_replace.specs.Judging.{HaveLengths, IsOpenedDay, JudgesReplaceable, JudgesKinds, JudgesMissing, JudgesSeen, JudgesWhole, LackInt24, TellsKinds, verified_of}
+use Rattle.msr_replace.specs.Judging.{IsOpenedDay, JudgesReplaceable, JudgesKinds, JudgesMissing, JudgesSeen, JudgesWhole, LackInt24, TellsKinds, verified_of}
 use Rattle.msr_replace.specs.Kinds.{LacksInt24}
-use Rattle.msr_replace.specs.Looks.{AreOfNames, AsksYoung, IsSeenDay, RefusesByNames, is_of_names}
+use Rattle.msr_folders.specs.Paths.{folder_of}
+use Rattle.msr_folders.specs.Paths.{joined as beneath}
+use Rattle.msr_tree.specs.declared.facts.Kind.{Kind}
+use Rattle.msr_tree.specs.declared.facts.Kind.TheVariants as kind
+use Rattle.msr_replace.specs.Looks.{AsksYoung, IsLinkFound, IsNoFile, IsSeenDay, RefusesByWays, RefusesWhole, SortsOut}
+use Rattle.msr_replace.specs.Ways.{IsKindFound, IsWay}
+use Rattle.msr_replace.specs.declared.ways.Way.{Way}
+use Rattle.msr_replace.specs.declared.ways.Way.TheVariants as way
 use Rattle.msr_exchange.specs.Names.{Names, all}
 use Rattle.msr_exchange.specs.Promise.{AreKept, KeepsAll, KeepsBoth, Says}
 use Rattle.msr_replace.specs.declared.answers.DayAnswer.{DayAnswer}
@@ -47,6 +54,44 @@ module _ (p r : List Step) (changes : ChangesOnly [] p r) where
 
   same_now : (name : Path) (what : Option File) → now r name ≡ what → now p name ≡ what
   same_now name what is = sym (now_kept [] name p r tt changes) ∙ is
+
+  looks_sooner : (path : Path) (found : Option Facts) → Looks path r found → Looks path p found
+  looks_sooner path None is = same_now path None is
+  looks_sooner path (Some facts) is = record {
+    regular = λ kind. subst (λ at. IsSomeAnd at (λ file. facts.bytes ≡ length file.bytes)) (now_kept [] path p r tt changes) (is.regular kind);
+    other = λ kind. same_now path None (is.other kind);
+  }
+
+  kind_sooner : (path : Path) (kind : Option Kind) → IsKindFound path r kind → IsKindFound path p kind
+  kind_sooner path kind is = (is.0, looks_sooner path is.0 is.1, is.2)
+
+  way_sooner : (top folder : Path) (so : Way) → IsWay top folder r so → IsWay top folder p so
+  way_sooner top folder so is = record {
+    year = is.year;
+    network = is.network;
+    station = is.station;
+    channel = is.channel;
+    year_is = kind_sooner (beneath top (folder_of (folder_of (folder_of folder)))) is.year is.year_is;
+    network_is = kind_sooner (beneath top (folder_of (folder_of folder))) is.network is.network_is;
+    station_is = kind_sooner (beneath top (folder_of folder)) is.station is.station_is;
+    channel_is = kind_sooner (beneath top folder) is.channel is.channel_is;
+    is = is.is;
+  }
+
+  linked_sooner : (work : DayWork) (report top name : Path) → IsLinked work report top name r → IsLinked work report top name p
+  linked_sooner work report top name is = ⊎_elim
+      (λ one. inl (kind_sooner name (Some kind.Link) one))
+      (λ other. inr (other.0, other.1, way_sooner top (folder_of other.0) way.Odd other.2))
+      is
+
+  unopened_sooner : (path : Path) (s : List Step) → IsNotOpened path r s → IsNotOpened path p s
+  unopened_sooner path s is = ⊎_elim (λ none. inl (same_now path None none)) (λ more. inr (let few = no_fewer [] p r changes in omega arith)) is
+
+  lengths_back : (names : Names) (file records : Facts) → HaveLengths names file records r → HaveLengths names file records p
+  lengths_back names file records have = record {
+    file_is = subst (λ at. IsSomeAnd at (λ found. file.bytes ≡ length found.bytes)) (now_kept [] names.day p r tt changes) have.file_is;
+    records_are = subst (λ at. IsSomeAnd at (λ found. records.bytes ≡ length found.bytes)) (now_kept [] names.records p r tt changes) have.records_are;
+  }
 
   module _ (names : Names) (report : Path) where
     bytes_sooner : (file records text : List ℕ) → HaveBytes names report file records text r → HaveBytes names report file records text p
@@ -80,24 +125,30 @@ module _ (p r : List Step) (changes : ChangesOnly [] p r) where
       after_is = day.after_is;
     }
 
-    refused_sooner : (why : DayRefusal) → IsRefusedFor names report why r → IsRefusedFor names report why p
-    refused_sooner (said.Fault fault) found = found_sooner (Err fault) found
-    refused_sooner said.Link found = tt
-    refused_sooner said.RecordsLink found = tt
-    refused_sooner said.AsideLink found = tt
-    refused_sooner said.FileUnopened found = tt
-    refused_sooner said.RecordsUnopened found = tt
-    refused_sooner said.ReportUnopened found = tt
-    refused_sooner said.SameFile found = tt
-    refused_sooner said.Int24 found = int24_sooner found
-    refused_sooner said.AsideTaken found = tt
-    refused_sooner said.RecordsTaken found = tt
-    refused_sooner said.Dress found = tt
-    refused_sooner said.AsideDress found = tt
+    refused_sooner : (work : DayWork) (why : DayRefusal) (s : List Step) → IsRefusedFor work names report why r s → IsRefusedFor work names report why p s
+    refused_sooner work said.Link s is = ⊎_elim (λ link. inl (linked_sooner work report work.root.now names.day link)) (λ found. inr (found_sooner (Ok finding.Verified) found)) is
+    refused_sooner work said.RecordsLink s is = ⊎_elim (λ link. inl (linked_sooner work report work.out.now names.records link)) (λ found. inr (found_sooner (Ok finding.Verified) found)) is
+    refused_sooner work said.FileUnopened s found = unopened_sooner names.day s found
+    refused_sooner work said.RecordsUnopened s is = ⊎_elim (λ shut. inl (unopened_sooner names.records s shut)) (λ found. inr (found_sooner (Ok finding.Verified) found)) is
+    refused_sooner work said.ReportUnopened s found = unopened_sooner report s found
+    refused_sooner work said.SameFile s one = record {
+      file = one.file;
+      records = one.records;
+      have = lengths_back names one.file one.records one.have;
+      device = one.device;
+      number = one.number;
+    }
+    refused_sooner work (said.Fault fault) s found = found_sooner (Err fault) found
+    refused_sooner work said.Int24 s found = (found.0, int24_sooner found.1)
+    refused_sooner work said.AsideLink s found = found_sooner (Ok finding.Verified) found
+    refused_sooner work said.AsideTaken s found = found_sooner (Ok finding.Verified) found
+    refused_sooner work said.RecordsTaken s found = found_sooner (Ok finding.Verified) found
+    refused_sooner work said.Dress s found = found_sooner (Ok finding.Verified) found
+    refused_sooner work said.AsideDress s found = found_sooner (Ok finding.Verified) found
 
-    pub told_sooner : (work : DayWork) (x : DayAnswer) → IsToldDay work names report x r → IsToldDay work names report x p
-    told_sooner work (answer.Replaced before after) is = is
-    told_sooner work answer.Same is = record {
+    pub told_sooner : (work : DayWork) (x : DayAnswer) (s : List Step) → IsToldDay work names report x r s → IsToldDay work names report x p s
+    told_sooner work (answer.Replaced before after) s is = is
+    told_sooner work answer.Same s is = record {
       file = is.file;
       text = is.text;
       day = same_seen names.day (Some is.file) is.day;
@@ -105,16 +156,16 @@ module _ (p r : List Step) (changes : ChangesOnly [] p r) where
       none = same_now names.records None is.none;
       least = is.least;
     }
-    told_sooner work answer.Young is = is
-    told_sooner work (answer.Larger before after) is = (is.0, is.1, verified_sooner work before after is.2)
-    told_sooner work answer.Changed is = tt
-    told_sooner work answer.Missing is = ⊎_elim (λ one. inl (same_now names.records None one)) (λ other. inr (same_now report None other)) is
-    told_sooner work answer.NotShown is = found_sooner (Ok finding.NotShown) is
-    told_sooner work answer.Differs is = found_sooner (Ok finding.Differs) is
-    told_sooner work (answer.Refused why) is = refused_sooner why is
+    told_sooner work answer.Young s is = is
+    told_sooner work (answer.Larger before after) s is = (is.0, is.1, verified_sooner work before after is.2)
+    told_sooner work answer.Changed s is = found_sooner (Ok finding.Verified) is
+    told_sooner work answer.Missing s is = ⊎_elim (λ one. inl (same_now names.records None one)) (λ other. inr (same_now report None other)) is
+    told_sooner work answer.NotShown s is = found_sooner (Ok finding.NotShown) is
+    told_sooner work answer.Differs s is = found_sooner (Ok finding.Differs) is
+    told_sooner work (answer.Refused why) s is = refused_sooner work why s is
 
     pub judges_sooner : (work : DayWork) (x : Judged) (s : List Step) → JudgesReplaceable work names report r s x → JudgesReplaceable work names report p s x
-    judges_sooner work (judged.Told x) s is = told_sooner work x is
+    judges_sooner work (judged.Told x) s is = told_sooner work x s is
     judges_sooner work (judged.Verified v) s is = verified_sooner work v.file.bytes v.records.bytes is
 
 -- what a look tells stays so
@@ -140,7 +191,7 @@ module _ (work : DayWork) (names : Names) (report : Path) where
   abbrev Kept : (a b : List ℕ) → List Step → Type 0
   Kept = AreKept names Original Records
 
-  means_of : (x : DayAnswer) (p q : List Step) → IsToldDay work names report x p → Means work names report x p q
+  means_of : (x : DayAnswer) (p q : List Step) → IsToldDay work names report x p q → Means work names report x p q
   means_of (answer.Replaced before after) p q is = absurd is
   means_of answer.Same p q is = inl is
   means_of answer.Young p q is = is
@@ -154,7 +205,7 @@ module _ (work : DayWork) (names : Names) (report : Path) where
   -- nothing is done
   pub told_here : {A : Type 0} (First : (old new : List Step) → A → Type 0) (first : Result A TreeFault) (result : Result DayAnswer TreeFault) (before after : List Step → Type 0)
       → (IsErrOf result fault.Failed → IsErrOf first fault.Failed)
-      → ((p q : List Step) → IfOk first (λ x. First p q x) → IfOk result (λ x. IsToldDay work names report x p))
+      → ((p q : List Step) → IfOk first (λ x. First p q x) → IfOk result (λ x. IsToldDay work names report x p q))
       → Goes before after (Acts [] First first) → Goes before after (R result)
   told_here First first result before after fails tells goes = goes_as _ _ before after (λ p q acts. record {
     changes = changes_more [] (all names) p q (λ n none. tt) acts.changes;
@@ -164,7 +215,7 @@ module _ (work : DayWork) (names : Names) (report : Path) where
     answers = ending result p q (tells p q acts.does);
   }) goes
     where
-      ending : (r : Result DayAnswer TreeFault) (p q : List Step) → IfOk r (λ x. IsToldDay work names report x p) → IfOk r (λ x. Means work names report x p q)
+      ending : (r : Result DayAnswer TreeFault) (p q : List Step) → IfOk r (λ x. IsToldDay work names report x p q) → IfOk r (λ x. Means work names report x p q)
       ending (Ok x) p q is = means_of x p q is
       ending (Err why) p q is = tt
 
@@ -180,23 +231,27 @@ module _ (work : DayWork) (names : Names) (report : Path) where
     comes = subst (λ f. IfSome f (λ bytes. bytes ≡ b)) (sym (seen_kept [] names.records p q tt changes)) kept.comes;
   }
 
-  nothing_of_bytes : (why : Refusal) (p : List Step) → IsRefusedFor names report (refusal_of why) p
-  nothing_of_bytes (refusal.Day hindrance.Link) p = tt
-  nothing_of_bytes (refusal.Day hindrance.Taken) p = tt
-  nothing_of_bytes (refusal.Day hindrance.Dress) p = tt
-  nothing_of_bytes (refusal.Aside hindrance.Link) p = tt
-  nothing_of_bytes (refusal.Aside hindrance.Taken) p = tt
-  nothing_of_bytes (refusal.Aside hindrance.Dress) p = tt
-  nothing_of_bytes (refusal.Records hindrance.Link) p = tt
-  nothing_of_bytes (refusal.Records hindrance.Taken) p = tt
-  nothing_of_bytes (refusal.Records hindrance.Dress) p = tt
+  -- what is told of verified files as they change places
+  of_verified : (why : Refusal) (p r : List Step) → AreVerified names report p → IsRefusedFor work names report (refusal_of why) p r
+  of_verified (refusal.Day hindrance.Link) p r found = inr found
+  of_verified (refusal.Day hindrance.Taken) p r found = inr found
+  of_verified (refusal.Day hindrance.Dress) p r found = found
+  of_verified (refusal.Aside hindrance.Link) p r found = found
+  of_verified (refusal.Aside hindrance.Taken) p r found = found
+  of_verified (refusal.Aside hindrance.Dress) p r found = found
+  of_verified (refusal.Records hindrance.Link) p r found = inr found
+  of_verified (refusal.Records hindrance.Taken) p r found = found
+  of_verified (refusal.Records hindrance.Dress) p r found = found
+
+  are_verified : (before after : ℕ) (p : List Step) → IsVerifiedDay work names report before after p → AreVerified names report p
+  are_verified before after p day = record { file = day.file; records = day.records; text = day.text; bytes = day.bytes; answers = day.verified }
 
   means_replaced : (v : Verified) (x : Told) (p q r : List Step) → ChangesOnly [] p q → IsVerifiedDay work names report v.file.bytes v.records.bytes p
       → ((a b : List ℕ) → Kept a b q → Says names Original a b r x) → Means work names report (replaced_of x v) p r
   means_replaced v told.Done p q r changes day says = record { day = day; changed = λ a b kept. (says a b (kept_later a b p q changes kept)).done refl }
   means_replaced v told.Same p q r changes day says = inr (λ a b kept. (says a b (kept_later a b p q changes kept)).same refl)
-  means_replaced v told.Changed p q r changes day says = tt
-  means_replaced v (told.Refused why) p q r changes day says = nothing_of_bytes why p
+  means_replaced v told.Changed p q r changes day says = are_verified v.file.bytes v.records.bytes p day
+  means_replaced v (told.Refused why) p q r changes day says = of_verified why p r (are_verified v.file.bytes v.records.bytes p day)
 
   -- what was verified changes places
   pub verified_then : (v : Verified) (end : Result Told TreeFault) (result : Result DayAnswer TreeFault) (before mid after : List Step → Type 0)
@@ -289,21 +344,42 @@ pub told_then : {A B : Type 0} (First : (old new : List Step) → A → Type 0) 
 told_then {A = A} {B = B} First Second Done a result one mid two so first goes =
     then_given {A = A} {B = B} [] First Second Done a result one mid two (λ p q r b f s c d. so p q r b c d f s) first goes
 
--- a refusal that tells of names alone says nothing of bytes
-of_names : (names : Names) (report : Path) (why : DayRefusal) (p : List Step) → is_of_names why ≡ true → IsRefusedFor names report why p
-of_names names report (said.Fault fault) p is = cc
-of_names names report said.Int24 p is = cc
-of_names names report said.Link p is = tt
-of_names names report said.RecordsLink p is = tt
-of_names names report said.AsideLink p is = tt
-of_names names report said.FileUnopened p is = tt
-of_names names report said.RecordsUnopened p is = tt
-of_names names report said.ReportUnopened p is = tt
-of_names names report said.SameFile p is = tt
-of_names names report said.AsideTaken p is = tt
-of_names names report said.RecordsTaken p is = tt
-of_names names report said.Dress p is = tt
-of_names names report said.AsideDress p is = tt
+-- a day that is refused for what was found
+link_found : (path : Path) (found : Option Facts) (past : List Step) → Looks path past found → IsLinkFound found → IsKindFound path past (Some kind.Link)
+link_found path None past looks is = absurd is
+link_found path (Some facts) past looks is = (Some facts, looks, ap (λ k. Some k) (sym is))
+
+no_file : (path : Path) (found : Option Facts) (past : List Step) → Looks path past found → IsNoFile found → now past path ≡ None
+no_file path None past looks is = looks
+no_file path (Some facts) past looks is = looks.other is
+
+sorted_out : (work : DayWork) (names : Names) (report : Path) (looked : Looked) (why : DayRefusal) (p s : List Step) → IsSeenDay names report p p looked → SortsOut looked why → IsRefusedFor work names report why p s
+sorted_out work names report looked said.Link p s sees is = inl (inl (link_found names.day looked.file p sees.file is))
+sorted_out work names report looked said.RecordsLink p s sees is = inl (inl (link_found names.records looked.records p sees.records is))
+sorted_out work names report looked said.FileUnopened p s sees is = inl (no_file names.day looked.file p sees.file is)
+sorted_out work names report looked said.RecordsUnopened p s sees is = inl (inl (no_file names.records looked.records p sees.records is))
+sorted_out work names report looked said.ReportUnopened p s sees is = inl (no_file report looked.report p sees.text is)
+sorted_out work names report looked (said.Fault fault) p s sees is = absurd is
+sorted_out work names report looked said.Int24 p s sees is = absurd is
+sorted_out work names report looked said.SameFile p s sees is = absurd is
+sorted_out work names report looked said.AsideLink p s sees is = absurd is
+sorted_out work names report looked said.AsideTaken p s sees is = absurd is
+sorted_out work names report looked said.RecordsTaken p s sees is = absurd is
+sorted_out work names report looked said.Dress p s sees is = absurd is
+sorted_out work names report looked said.AsideDress p s sees is = absurd is
+
+-- for what is on the way
+pub by_ways : (work : DayWork) (names : Names) (path : Path) (p q r : List Step) (refusal : Option DayRefusal) → ChangesOnly [] p q → RefusesByWays work path q r refusal
+    → IfSome refusal (λ why. IsRefusedFor work names (report_in work path) why p r)
+by_ways work names path p q r None changes ways = tt
+by_ways work names path p q r (Some why) changes ways =
+    let folder = folder_of path in
+    ⊎_elim
+    (λ one. subst (λ w. IsRefusedFor work names (report_in work path) w p r) (sym one.0)
+    (inl (inr (path, refl, way_sooner p q changes work.root.now folder way.Odd (subst (λ o. IsWay work.root.now folder q o) one.1 ways.2)))))
+    (λ one. subst (λ w. IsRefusedFor work names (report_in work path) w p r) (sym one.0)
+    (inl (inr (path, refl, way_sooner p q changes work.out.now folder way.Odd (subst (λ o. IsWay work.out.now folder q o) one.1 ways.3)))))
+    ways.4
 
 -- what is judged of verified files, with what is asked of their kinds
 module _ (work : DayWork) (names : Names) (file records : Facts) where
@@ -318,6 +394,11 @@ module _ (work : DayWork) (names : Names) (file records : Facts) where
   kinds_lack looked one two none goes = told_after (TellsKinds names) Kinds looked (verified_of work file records) one two
       (λ p q ch tells report have found. judges_verified work names report file records p q
       (verified_day work names report file records p have found (inr (subst (λ o. TellsKinds names p q o) none tells)))) goes
+
+  pub kinds_refused : (looked : Option DayRefusal) (why : DayRefusal) (one two : List Step → Type 0) → looked ≡ Some why → work.int24 ≡ false → Goes one two (Acts [] (TellsKinds names) (giving looked))
+      → Goes one two (Acts [] Kinds (giving (judged.Told (answer.Refused why))))
+  kinds_refused looked why one two some none goes = told_after (TellsKinds names) Kinds looked (judged.Told (answer.Refused why)) one two
+      (λ p q ch tells report have found. (subst (λ o. TellsKinds names p q o) some tells) work report none found) goes
 
   module _ (report : Path) where
     abbrev Whole : (old new : List Step) → Judged → Type 0
@@ -346,13 +427,18 @@ module _ (work : DayWork) (names : Names) (file records : Facts) where
           answers = found.answers;
         }
 
-    pub whole_refused : (looked : Option DayRefusal) (why : DayRefusal) (one two : List Step → Type 0) → looked ≡ Some why → Goes one two (Acts [] RefusesByNames (giving looked)) → Goes one two (Acts [] Whole (giving (judged.Told (answer.Refused why))))
-    whole_refused looked why one two some goes = told_after RefusesByNames Whole looked (judged.Told (answer.Refused why)) one two
-        (λ p q ch tells have. of_names names report why p (subst AreOfNames some tells)) goes
+    module _ (path : Path) where
+      abbrev Refuses : (old new : List Step) → Option DayRefusal → Type 0
+      Refuses = RefusesWhole work names path file records
 
-    pub whole_later : (looked : Option DayRefusal) (result : Result Judged TreeFault) (one mid two : List Step → Type 0) → Goes one mid (Acts [] RefusesByNames (giving looked)) → Goes mid two (Acts [] Whole result) → Goes one two (Acts [] Whole result)
-    whole_later looked result one mid two first goes = told_then RefusesByNames Whole Whole looked result one mid two
-        (λ p q r x c d tells whole have. judges_sooner p q c names report work x r (whole (lengths_sooner work names report file records p q c have))) first goes
+      pub whole_refused : (looked : Option DayRefusal) (why : DayRefusal) (one two : List Step → Type 0) → report ≡ report_in work path → looked ≡ Some why
+          → Goes one two (Acts [] Refuses (giving looked)) → Goes one two (Acts [] Whole (giving (judged.Told (answer.Refused why))))
+      whole_refused looked why one two is some goes = told_after Refuses Whole looked (judged.Told (answer.Refused why)) one two
+          (λ p q ch tells have. subst (λ n. IsRefusedFor work names n why p q) (sym is) (subst (λ o. IfSome o (λ w. IsRefusedFor work names (report_in work path) w p q)) some (tells have))) goes
+
+      pub whole_later : (looked : Option DayRefusal) (result : Result Judged TreeFault) (one mid two : List Step → Type 0) → Goes one mid (Acts [] Refuses (giving looked)) → Goes mid two (Acts [] Whole result) → Goes one two (Acts [] Whole result)
+      whole_later looked result one mid two first goes = told_then Refuses Whole Whole looked result one mid two
+          (λ p q r x c d tells whole have. judges_sooner p q c names report work x r (whole (lengths_sooner work names report file records p q c have))) first goes
 
 -- what is judged by what was seen
 module _ (work : DayWork) (names : Names) (report : Path) where
@@ -360,8 +446,8 @@ module _ (work : DayWork) (names : Names) (report : Path) where
     abbrev Seen : (old new : List Step) → Judged → Type 0
     Seen = JudgesSeen work names report looked
 
-    pub seen_refused : (why : DayRefusal) (one : List Step → Type 0) → is_of_names why ≡ true → Goes one one (Acts [] Seen (giving (judged.Told (answer.Refused why))))
-    seen_refused why one names_it = told_now Seen (judged.Told (answer.Refused why)) one (λ p sees. of_names names report why p names_it)
+    pub seen_refused : (why : DayRefusal) (one : List Step → Type 0) → SortsOut looked why → Goes one one (Acts [] Seen (giving (judged.Told (answer.Refused why))))
+    seen_refused why one is = told_now Seen (judged.Told (answer.Refused why)) one (λ p sees. sorted_out work names report looked why p p sees is)
 
     pub missing_now : (one : List Step → Type 0) → Goes one one (Acts [] (JudgesMissing work names report looked) (giving (judged.Told answer.Missing)))
     missing_now one = told_now (JudgesMissing work names report looked) (judged.Told answer.Missing) one

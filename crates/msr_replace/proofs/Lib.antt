@@ -5,6 +5,7 @@ pub mod Judged
 pub mod KindLemmas
 pub mod LinesTold
 pub mod Opening
+pub mod Passing
 pub mod Quiet
 pub mod Reading
 pub mod Restored

@@ -1,10 +1,10 @@
 -- Opening the files of a day one after another, and what they show.
-use Rattle.std.proofs.Common.{◌≡◌, Bool, true, false, List, [], Option, Some, Result, Ok, Err, sym, ◌∙◌, subst}
+use Rattle.std.proofs.Common.{◌≡◌, ◌<◌, inr, Bool, true, false, List, [], Option, None, Some, Result, Ok, Err, sym, ◌∙◌, subst}
 use Rattle.msr_devices.specs.Device.{Device}
 use Rattle.msr_input.specs.declared.fault.ReadFault.{ReadFault}
 use Rattle.msr_tree.specs.Acts.{Acts}
 use Rattle.msr_tree.specs.Calls.{Goes}
-use Rattle.msr_tree.specs.Steps.{ChangesOnly, Path, Step}
+use Rattle.msr_tree.specs.Steps.{ChangesOnly, Path, Step, failures}
 use Rattle.msr_tree.specs.declared.tree.TreeFault.{TreeFault}
 use Rattle.msr_tree.proofs.Acting.{giving, stopped_as, stopping}
 use Rattle.msr_tree.proofs.Changes.{seen_kept}
@@ -31,8 +31,8 @@ module _ {R : Type 0} (device : R → Device) (given : Path) where
   opening_stopped {B = B} Done why one two goes = stopped_as {A = Option R} {B = B} [] Finds Done why one two goes
 
   -- it cannot be opened
-  pub unopened_as : {B : Type 0} (Done : (old new : List Step) → B → Type 0) (found : Option R) (b : B) (one two : List Step → Type 0) → ((p q : List Step) → Done p q b) → Goes one two (Acts [] Finds (giving found)) → Goes one two (Acts [] Done (giving b))
-  unopened_as Done found b one two so goes = told_after Finds Done found b one two (λ p q ch f. so p q) goes
+  pub unopened_as : {B : Type 0} (Done : (old new : List Step) → B → Type 0) (found : Option R) (b : B) (one two : List Step → Type 0) → found ≡ None → ((p q : List Step) → failures p < failures q → Done p q b) → Goes one two (Acts [] Finds (giving found)) → Goes one two (Acts [] Done (giving b))
+  unopened_as Done found b one two is so goes = told_after Finds Done found b one two (λ p q ch f. so p q (subst (λ o. FindsOpen given device p q o) is f)) goes
 
   -- it is, and what it gives is read
   pub opened_as : {B : Type 0} (path : Path) (Done : (old new : List Step) → B → Type 0) (found : Option R) (reader : R) (b : B) (one two : List Step → Type 0) → given ≡ path → found ≡ Some reader
@@ -60,22 +60,25 @@ module _ (work : DayWork) (names : Names) where
 
 module _ (names : Names) where
   pub kinds_told : (records : Device) (answer : Result Bool ReadFault) (p q : List Step) → TellsInt24 records answer → ReadsName names.records records p → TellsKinds names p q (kinds_refusal answer)
-  kinds_told records (Ok true) p q tells reads = λ report. record {
-    records = reads.bytes;
-    comes = reads.is_seen;
-    holds = let same = left_is records reads.bytes tells.bytes reads.gives tells.left in subst (λ x. HoldsInt24 x) (sym same) tells.holds;
-  }
+  kinds_told records (Ok true) p q tells reads = λ work report none found. (
+    none,
+    record {
+      records = reads.bytes;
+      comes = reads.is_seen;
+      holds = let same = left_is records reads.bytes tells.bytes reads.gives tells.left in subst (λ x. HoldsInt24 x) (sym same) tells.holds;
+    },
+  )
   kinds_told records (Ok false) p q tells reads = record {
     records = reads.bytes;
     comes = reads.is_seen;
     lacks = let same = left_is records reads.bytes tells.bytes reads.gives tells.left in subst (λ x. LacksInt24 x) (sym same) tells.lacks;
   }
-  kinds_told records (Err why) p q tells reads = λ report. tt
+  kinds_told records (Err why) p q tells reads = λ work report none found. inr found
 
 -- what was opened later was there before
 pub opened_sooner : (work : DayWork) (names : Names) (report : Path) (p q : List Step) → ChangesOnly [] p q → (r : List Step) (x : Opened) → IsOpenedDay work names report q r x → IsOpenedDay work names report p r x
 opened_sooner work names report p q changes r opened.Verified is = found_sooner p q changes names report (Ok finding.Verified) is
-opened_sooner work names report p q changes r (opened.Told x) is = told_sooner p q changes names report work x is
+opened_sooner work names report p q changes r (opened.Told x) is = told_sooner p q changes names report work x r is
 
 pub least_sooner : (names : Names) (report : Path) (p q : List Step) → ChangesOnly [] p q → IsOwnLeast names report q → IsOwnLeast names report p
 least_sooner names report p q changes least = record {

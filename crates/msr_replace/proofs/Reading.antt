@@ -1,5 +1,5 @@
 -- What is read under the names of a day.
-use Rattle.std.proofs.Common.{◌≡◌, ℕ, List, [], Option, None, Some, Result, Ok, sym, ◌∙◌, subst}
+use Rattle.std.proofs.Common.{◌≡◌, ℕ, List, [], Option, None, Some, Result, Ok, Err, ap, sym, ◌∙◌, subst}
 use Rattle.msr_devices.specs.Device.{Device, HasLeft, unused}
 use Rattle.msr_tree.specs.Acts.{Acts}
 use Rattle.msr_tree.specs.Calls.{Goes, Opens, Tells}
@@ -72,12 +72,10 @@ module _ {R : Type 0} (path : Path) (device : R → Device) where
     does = tells.1;
   }) goes
 
-  pub opened_none : (why : TreeFault) (one two : List Step → Type 0) → Goes one two (Tells Told (stopping R why)) → Goes one two (Acts [] Finds (nothing))
-  opened_none why one two goes = goes_as _ _ one two (λ p q tells. record {
-    changes = (acts_tells [] Told (stopping R why) p q tells).changes;
-    cause = λ is. cc;
-    does = tt;
-  }) goes
+  pub opened_none : (why : TreeFault) (one two : List Step → Type 0) → why ≡ fault.Failed → Goes one two (Tells Told (stopping R why)) → Goes one two (Acts [] Finds (nothing))
+  opened_none why one two failed goes = goes_as _ _ one two (λ p q tells.
+      let acts = acts_tells [] Told (stopping R why) p q tells in
+      record { changes = acts.changes; cause = λ is. cc; does = acts.cause (ap (λ w. Err w) failed) }) goes
 
   pub opened_refused : (why : TreeFault) (one two : List Step → Type 0) → Goes one two (Tells Told (stopping R why)) → Goes one two (Acts [] Finds (stopping (Option R) fault.Memory))
   opened_refused why one two goes = goes_as _ _ one two (λ p q tells. record {

@@ -1,5 +1,5 @@
 -- What is told of a day, and what it says of the files under its names.
-use Rattle.std.specs.Prelude.{◌<◌, ◌≤◌, ◌≡◌, ◌⊎◌, ℕ, true, List, length, None, Some, Result, Ok, Err, IfOk, IsErrOf, IsSome, ◌++◌, codes}
+use Rattle.std.specs.Prelude.{IsSomeAnd, ◌<◌, ◌≤◌, ◌≡◌, ◌⊎◌, ℕ, true, false, List, length, None, Some, Result, Ok, Err, IfOk, IsErrOf, IsSome, ◌++◌, codes}
 use Rattle.msr_tree.specs.Steps.{AtEachMoment, ChangesOnly, Leaves, Path, Step, failures, now, seen}
 use Rattle.msr_tree.specs.declared.tree.TreeFault.{TreeFault}
 use Rattle.msr_tree.specs.declared.tree.TreeFault.TheVariants.{Failed}
@@ -11,6 +11,11 @@ use Rattle.msr_replace.specs.Kinds.{HoldsInt24, LacksInt24}
 use Rattle.msr_stamp.specs.declared.stamp.StampOf.TheVariants as stamped
 use Rattle.msr_exchange.specs.Names.{Names, StampPlaces, all, path_below}
 use Rattle.msr_replace.specs.Restored.{refusal_of}
+use Rattle.msr_replace.specs.Ways.{IsKindFound, IsWay}
+use Rattle.msr_replace.specs.declared.ways.Way.TheVariants as way
+use Rattle.msr_folders.specs.Paths.{folder_of}
+use Rattle.msr_tree.specs.declared.facts.Facts.{Facts}
+use Rattle.msr_tree.specs.declared.facts.Kind.TheVariants.{Link}
 use Rattle.msr_exchange.specs.Stamped.{LeavesStamp, all_and_stamp}
 use Rattle.msr_exchange.specs.Promise.{AreKept, HaveChanged, KeepsBoth, LeavesAlone}
 use Rattle.msr_replace.specs.declared.answers.DayAnswer.{DayAnswer}
@@ -66,29 +71,65 @@ pub record IsReplaced (work : DayWork) (names : Names) (report : Path) (before a
   pub day : IsVerifiedDay work names report before after old
   pub changed : (a b : List ℕ) → AreKept names Original Records a b old → HaveChanged names Original a b new
 
+-- The three files are verified ones.
+abbrev pub AreVerified : Names → (report : Path) → List Step → Type 0
+AreVerified names report past = IsFoundDay names report (Ok finding.Verified) past
+
 -- A record of the day has 24-bit integers.
 pub record HaveInt24 (names : Names) (past : List Step) : Type 0 where
   pub records : List ℕ
   pub comes : seen past names.records ≡ Some records
   pub holds : HoldsInt24 records
 
--- what a refusal says of the bytes
-abbrev pub IsRefusedFor : Names → (report : Path) → DayRefusal → List Step → Type 0
-IsRefusedFor names report (said.Fault fault) past = IsFoundDay names report (Err fault) past
-IsRefusedFor names report said.Int24 past = HaveInt24 names past
-IsRefusedFor names report refusal past = Unit {0}
+-- a file cannot be opened: the name leads to none, or a call failed
+abbrev pub IsNotOpened : Path → (old new : List Step) → Type 0
+IsNotOpened path old new = (now old path ≡ None) ⊎ (failures old < failures new)
+
+-- there is a link under that name, or on the way from `top` to the day's folder
+abbrev pub IsLinked : DayWork → (report top name : Path) → List Step → Type 0
+IsLinked work report top name past = IsKindFound name past (Some Link) ⊎ ((path : Path) × (report ≡ report_in work path) × IsWay top (folder_of path) past way.Odd)
+
+-- the day's file and its records have as many bytes as was told
+pub record HaveLengths (names : Names) (file records : Facts) (past : List Step) : Type 0 where
+  pub file_is : IsSomeAnd (now past names.day) (λ found. file.bytes ≡ length found.bytes)
+  pub records_are : IsSomeAnd (now past names.records) (λ found. records.bytes ≡ length found.bytes)
+
+-- These are told to be one file.
+pub record AreToldOne (names : Names) (past : List Step) : Type 0 where
+  pub file : Facts
+  pub records : Facts
+  pub have : HaveLengths names file records past
+  pub device : file.device ≡ records.device
+  pub number : file.number ≡ records.number
+
+-- Why a day is refused. What is found as the files change places is told of verified files only, and so is that records
+-- which were read cannot be read again.
+abbrev pub IsRefusedFor : DayWork → Names → (report : Path) → DayRefusal → (old new : List Step) → Type 0
+IsRefusedFor work names report said.Link old new = IsLinked work report work.root.now names.day old ⊎ AreVerified names report old
+IsRefusedFor work names report said.RecordsLink old new = IsLinked work report work.out.now names.records old ⊎ AreVerified names report old
+IsRefusedFor work names report said.FileUnopened old new = IsNotOpened names.day old new
+IsRefusedFor work names report said.RecordsUnopened old new = IsNotOpened names.records old new ⊎ AreVerified names report old
+IsRefusedFor work names report said.ReportUnopened old new = IsNotOpened report old new
+IsRefusedFor work names report said.SameFile old new = AreToldOne names old
+IsRefusedFor work names report (said.Fault fault) old new = IsFoundDay names report (Err fault) old
+IsRefusedFor work names report said.Int24 old new = (work.int24 ≡ false) × HaveInt24 names old
+IsRefusedFor work names report said.AsideLink old new = AreVerified names report old
+IsRefusedFor work names report said.AsideTaken old new = AreVerified names report old
+IsRefusedFor work names report said.RecordsTaken old new = AreVerified names report old
+IsRefusedFor work names report said.Dress old new = AreVerified names report old
+IsRefusedFor work names report said.AsideDress old new = AreVerified names report old
 
 -- what an answer says of a day with which nothing is done
-abbrev pub IsToldDay : DayWork → Names → (report : Path) → DayAnswer → List Step → Type 0
-IsToldDay work names report (Replaced before after) past = ⊥
-IsToldDay work names report Same past = IsShownItself names report past
-IsToldDay work names report Young past = IsSome work.changed_before
-IsToldDay work names report (Larger before after) past = (work.only_smaller ≡ true) × (before ≤ after) × IsVerifiedDay work names report before after past
-IsToldDay work names report Changed past = Unit {0}
-IsToldDay work names report Missing past = (now past names.records ≡ None) ⊎ (now past report ≡ None)
-IsToldDay work names report NotShown past = IsFoundDay names report (Ok finding.NotShown) past
-IsToldDay work names report Differs past = IsFoundDay names report (Ok finding.Differs) past
-IsToldDay work names report (Refused refusal) past = IsRefusedFor names report refusal past
+abbrev pub IsToldDay : DayWork → Names → (report : Path) → DayAnswer → (old new : List Step) → Type 0
+IsToldDay work names report (Replaced before after) old new = ⊥
+IsToldDay work names report Same old new = IsShownItself names report old
+IsToldDay work names report Young old new = IsSome work.changed_before
+IsToldDay work names report (Larger before after) old new = (work.only_smaller ≡ true) × (before ≤ after) × IsVerifiedDay work names report before after old
+IsToldDay work names report Changed old new = AreVerified names report old
+IsToldDay work names report Missing old new = (now old names.records ≡ None) ⊎ (now old report ≡ None)
+IsToldDay work names report NotShown old new = IsFoundDay names report (Ok finding.NotShown) old
+IsToldDay work names report Differs old new = IsFoundDay names report (Ok finding.Differs) old
+IsToldDay work names report (Refused refusal) old new = IsRefusedFor work names report refusal old new
 
 -- each crash leaves the records in ROOT, if both files were kept when it began
 abbrev pub IsInPlaceOf : Names → (old new : List Step) → Type 0
@@ -98,13 +139,13 @@ IsInPlaceOf names old new = (a b : List ℕ) → AreKept names Original Records 
 abbrev pub Means : DayWork → Names → (report : Path) → DayAnswer → (old new : List Step) → Type 0
 Means work names report (Replaced before after) old new = IsReplaced work names report before after old new
 Means work names report Same old new = IsShownItself names report old ⊎ IsInPlaceOf names old new
-Means work names report Young old new = IsToldDay work names report Young old
-Means work names report (Larger before after) old new = IsToldDay work names report (Larger before after) old
-Means work names report Changed old new = IsToldDay work names report Changed old
-Means work names report Missing old new = IsToldDay work names report Missing old
-Means work names report NotShown old new = IsToldDay work names report NotShown old
-Means work names report Differs old new = IsToldDay work names report Differs old
-Means work names report (Refused refusal) old new = IsToldDay work names report (Refused refusal) old
+Means work names report Young old new = IsToldDay work names report Young old new
+Means work names report (Larger before after) old new = IsToldDay work names report (Larger before after) old new
+Means work names report Changed old new = IsToldDay work names report Changed old new
+Means work names report Missing old new = IsToldDay work names report Missing old new
+Means work names report NotShown old new = IsToldDay work names report NotShown old new
+Means work names report Differs old new = IsToldDay work names report Differs old new
+Means work names report (Refused refusal) old new = IsToldDay work names report (Refused refusal) old new
 
 -- What is promised of a day whose records are to take the place of its file: its names alone change; if both files are
 -- kept when it begins, they are at each moment since; another file in ASIDE is left alone; and the answer is so.

@@ -1,8 +1,8 @@
 -- What the bytes under the names of a day show.
-use Rattle.std.specs.Prelude.{◌≡◌, ℕ, Bool, true, false, ◌&&◌, List, Option, None, Some, Result, Ok, Err, if◌then◌else◌, leb, length, IsSomeAnd}
+use Rattle.std.specs.Prelude.{◌<◌, ◌≡◌, ℕ, Bool, true, false, ◌&&◌, List, Option, None, Some, Result, Ok, Err, if◌then◌else◌, leb}
 use Rattle.msr_devices.specs.Device.{Device, HasLeft, unused}
 use Rattle.msr_tree.specs.Calls.{Opens}
-use Rattle.msr_tree.specs.Steps.{Path, Step, now, seen}
+use Rattle.msr_tree.specs.Steps.{Path, Step, failures, seen}
 use Rattle.msr_tree.specs.declared.facts.Facts.{Facts}
 use Rattle.msr_report.specs.declared.report.Report.{Report}
 use Rattle.msr_verdict.specs.Packed.{ShowsLeast}
@@ -11,7 +11,7 @@ use Rattle.msr_input.specs.declared.fault.ReadFault.{ReadFault}
 use Rattle.msr_verify.specs.declared.judging.Finding.{Finding}
 use Rattle.msr_verify.specs.declared.judging.Finding.TheVariants as finding
 use Rattle.msr_verify.specs.declared.judging.VerifyFault.{VerifyFault}
-use Rattle.msr_replace.specs.Answers.{IsFoundDay, IsRefusedFor, IsToldDay, IsVerifiedDay}
+use Rattle.msr_replace.specs.Answers.{AreVerified, HaveLengths, IsFoundDay, IsRefusedFor, IsToldDay, IsVerifiedDay}
 use Rattle.msr_replace.specs.Looks.{IsSeenDay, SortsAs}
 use Rattle.msr_replace.specs.declared.looks.Looked.{Looked}
 use Rattle.msr_replace.specs.declared.looks.Sorted.TheVariants.{Missing}
@@ -28,7 +28,7 @@ use Rattle.msr_exchange.specs.declared.work.DayWork.{DayWork}
 
 -- a file that is opened has the bytes of its name
 abbrev pub FindsOpen : Path → {T : Type 0} → (T → Device) → (old new : List Step) → Option T → Type 0
-FindsOpen path device old new None = Unit {0}
+FindsOpen path device old new None = failures old < failures new
 FindsOpen path device old new (Some reader) = Opens path old (device reader)
 
 -- what is told of files that were opened and judged
@@ -40,7 +40,7 @@ opened_as_found (Err fault) = opened.Told (Refused (Fault fault))
 
 abbrev pub IsOpenedDay : DayWork → Names → (report : Path) → (old new : List Step) → Opened → Type 0
 IsOpenedDay work names report old new opened.Verified = IsFoundDay names report (Ok finding.Verified) old
-IsOpenedDay work names report old new (opened.Told answer) = IsToldDay work names report answer old
+IsOpenedDay work names report old new (opened.Told answer) = IsToldDay work names report answer old new
 
 -- a reader has the bytes of a name
 pub record ReadsName (path : Path) (device : Device) (past : List Step) : Type 0 where
@@ -104,17 +104,12 @@ pub record LackInt24 (names : Names) (past : List Step) : Type 0 where
 
 abbrev pub TellsKinds : Names → (old new : List Step) → Option DayRefusal → Type 0
 TellsKinds names old new None = LackInt24 names old
-TellsKinds names old new (Some refusal) = (report : Path) → IsRefusedFor names report refusal old
+TellsKinds names old new (Some refusal) = (work : DayWork) (report : Path) → work.int24 ≡ false → AreVerified names report old → IsRefusedFor work names report refusal old new
 
 -- what is known before anything is done
 abbrev pub JudgesReplaceable : DayWork → Names → (report : Path) → (old new : List Step) → Judged → Type 0
-JudgesReplaceable work names report old new (judged.Told answer) = IsToldDay work names report answer old
+JudgesReplaceable work names report old new (judged.Told answer) = IsToldDay work names report answer old new
 JudgesReplaceable work names report old new (judged.Verified verified) = IsVerifiedDay work names report verified.file.bytes verified.records.bytes old
-
--- the day's file and its records have as many bytes as was told
-pub record HaveLengths (names : Names) (file records : Facts) (past : List Step) : Type 0 where
-  pub file_is : IsSomeAnd (now past names.day) (λ found. file.bytes ≡ length found.bytes)
-  pub records_are : IsSomeAnd (now past names.records) (λ found. records.bytes ≡ length found.bytes)
 
 abbrev pub JudgesKinds : DayWork → Names → (file records : Facts) → (old new : List Step) → Judged → Type 0
 JudgesKinds work names file records old new answer = (report : Path) → HaveLengths names file records old → IsFoundDay names report (Ok finding.Verified) old

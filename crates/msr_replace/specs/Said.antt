@@ -1,5 +1,5 @@
 -- What is told of the entries of a walk, by what the names lead to.
-use Rattle.std.specs.Prelude.{◌<◌, ◌≡◌, ◌≢◌, ◌⊎◌, ⊤, true, false, List, [], ◌∷◌, Option, None, Some, is_some, Result, Ok, Err, IfOk}
+use Rattle.std.specs.Prelude.{◌<◌, ◌≡◌, ◌≢◌, ◌⊎◌, true, false, List, [], ◌∷◌, Option, None, Some, is_some, Result, Ok, Err, IfOk}
 use Rattle.std.specs.Borrow.{Bor}
 use Rattle.msr_devices.specs.Device.{Device}
 use Rattle.msr_devices.specs.declared.fault.DeviceFault.{DeviceFault}
@@ -23,6 +23,7 @@ use Rattle.msr_replace.specs.Entries.{ExchangeEntry, IsExchangeEntry, IsExchange
 use Rattle.msr_replace.specs.Restored.{RestoresDay}
 use Rattle.msr_replace.specs.Touched.{TouchesDays}
 use Rattle.msr_replace.specs.Walk.{HasCome}
+use Rattle.msr_replace.specs.Ways.{LeadsBack}
 use Rattle.msr_replace.specs.declared.lines.EntryRefusal.{EntryRefusal}
 use Rattle.msr_replace.specs.declared.lines.EntryRefusal.TheVariants as refusal
 use Rattle.msr_replace.specs.declared.lines.Outcome.{Outcome}
@@ -118,19 +119,28 @@ abbrev pub IsOfUnlisted : Course → DayWork → (folder : Path) → Option Outc
 IsOfUnlisted on work folder None old = (on ≢ course.Root) × (is_there old (joined (walked on work) folder) ≡ false)
 IsOfUnlisted on work folder (Some outcome) old = outcome ≡ Refused (unlisted_of on)
 
--- why a folder is left alone: another process works on it, no way leads there, or the tree failed
-abbrev pub IsWhyPassed : Outcome → Type 0
-IsWhyPassed (Refused refusal.Busy) = ⊤
-IsWhyPassed (Refused refusal.NoFolder) = ⊤
-IsWhyPassed FolderFailed = ⊤
-IsWhyPassed outcome = ⊥
+-- why a folder is left alone: another process works on it, and nothing is done; no way leads there; or a call failed
+abbrev pub IsWhyPassed : Course → DayWork → (folder : Path) → Outcome → (old new : List Step) → Type 0
+IsWhyPassed on work folder (Refused refusal.Busy) old new = new ≡ old
+IsWhyPassed on work folder (Refused refusal.NoFolder) old new = (on ≢ course.Root) × LeadsBack work folder old false
+IsWhyPassed on work folder FolderFailed old new = failures old < failures new
+IsWhyPassed on work folder outcome old new = ⊥
+
+-- A folder is left alone for that. No more is changed than what is in its making.
+pub record PassesFolder (on : Course) (work : DayWork) (folder : Path) (outcome : Outcome) (old new : List Step) : Type 0 where
+  pub why : IsWhyPassed on work folder outcome old new
+  pub changes : ChangesOnly (all_parts_in work folder) old new
+
+-- what is told of a folder that is left, whose originals are all back: that a call failed, or nothing
+abbrev pub IsOfLeft : (folder : Path) → List Said → (old new : List Step) → Type 0
+IsOfLeft folder said old new = (said ≡ []) ⊎ ((said ≡ only_line folder FolderFailed) × (failures old < failures new))
 
 -- what is said of a visit, and done in it but of a day, if the tree has not failed before
 abbrev pub IsSaidGoing : Course → DayWork → (old new : List Step) → Visit → List Said → Type 0
 IsSaidGoing on work old new (Entry path kind) said = (outcome : Option Outcome) × (said ≡ said_of path outcome) × IsOfEntry on work path kind outcome old new
 IsSaidGoing on work old new (WithoutList folder) said = (outcome : Option Outcome) × (said ≡ said_of (told_folder folder) outcome) × IsOfUnlisted on work folder outcome old × OnlyLooks old new
-IsSaidGoing on work old new (Passed folder) said = (outcome : Outcome) × (said ≡ only_line folder outcome) × IsWhyPassed outcome × ChangesOnly (all_parts_in work folder) old new
-IsSaidGoing on work old new (Left folder) said = ((said ≡ []) ⊎ (said ≡ only_line folder FolderFailed)) × ChangesOnly [] old new
+IsSaidGoing on work old new (Passed folder) said = (on ≢ course.Out) × (outcome : Outcome) × (said ≡ only_line folder outcome) × PassesFolder on work folder outcome old new
+IsSaidGoing on work old new (Left folder) said = IsOfLeft folder said old new × ChangesOnly [] old new
 
 -- what is said of a visit; after the tree has failed nothing is done
 abbrev pub IsSaid : Course → DayWork → (old new : List Step) → Visit → List Said → Type 0

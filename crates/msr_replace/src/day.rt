@@ -89,6 +89,7 @@ fn judge_whole<T: Tree>(
     file: Facts,
     records: Facts,
 ) -> Result<Judged, TreeFault>
+    requires { report.now ≡ report_in work.now path.now }
     ensures { Goes (T.went tree.old) (T.went tree.new)
         (Acts [] (JudgesWhole work.now names.now report.now file records) result) }
 {
@@ -126,6 +127,7 @@ fn judge_sorted<T: Tree>(
     report: &str,
     looked: &Looked,
 ) -> Result<Judged, TreeFault>
+    requires { report.now ≡ report_in work.now path.now }
     ensures { Goes (T.went tree.old) (T.went tree.new)
         (Acts [] (JudgesSeen work.now names.now report.now looked.now) result) }
 {
@@ -145,6 +147,7 @@ fn judge<T: Tree>(
     path: &str,
     report: &str,
 ) -> Result<Judged, TreeFault>
+    requires { report.now ≡ report_in work.now path.now }
     ensures { Goes (T.went tree.old) (T.went tree.new) (Acts [] (JudgesReplaceable work.now names.now report.now) result) }
 {
     let looked = look_at_day(tree, names, report)?;
@@ -161,7 +164,8 @@ fn replace_named<T: Tree>(
     path: &str,
     report: &str,
 ) -> Result<DayAnswer, TreeFault>
-    requires { AreNames names.now }
+    requires names { AreNames names.now }
+    requires report { report.now ≡ report_in work.now path.now }
     ensures { Goes (T.went tree.old) (T.went tree.new) (Exchanges work.now names.now report.now result) }
 {
     match judge(tree, work, names, path, report)? {
@@ -192,6 +196,7 @@ fn replace_stamped<T: Tree>(
 ) -> Result<DayAnswer, TreeFault>
     requires names { AreNames names.now }
     requires stamp { AreStampNames names.now stamp.now }
+    requires report { report.now ≡ report_in work.now path.now }
     ensures { Goes (T.went tree.old) (T.went tree.new) (Replaces work.now names.now report.now stamp.now result) }
 {
     let answer = replace_named(tree, work, names, path, report)?;

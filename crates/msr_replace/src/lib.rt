@@ -5,6 +5,7 @@ mod answers;
 mod day;
 mod kinds;
 mod lines;
+mod locks;
 mod looks;
 mod progress;
 mod replacer;
@@ -19,4 +20,5 @@ mod words;
 
 pub use answers::{DayAnswer, DayRefusal, DayRestored};
 pub use day::{replace_path, restore_path};
+pub use locks::FolderLocks;
 pub use walk::{Replaced, replace};

@@ -2,8 +2,7 @@
 ghost use Rattle.std.specs.Prelude.{◌≡◌, []};
 ghost use Rattle.msr_tree.specs.Acts.{Acts};
 ghost use Rattle.msr_tree.specs.Calls.{Goes};
-ghost use Rattle.msr_replace.specs.Looks.{AsksYoung, IsSeenDay, RefusesByNames, SortsAs};
-ghost use Rattle.msr_exchange.specs.Moves.{Anything};
+ghost use Rattle.msr_replace.specs.Looks.{AreOfOne, AsksYoung, IsSeenDay, RefusesWhole, SortsAs, TellsOwn};
 
 use crate::answers::DayRefusal;
 use crate::ways::odd_way;
@@ -114,7 +113,9 @@ fn sort_file(looked: &Looked, records: Facts) -> Sorted
     }
 }
 
-fn are_one(one: Facts, other: Facts) -> bool {
+fn are_one(one: Facts, other: Facts) -> bool
+    ensures { AreOfOne one other result }
+{
     one.device == other.device && one.number == other.number
 }
 
@@ -133,7 +134,7 @@ fn is_own<T: Tree>(
     file: Facts,
     records: Facts,
 ) -> Result<bool, TreeFault>
-    ensures { Goes (T.went tree.old) (T.went tree.new) (Acts [] Anything result) }
+    ensures { Goes (T.went tree.old) (T.went tree.new) (Acts [] (TellsOwn file records) result) }
 {
     let original = tree.look(names.at(Place::Original))?;
     Ok(are_one(file, records) & !is_apart(original, file))
@@ -148,7 +149,8 @@ pub(crate) fn odd_day<T: Tree>(
     file: Facts,
     records: Facts,
 ) -> Result<Option<DayRefusal>, TreeFault>
-    ensures { Goes (T.went tree.old) (T.went tree.new) (Acts [] RefusesByNames result) }
+    ensures { Goes (T.went tree.old) (T.went tree.new)
+        (Acts [] (RefusesWhole work.now names.now path.now file records) result) }
 {
     if is_own(tree, names, file, records)? {
         return Ok(Some(DayRefusal::SameFile));

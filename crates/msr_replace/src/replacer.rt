@@ -5,7 +5,6 @@ ghost use Rattle.msr_replace.specs.Said.{unlisted_of, walked};
 
 use crate::lines::EntryRefusal;
 use msr_exchange::DayWork;
-use std::rt::Files;
 
 /// Which folders are walked.
 #[derive(Clone, Copy, PartialEq, Eq)]
@@ -41,10 +40,10 @@ impl Course {
     }
 }
 
-/// What an entry needs: the system's files, what is to be done, and where.
+/// What an entry needs: the locks of folders, what is to be done, and where.
 #[derive(Drop)]
-pub(crate) struct Replacer<'a, R: Files> {
-    pub(crate) rt: &'a R,
+pub(crate) struct Replacer<'a, L> {
+    pub(crate) locks: &'a L,
     pub(crate) work: DayWork<'a>,
     pub(crate) course: Course,
     ghost apart: { AreThreeFolders work },

@@ -8,33 +8,29 @@ ghost use Rattle.msr_folders.specs.Days.{IsDay, IsNoDay};
 ghost use Rattle.msr_folders.specs.Entries.{Entry};
 ghost use Rattle.msr_folders.specs.Walks.{TellsVisit, VisitDoes};
 ghost use Rattle.msr_replace.specs.Entries.{ExchangeEntry, IsExchangeEntry, IsExchangeEntryLine, IsExchangeTally, IsExchangeOf, IsStoppedAt, entry_of, has_failed};
-ghost use Rattle.msr_replace.specs.Said.{DoesFor, IsOfDay, IsOfReplaced, IsOfRestored, IsSaid, IsWhyPassed, Said, SearchesDay, TellsOther, TellsSaid, only_line, other_outcome, walked};
+ghost use Rattle.msr_replace.specs.Said.{DoesFor, IsOfDay, IsOfReplaced, IsOfRestored, IsSaid, PassesFolder, Said, SearchesDay, TellsOther, TellsSaid, only_line, other_outcome, walked};
 ghost use Rattle.msr_replace.specs.Touching.{touching_laws};
 ghost use Rattle.msr_replace.specs.Touched.{TouchesDays};
 ghost use Rattle.msr_replace.specs.Walk.{Prints, StopsTellingExchanges};
 ghost use Rattle.msr_sds.specs.declared.SdsFault.{SdsFault};
-ghost use Rattle.msr_exchange.specs.Stamped.{all_parts_in};
 ghost use Rattle.msr_exchange.specs.Work.{AreThreeFolders};
 ghost use Rattle.msr_tree.specs.Calls.{Goes};
 ghost use Rattle.msr_tree.specs.Listing.{is_there};
 ghost use Rattle.msr_tree.specs.Reads.{OnlyLooks};
-ghost use Rattle.msr_tree.specs.Steps.{ChangesOnly};
 ghost use Rattle.msr_tree.specs.declared.kind.FileKind.{FileKind};
 
 use crate::day::{replace_path, restore_path};
 use crate::lines::{EntryRefusal, Outcome};
+use crate::locks::FolderLocks;
 use crate::progress::Progress;
 use crate::replacer::{Course, Replacer};
 use crate::ways::{begin_folder, end_folder};
 use msr_devices::{DeviceFault, Sink, write_all};
 use msr_exchange::DayWork;
-use msr_folders::{EntryVisitor, Lock, LockFile, join, told_folder};
+use msr_folders::{EntryVisitor, join, told_folder};
 use msr_sds::{SdsFault, SdsName};
 use msr_tree::{FileKind, Tree, TreeFault};
 use std::alloc::{AllocError, Global};
-use std::fs;
-use std::fs::File;
-use std::rt::Files;
 
 const BUSY: Outcome = Outcome::Refused(EntryRefusal::Busy);
 
@@ -156,35 +152,11 @@ fn other_outcome(kind: FileKind, fault: SdsFault) -> Outcome
     }
 }
 
-/// Opens a folder, if there is one.
-fn opened<R: Files>(rt: &R, place: &str) -> Option<R::File> {
-    match fs::metadata(rt, place) {
-        Ok(metadata) if metadata.is_dir() => File::open(rt, place).ok(),
-        _ => None,
-    }
-}
-
-/// Locks an opened folder, unless another process has it. A system without locks tells of none.
-fn is_taken<F: LockFile>(folder: &Option<F>) -> bool {
-    match folder {
-        Some(folder) => folder.lock() == Lock::Others,
-        None => false,
-    }
-}
-
-impl<R: Files> Replacer<'_, R>
-where
-    R::File: LockFile,
-{
+impl<L: FolderLocks> Replacer<'_, L> {
     /// The folder of the archive with that path, locked if the system has locks; nothing if another process has it.
-    fn lock(&self, folder: &str) -> Result<Option<Option<R::File>>, AllocError> {
+    fn lock(&self, folder: &str) -> Result<Option<L::Lock>, AllocError> {
         let place = join(self.work.alloc, self.work.root, folder)?;
-        let opened = opened(self.rt, place.as_str());
-        Ok(if is_taken(&opened) {
-            None
-        } else {
-            Some(opened)
-        })
+        Ok(self.locks.lock(place.as_str()))
     }
 
     /// What is told of a day, if anything is, once it is done.
@@ -250,15 +222,25 @@ where
         }
     }
 
+    /// What is told of a folder that is left alone for no way leads there.
+    fn passed(&self, leads_back: bool) -> Option<Outcome>
+        ensures { IfSome result (λ outcome. (outcome ≡ Outcome.Refused EntryRefusal.NoFolder) × (self.now.course ≢ Course.Root) × (leads_back ≡ false)) }
+    {
+        if leads_back || self.course == Course::Root {
+            return None;
+        }
+        Some(NO_FOLDER)
+    }
+
     /// Begins with a folder of days that this process has; what is told of it, if it is left alone.
     fn begin<T: Tree>(&self, tree: &mut T, folder: &str) -> Result<Option<Outcome>, DeviceFault>
-        ensures goes { Goes (T.went tree.old) (T.went tree.new) (ChangesOnly (all_parts_in self.now.work folder.now)) }
-        ensures why { IfOk result (λ outcome. IfSome outcome IsWhyPassed) }
+        ensures goes { Goes (T.went tree.old) (T.went tree.new) (DoesFor self.now.course self.now.work
+            (λ outcome past new. IfSome outcome (λ why. PassesFolder self.now.course self.now.work folder.now why past new)) result) }
+        ensures of { IfOk result (λ outcome. IfSome outcome (IsExchangeOf folder.now)) }
         ensures memory { IfErr result (λ fault. fault ≡ Memory) }
     {
         match begin_folder(tree, &self.work, folder) {
-            Ok(leads_back) if leads_back || self.course == Course::Root => Ok(None),
-            Ok(_) => Ok(Some(NO_FOLDER)),
+            Ok(leads_back) => Ok(self.passed(leads_back)),
             Err(TreeFault::Failed) => Ok(Some(Outcome::FolderFailed)),
             Err(TreeFault::Memory) => Err(DeviceFault::Memory),
         }
@@ -282,14 +264,11 @@ where
     }
 }
 
-impl<R: Files> EntryVisitor for Replacer<'_, R>
-where
-    R::File: LockFile,
-{
+impl<L: FolderLocks> EntryVisitor for Replacer<'_, L> {
     type Tally = Progress;
 
     /// The folder of the archive, which is locked while its days are worked on.
-    type Folder = Option<R::File>;
+    type Folder = Option<L::Lock>;
 
     ghost Line = { Said };
 
@@ -318,7 +297,7 @@ where
         levels: u8,
         out: &mut O,
         progress: &mut Progress,
-    ) -> Result<Option<Option<R::File>>, DeviceFault> {
+    ) -> Result<Option<Option<L::Lock>>, DeviceFault> {
         if progress.failed.is_some() {
             return Ok(None);
         }
@@ -334,13 +313,13 @@ where
             tell(self.work.alloc, folder, outcome, out, progress)?;
             return Ok(None);
         }
-        Ok(Some(locked))
+        Ok(Some(Some(locked)))
     }
 
     fn visit_entry<T: Tree, O: Sink>(
         &self,
         tree: &mut T,
-        _locked: &Option<R::File>,
+        _locked: &Option<L::Lock>,
         path: &str,
         kind: FileKind,
         out: &mut O,

@@ -12,16 +12,16 @@ ghost use Rattle.msr_replace.specs.Touched.{TouchesDays, course_of};
 ghost use Rattle.msr_replace.specs.Tree.{ChangesAsked, IsWorkOf, ReplacesTree, TellsCourses};
 ghost use Rattle.msr_replace.specs.Walk.{HasCome, ReplacesDays, StopsTellingExchanges};
 
+use crate::locks::FolderLocks;
 use crate::progress::Progress;
 use crate::replacer::{Course, Replacer};
 use crate::tally::Tally;
 use msr_devices::{DeviceFault, Sink};
 use msr_exchange::DayWork;
-use msr_folders::{EntryWalk, LockFile, WalkFound, days_before, visit_entries};
+use msr_folders::{EntryWalk, WalkFound, days_before, visit_entries};
 use msr_options::Replacing;
 use msr_tree::{Time, Tree};
 use std::alloc::Global;
-use std::rt::Files;
 
 /// How a walk ended.
 #[derive(Drop)]
@@ -52,8 +52,8 @@ fn work_of<'a>(alloc: Global, asked: &Replacing<'a>, now: Time) -> DayWork<'a>
 }
 
 /// Walks those folders.
-fn walk_course<R: Files, T: Tree, O: Sink>(
-    rt: &R,
+fn walk_course<L: FolderLocks, T: Tree, O: Sink>(
+    locks: &L,
     tree: &mut T,
     work: &DayWork<'_>,
     below: &[&str],
@@ -61,8 +61,6 @@ fn walk_course<R: Files, T: Tree, O: Sink>(
     out: &mut O,
     progress: &mut Progress,
 ) -> Result<(), DeviceFault>
-where
-    R::File: LockFile,
     requires apart { AreThreeFolders work.now }
     requires count { CanCountCall (O.device out.old) }
     ensures told { OnOk result (TellsWalk TellsSaid (IsSaid course work.now) (TouchesDays course work.now) ⊥ (walked course work.now)
@@ -76,7 +74,7 @@ where
         root: course.folder(work),
         below,
         visitor: &Replacer {
-            rt,
+            locks,
             work: *work,
             course,
         },
@@ -85,16 +83,14 @@ where
 }
 
 /// Walks the archive, and then its records.
-fn walk_both<R: Files, T: Tree, O: Sink>(
-    rt: &R,
+fn walk_both<L: FolderLocks, T: Tree, O: Sink>(
+    locks: &L,
     tree: &mut T,
     work: &DayWork<'_>,
     below: &[&str],
     out: &mut O,
     progress: &mut Progress,
 ) -> Result<(), DeviceFault>
-where
-    R::File: LockFile,
     requires apart { AreThreeFolders work.now }
     requires count { CanCountCall (O.device out.old) }
     ensures told { OnOk result (TellsCourses false work.now below.now
@@ -102,21 +98,19 @@ where
     ensures stops { IfErr result (StopsTellingExchanges (O.device out.old) (O.device out.new)) }
     ensures changes { Goes (T.went tree.old) (T.went tree.new) (TouchesDays Course.Root work.now) }
 {
-    walk_course(rt, tree, work, below, Course::Root, out, progress)?;
-    walk_course(rt, tree, work, below, Course::Out, out, progress)
+    walk_course(locks, tree, work, below, Course::Root, out, progress)?;
+    walk_course(locks, tree, work, below, Course::Out, out, progress)
 }
 
 /// Walks all that is asked for.
-fn walk_all<R: Files, T: Tree, O: Sink>(
-    rt: &R,
+fn walk_all<L: FolderLocks, T: Tree, O: Sink>(
+    locks: &L,
     tree: &mut T,
     work: &DayWork<'_>,
     asked: &Replacing<'_>,
     out: &mut O,
     progress: &mut Progress,
 ) -> Result<(), DeviceFault>
-where
-    R::File: LockFile,
     requires apart { AreThreeFolders work.now }
     requires count { CanCountCall (O.device out.old) }
     ensures told { OnOk result (TellsCourses asked.now.undo work.now asked.now.below.items
@@ -126,22 +120,20 @@ where
 {
     let below = asked.below.as_slice();
     if asked.undo {
-        return walk_course(rt, tree, work, below, Course::Aside, out, progress);
+        return walk_course(locks, tree, work, below, Course::Aside, out, progress);
     }
-    walk_both(rt, tree, work, below, out, progress)
+    walk_both(locks, tree, work, below, out, progress)
 }
 
 /// Walks all that is asked for, and tells the sums.
-fn walk<R: Files, T: Tree, O: Sink>(
-    rt: &R,
+fn walk<L: FolderLocks, T: Tree, O: Sink>(
+    locks: &L,
     tree: &mut T,
     work: &DayWork<'_>,
     asked: &Replacing<'_>,
     out: &mut O,
     progress: &mut Progress,
 ) -> Result<WalkFound, DeviceFault>
-where
-    R::File: LockFile,
     requires apart { AreThreeFolders work.now }
     requires work { IsWorkOf asked.now work.now }
     requires empty { HasCome [] progress.old }
@@ -152,7 +144,7 @@ where
         (O.device out.old) (O.device out.new) progress.new.failed) }
     ensures changes { Goes (T.went tree.old) (T.went tree.new) (TouchesDays (course_of asked.now.undo) work.now) }
 {
-    walk_all(rt, tree, work, asked, out, progress)?;
+    walk_all(locks, tree, work, asked, out, progress)?;
     let tally = &progress.tally;
     tally.write(work.alloc, asked.undo, out)?;
     Ok(WalkFound::of(tally.unwell, tally.well))
@@ -161,16 +153,14 @@ where
 /// Replaces the days of the archive, or of the folders of it that are asked for, one after another, and tells then the
 /// days of the same folders of the records that the archive does not have; or restores the days that were set aside. Tells
 /// last whether there is anything but days that are as they should be and what is skipped, and whether there is a day.
-pub fn replace<R: Files, T: Tree, O: Sink>(
-    rt: &R,
+pub fn replace<L: FolderLocks, T: Tree, O: Sink>(
+    locks: &L,
     alloc: Global,
     tree: &mut T,
     asked: &Replacing<'_>,
     now: Time,
     out: &mut O,
 ) -> Replaced
-where
-    R::File: LockFile,
     requires apart { StandApart asked.now.folders }
     requires aside { AreApartFrom asked.now.aside.now asked.now.folders }
     requires count { CanCountCall (O.device out.old) }
@@ -191,7 +181,7 @@ where
         tally: Tally::new(),
         failed: None,
     };
-    let found = walk(rt, tree, &work, asked, out, &mut progress);
+    let found = walk(locks, tree, &work, asked, out, &mut progress);
     let Progress { failed, .. } = progress;
     Replaced { failed, found }
 }

@@ -1,10 +1,10 @@
 //! The folders on the way to a folder of days, before and after its days are worked on.
-ghost use Rattle.std.specs.Prelude.{◌∷◌, []};
+ghost use Rattle.std.specs.Prelude.{◌≡◌, ◌∷◌, []};
 ghost use Rattle.msr_tree.specs.Acts.{Acts};
 ghost use Rattle.msr_tree.specs.Calls.{Goes};
-ghost use Rattle.msr_tree.specs.Steps.{ChangesOnly};
-ghost use Rattle.msr_replace.specs.Looks.{AreOfNames, RefusesByNames};
-ghost use Rattle.msr_replace.specs.Ways.{BeginsFolder, RemovesOnly};
+ghost use Rattle.msr_folders.specs.Paths.{joined};
+ghost use Rattle.msr_replace.specs.Looks.{RefusesByWays, RefusesWays};
+ghost use Rattle.msr_replace.specs.Ways.{AreWays, BeginsFolder, IsKindFound, IsWay, RemovesOnly, further, goes_back, have_links};
 ghost use Rattle.msr_exchange.specs.Stamped.{stamp_part_in};
 ghost use Rattle.msr_exchange.specs.Moves.{Anything};
 
@@ -26,12 +26,23 @@ enum Way {
 }
 
 /// What the names lead to, if those before lead so.
-fn further(way: Way, kind: Option<Kind>) -> Way {
+fn further(way: Way, kind: Option<Kind>) -> Way
+    ensures { result ≡ further way kind }
+{
     match kind {
         Some(Kind::Folder) => way,
-        None if way == Way::Straight => Way::Ends,
-        None => way,
-        Some(_) => Way::Odd,
+        Some(Kind::Regular | Kind::Link | Kind::Other) => Way::Odd,
+        None => ended(way),
+    }
+}
+
+/// What the names lead to, if the last of them leads to nothing.
+fn ended(way: Way) -> Way
+    ensures { result ≡ further way None }
+{
+    match way {
+        Way::Straight | Way::Ends => Way::Ends,
+        Way::Odd => Way::Odd,
     }
 }
 
@@ -41,7 +52,8 @@ fn kind_at<T: Tree>(
     top: &str,
     folder: &str,
 ) -> Result<Option<Kind>, TreeFault>
-    ensures { Goes (T.went tree.old) (T.went tree.new) (Acts [] Anything result) }
+    ensures { Goes (T.went tree.old) (T.went tree.new)
+        (Acts [] (λ past new kind. (new ≡ past) × IsKindFound (joined top.now folder.now) past kind) result) }
 {
     let place = join(alloc, top, folder)?;
     let found = tree.look(place.as_str())?;
@@ -50,11 +62,13 @@ fn kind_at<T: Tree>(
 
 /// What leads from `top` to a folder of days.
 fn way_to<T: Tree>(tree: &mut T, alloc: Global, top: &str, folder: &str) -> Result<Way, TreeFault>
-    ensures { Goes (T.went tree.old) (T.went tree.new) (Acts [] Anything result) }
+    ensures { Goes (T.went tree.old) (T.went tree.new)
+        (Acts [] (λ past new way. (new ≡ past) × IsWay top.now folder.now past way) result) }
 {
     let station = folder_of(folder);
     let network = folder_of(station);
-    let first = kind_at(tree, alloc, top, folder_of(network))?;
+    let year = folder_of(network);
+    let first = kind_at(tree, alloc, top, year)?;
     let second = kind_at(tree, alloc, top, network)?;
     let third = kind_at(tree, alloc, top, station)?;
     let last = kind_at(tree, alloc, top, folder)?;
@@ -64,7 +78,7 @@ fn way_to<T: Tree>(tree: &mut T, alloc: Global, top: &str, folder: &str) -> Resu
 
 /// Why records may not take a file's place, if a link, or what is no folder, is on the way to one of the two.
 fn refusal_of_ways(root: Way, out: Way) -> Option<DayRefusal>
-    ensures { AreOfNames result }
+    ensures { RefusesWays root out result }
 {
     match (root, out) {
         (Way::Odd, _) => Some(DayRefusal::Link),
@@ -79,7 +93,7 @@ pub(crate) fn odd_way<T: Tree>(
     work: &DayWork<'_>,
     path: &str,
 ) -> Result<Option<DayRefusal>, TreeFault>
-    ensures { Goes (T.went tree.old) (T.went tree.new) (Acts [] RefusesByNames result) }
+    ensures { Goes (T.went tree.old) (T.went tree.new) (Acts [] (RefusesByWays work.now path.now) result) }
 {
     let folder = folder_of(path);
     let root = way_to(tree, work.alloc, work.root, folder)?;
@@ -97,21 +111,25 @@ struct Ways {
 
 impl Ways {
     fn of<T: Tree>(tree: &mut T, work: &DayWork<'_>, folder: &str) -> Result<Ways, TreeFault>
-        ensures { Goes (T.went tree.old) (T.went tree.new) (ChangesOnly []) }
+        ensures { Goes (T.went tree.old) (T.went tree.new)
+            (Acts [] (λ past new ways. (new ≡ past) × AreWays work.now folder.now past ways) result) }
     {
-        Ok(Ways {
-            root: way_to(tree, work.alloc, work.root, folder)?,
-            out: way_to(tree, work.alloc, work.out, folder)?,
-            aside: way_to(tree, work.alloc, work.aside, folder)?,
-        })
+        let root = way_to(tree, work.alloc, work.root, folder)?;
+        let out = way_to(tree, work.alloc, work.out, folder)?;
+        let aside = way_to(tree, work.alloc, work.aside, folder)?;
+        Ok(Ways { root, out, aside })
     }
 
-    fn have_links(self) -> bool {
+    fn have_links(self) -> bool
+        ensures { result ≡ have_links self }
+    {
         self.root == Way::Odd || self.out == Way::Odd || self.aside == Way::Odd
     }
 
     /// Whether originals that ASIDE has there can get back into ROOT.
-    fn lead_back(self) -> bool {
+    fn lead_back(self) -> bool
+        ensures { result ≡ goes_back self.root self.aside }
+    {
         match self.aside {
             Way::Straight => self.root == Way::Straight,
             Way::Ends => true,
@@ -158,7 +176,7 @@ fn is_removed<T: Tree>(
     top: &str,
     folder: &str,
 ) -> Result<bool, TreeFault>
-    ensures { Goes (T.went tree.old) (T.went tree.new) (ChangesOnly []) }
+    ensures { Goes (T.went tree.old) (T.went tree.new) (Acts [] Anything result) }
 {
     let place = join(alloc, top, folder)?;
     tree.remove_folder(place.as_str())
@@ -170,7 +188,7 @@ pub(crate) fn end_folder<T: Tree>(
     work: &DayWork<'_>,
     folder: &str,
 ) -> Result<(), TreeFault>
-    ensures { Goes (T.went tree.old) (T.went tree.new) (ChangesOnly []) }
+    ensures { Goes (T.went tree.old) (T.went tree.new) (Acts [] Anything result) }
 {
     let station = folder_of(folder);
     let network = folder_of(station);

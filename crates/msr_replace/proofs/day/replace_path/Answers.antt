@@ -1,3 +1,4 @@
+use Rattle.std.proofs.Common.{refl}
 use Rattle.std.proofs.lemmas.Result.{err_from_is_err_and}
 use Rattle.msr_replace.specs.Answers.{report_in}
 use Rattle.msr_exchange.specs.Work.{names_in, stamp_in}
@@ -24,6 +25,9 @@ pub replace_stamped-requires-clause-stamp : goal.replace_stamped-requires-clause
 replace_stamped-requires-clause-stamp g c =
     let work = c.args.work.now in
     rw (c.in_ok-names.ensures.names, c.in_ok-stamp.ensures) (are_stamp_names work.root.now work.out.now work.aside.now work.reports.now c.args.path.now c.requires.day.0 c.requires.day.1)
+
+pub replace_stamped-requires-clause-report : goal.replace_stamped-requires-clause-report
+replace_stamped-requires-clause-report g c = rw (c.as_str.ensures.value, c.in_ok-report.ensures) refl
 
 pub returns : goal.returns
 returns g c =

@@ -1,5 +1,5 @@
 use Rattle.std.proofs.lemmas.Result.{err_from_is_err_and}
-use Rattle.std.proofs.Common.{Option}
+use Rattle.std.proofs.Common.{inl, inr, Option}
 use Rattle.msr_replace.specs.Judging.{TellsKinds}
 use Rattle.msr_replace.specs.declared.answers.DayRefusal.{DayRefusal}
 use Rattle.msr_replace.proofs.Opening.{kinds_told, opened_as, opening_stopped, unopened_as}
@@ -17,4 +17,4 @@ returns-in-Some g c =
 
 pub returns-in-None : goal.returns-in-None
 returns-in-None g c =
-    unopened_as g.T.Reader.Source.device c.at.result.now {B = Option DayRefusal} (TellsKinds c.args.names.now) c.in_ok-records.field-0 _ _ _ (λ p q report. tt) c.in_ok-records.ensures.went
+    unopened_as g.T.Reader.Source.device c.at.result.now {B = Option DayRefusal} (TellsKinds c.args.names.now) c.in_ok-records.field-0 _ _ _ c.in-None.is (λ p q fails work report none found. inl (inr fails)) c.in_ok-records.ensures.went

@@ -20,4 +20,4 @@ returns-in-Some g c =
 
 pub returns-in-None : goal.returns-in-None
 returns-in-None g c =
-    unopened_as g.T.Reader.Source.device c.args.report.now {B = Bool} (ShowsItself c.args.names.now c.args.report.now) c.in_ok-text.field-0 _ _ _ (λ p q is. cc) c.in_ok-text.ensures.went
+    unopened_as g.T.Reader.Source.device c.args.report.now {B = Bool} (ShowsItself c.args.names.now c.args.report.now) c.in_ok-text.field-0 _ _ _ c.in-None.is (λ p q fails is. cc) c.in_ok-text.ensures.went

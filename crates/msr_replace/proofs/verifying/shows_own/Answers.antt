@@ -17,4 +17,4 @@ returns-in-Some g c =
 
 pub returns-in-None : goal.returns-in-None
 returns-in-None g c =
-    unopened_as g.T.Reader.Source.device c.at.result.now {B = Bool} (ShowsItselfBy c.args.names.now (g.T.Reader.Source.device c.args.text.now)) c.in_ok-own.field-0 _ _ _ (λ p q is. cc) c.in_ok-own.ensures.went
+    unopened_as g.T.Reader.Source.device c.at.result.now {B = Bool} (ShowsItselfBy c.args.names.now (g.T.Reader.Source.device c.args.text.now)) c.in_ok-own.field-0 _ _ _ c.in-None.is (λ p q fails is. cc) c.in_ok-own.ensures.went

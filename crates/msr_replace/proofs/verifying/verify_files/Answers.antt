@@ -1,5 +1,5 @@
 use Rattle.std.proofs.lemmas.Result.{err_from_is_err_and}
-use Rattle.std.proofs.Common.{refl}
+use Rattle.std.proofs.Common.{inr, refl}
 use Rattle.msr_replace.specs.Judging.{IsOpenedDay, IsOpenedBy}
 use Rattle.msr_replace.specs.declared.verifying.Opened.{Opened}
 use Rattle.msr_replace.proofs.Opening.{opened_sooner, opened_then, opening_stopped, unopened_as}
@@ -22,4 +22,4 @@ returns-in-Some g c =
 
 pub returns-in-None : goal.returns-in-None
 returns-in-None g c =
-    rw c.unopened.ensures (unopened_as g.T.Reader.Source.device c.args.report.now {B = Opened} (IsOpenedDay c.args.work.now c.args.names.now c.args.report.now) c.in_ok-text.field-0 _ _ _ (λ p q. tt) c.in_ok-text.ensures.went)
+    rw c.unopened.ensures (unopened_as g.T.Reader.Source.device c.args.report.now {B = Opened} (IsOpenedDay c.args.work.now c.args.names.now c.args.report.now) c.in_ok-text.field-0 _ _ _ c.in-None.is (λ p q fails. inr fails) c.in_ok-text.ensures.went)

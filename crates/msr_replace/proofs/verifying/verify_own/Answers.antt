@@ -1,3 +1,4 @@
+use Rattle.std.proofs.Common.{inr}
 use Rattle.std.proofs.lemmas.Result.{err_from_is_err_and}
 use Rattle.msr_replace.specs.Judging.{IsOpenedBeside}
 use Rattle.msr_replace.specs.declared.verifying.Opened.{Opened}
@@ -16,4 +17,4 @@ returns-in-Some g c =
 
 pub returns-in-None : goal.returns-in-None
 returns-in-None g c =
-    rw c.unopened.ensures (unopened_as g.T.Reader.Source.device c.at.result.now {B = Opened} (IsOpenedBeside c.args.work.now c.args.names.now (g.T.Reader.Source.device c.args.text.now) (g.T.Reader.Source.device c.args.packed.now)) c.in_ok-own.field-0 _ _ _ (λ p q report a b. tt) c.in_ok-own.ensures.went)
+    rw c.unopened.ensures (unopened_as g.T.Reader.Source.device c.at.result.now {B = Opened} (IsOpenedBeside c.args.work.now c.args.names.now (g.T.Reader.Source.device c.args.text.now) (g.T.Reader.Source.device c.args.packed.now)) c.in_ok-own.field-0 _ _ _ c.in-None.is (λ p q fails report a b. inr fails) c.in_ok-own.ensures.went)

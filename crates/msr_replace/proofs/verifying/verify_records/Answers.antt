@@ -1,3 +1,4 @@
+use Rattle.std.proofs.Common.{inl, inr}
 use Rattle.std.proofs.lemmas.Result.{err_from_is_err_and}
 use Rattle.msr_replace.specs.Judging.{IsOpenedBeside, IsOpenedBy}
 use Rattle.msr_replace.specs.declared.verifying.Opened.{Opened}
@@ -21,4 +22,4 @@ returns-in-Some g c =
 
 pub returns-in-None : goal.returns-in-None
 returns-in-None g c =
-    rw c.unopened.ensures (unopened_as g.T.Reader.Source.device c.at.result.now {B = Opened} (IsOpenedBy c.args.work.now c.args.names.now (g.T.Reader.Source.device c.args.text.now)) c.in_ok-packed.field-0 _ _ _ (λ p q report a. tt) c.in_ok-packed.ensures.went)
+    rw c.unopened.ensures (unopened_as g.T.Reader.Source.device c.at.result.now {B = Opened} (IsOpenedBy c.args.work.now c.args.names.now (g.T.Reader.Source.device c.args.text.now)) c.in_ok-packed.field-0 _ _ _ c.in-None.is (λ p q fails report a. inl (inr fails)) c.in_ok-packed.ensures.went)
