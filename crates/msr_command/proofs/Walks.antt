@@ -52,8 +52,13 @@ still_reads still = goes_so (λ old new same. subst (λ it. OnlyReads old it) (s
 -- what was done by names that were lent was done with the files
 pub lent : (before taken left after : List Step → Type 0) (R : (old new : List Step) → Type 0) → Goes before taken (λ old new. new ≡ old)
     → Goes left after (λ old new. new ≡ old) → Goes taken left R → Goes before after R
-lent before taken left after R lends takes_back does = goes_on (λ old between new done same. subst (λ it. R old it) (sym same) done)
-    (goes_on (λ old between new same done. subst (λ it. R it new) same done) lends does) takes_back
+lent before taken left after R lends keeps does = goes_on (λ old between new done same. subst (λ it. R old it) (sym same) done)
+    (goes_on (λ old between new same done. subst (λ it. R it new) same done) lends does) keeps
+
+-- and stayed so until nothing was on the screen
+pub cleared : {left kept after : List Step → Type 0} → Goes left kept (λ old new. new ≡ old) → Goes kept after (λ old new. new ≡ old)
+    → Goes left after (λ old new. new ≡ old)
+cleared keeps clears = goes_on (λ old between new same again. again ∙ same) keeps clears
 
 module _ (before1 after1 before after : List Step → Type 0) (out0 out1 out : Device)
     (takes_as : (printed : List ℕ) → Takes out1 out printed → Takes out0 out printed)

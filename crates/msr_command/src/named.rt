@@ -1,5 +1,6 @@
 //! The files that a task names.
-ghost use Rattle.std.specs.Prelude.{◌≡◌, List, IfErr, IfOk};
+ghost use Rattle.std.specs.Borrow.{Lends, sem};
+ghost use Rattle.std.specs.Prelude.{◌≡◌, List, IfErr, IfOk, Some};
 ghost use Rattle.msr_devices.specs.Device.{CanCountCall};
 ghost use Rattle.msr_tree.specs.Calls.{Goes};
 ghost use Rattle.msr_tree.specs.Steps.{Step};
@@ -19,7 +20,7 @@ use std::time::Clock;
 /// The files that a task names, and the system that has them. Nobody else changes what their names lead to.
 pub trait NamedFiles {
     /// The system that has the files.
-    type System: Files + Clock;
+    type System: Files + Clock + Copy;
 
     /// An open file to be read.
     type Reader: Source + Drop;
@@ -30,22 +31,40 @@ pub trait NamedFiles {
     /// An open file that is written from its start.
     type Writer: Sink + Drop;
 
-    /// The names of the files, by which a walk finds them.
-    type Names: Tree + Drop;
+    /// The names of the files, by which a walk finds them. A file that it renames may have both names.
+    type Names: Tree;
+
+    /// The same, where a file that the walk renames never has both.
+    type Unlinked: Tree;
 
     /// The steps so far may be these, the last one first. Of files of which no steps are known there may be none.
     ghost went: { Self → List Step → Type 0 };
 
+    /// The files once these are their names.
+    ghost with_names: { Self → Self.Names → Self };
+
+    ghost with_unlinked: { Self → Self.Unlinked → Self };
+
     fn system(&self) -> &Self::System;
 
-    /// Lends a walk the names, until it has ended. A file that the walk renames may have both names, or never has. If a
-    /// folder is watched, a person may see how far the walk through it is.
-    fn lend(&mut self, alloc: Global, has_links: bool, watched: Option<&str>) -> Self::Names
-        ensures { Goes (went self.old) (Self.Names.went result) (λ old new. new ≡ old) };
+    /// Lends a walk the names: what is done by them is done with the files. If a folder is watched, a person may see how
+    /// far the walk through it is.
+    fn lend(&mut self, alloc: Global, watched: Option<&str>) -> &mut Self::Names
+        ensures* writes_back { sem 𝓛 (Lends Self.row Self.Names.row self.entry result (with_names self.old)) }
+        ensures lends { Goes (went self.old) (Self.Names.went result.now) (λ old new. new ≡ old) }
+        ensures keeps { (names : Self.Names) →
+            Goes (Self.Names.went names) (went (with_names self.old names)) (λ old new. new ≡ old) };
 
-    /// Takes them back from a walk that has ended: what was done by these names was done with the files.
-    fn take_back(&mut self, names: Self::Names)
-        ensures { Goes (Self.Names.went names) (went self.new) (λ old new. new ≡ old) };
+    /// The same.
+    fn lend_unlinked(&mut self, alloc: Global, watched: Option<&str>) -> &mut Self::Unlinked
+        ensures* writes_back { sem 𝓛 (Lends Self.row Self.Unlinked.row self.entry result (with_unlinked self.old)) }
+        ensures lends { Goes (went self.old) (Self.Unlinked.went result.now) (λ old new. new ≡ old) }
+        ensures keeps { (names : Self.Unlinked) →
+            Goes (Self.Unlinked.went names) (went (with_unlinked self.old names)) (λ old new. new ≡ old) };
+
+    /// The walk has ended: nothing of it stays on the screen.
+    fn clear(&mut self)
+        ensures { Goes (went self.old) (went self.new) (λ old new. new ≡ old) };
 
     /// How many days a walk made anew, although their file was unchanged: their reports told other options or records.
     fn days_anew(&self) -> u64;
@@ -83,23 +102,32 @@ pub trait NamedFiles {
 /// The system's files. No contract can say what a file gives: that each call makes what it notes is read here, and not
 /// proved.
 #[derive(Drop)]
-pub struct SystemFiles<'a, R> {
-    rt: &'a R,
+pub struct SystemFiles<R: Files + Copy> {
+    rt: R,
     screen: Option<Stderr>,
-    days_anew: u64,
+    /// What a walk has, or had last.
+    names: Option<SystemTree<R>>,
 }
 
-impl<'a, R: Files + Clock> SystemFiles<'a, R> {
-    pub fn new(rt: &'a R) -> SystemFiles<'a, R> {
+impl<R: Files + Clock + Copy> SystemFiles<R> {
+    pub fn new(rt: R) -> SystemFiles<R> {
         SystemFiles::watched(rt, None)
     }
 
     /// The same, and a person sees on that screen, if there is one, how far a walk is.
-    pub fn watched(rt: &'a R, screen: Option<Stderr>) -> SystemFiles<'a, R> {
+    pub fn watched(rt: R, screen: Option<Stderr>) -> SystemFiles<R> {
         SystemFiles {
             rt,
             screen,
-            days_anew: 0,
+            names: None,
+        }
+    }
+
+    /// The names of a walk that begins, and a person sees how far it is, if a folder is watched.
+    fn shown(&self, names: SystemTree<R>, watched: Option<&str>) -> SystemTree<R> {
+        match watched {
+            Some(root) => names.watched(root, self.screen),
+            None => names,
         }
     }
 }
@@ -112,7 +140,7 @@ pub struct SystemUncut<W> {
 }
 
 #[tactic(auto, using(crate::proofs::Inputs::unknown))]
-impl<'a, R: Files + Clock> NamedFiles for SystemFiles<'a, R> {
+impl<R: Files + Clock + Copy> NamedFiles for SystemFiles<R> {
     type System = R;
 
     type Reader = FromRead<R::File>;
@@ -121,39 +149,46 @@ impl<'a, R: Files + Clock> NamedFiles for SystemFiles<'a, R> {
 
     type Writer = FromWrite<R::File>;
 
-    type Names = SystemTree<'a, R>;
+    type Names = SystemTree<R>;
+
+    type Unlinked = SystemTree<R>;
 
     // No memory has their steps.
     ghost went = { λ _ _. ⊥ };
 
+    ghost with_names = { λ files names. record files { names = Some names } };
+
+    ghost with_unlinked = { λ files names. record files { names = Some names } };
+
     fn system(&self) -> &R {
-        self.rt
+        &self.rt
     }
 
-    fn lend(&mut self, alloc: Global, has_links: bool, watched: Option<&str>) -> SystemTree<'a, R> {
-        let names = if has_links {
-            SystemTree::new(self.rt, alloc)
-        } else {
-            SystemTree::unlinked(self.rt, alloc)
-        };
-        match watched {
-            Some(root) => names.watched(root, self.screen),
-            None => names,
+    fn lend(&mut self, alloc: Global, watched: Option<&str>) -> &mut SystemTree<R> {
+        let names = self.shown(SystemTree::new(self.rt, alloc), watched);
+        self.names.insert(names)
+    }
+
+    fn lend_unlinked(&mut self, alloc: Global, watched: Option<&str>) -> &mut SystemTree<R> {
+        let names = self.shown(SystemTree::unlinked(self.rt, alloc), watched);
+        self.names.insert(names)
+    }
+
+    fn clear(&mut self) {
+        if let Some(names) = &mut self.names {
+            names.clear();
         }
     }
 
-    fn take_back(&mut self, names: SystemTree<'a, R>) {
-        let mut names = names;
-        names.clear();
-        self.days_anew = names.days_anew();
-    }
-
     fn days_anew(&self) -> u64 {
-        self.days_anew
+        match &self.names {
+            Some(names) => names.days_anew(),
+            None => 0,
+        }
     }
 
     fn open(&self, name: &str) -> io::Result<(FromRead<R::File>, Option<FileId>)> {
-        let file = File::open(self.rt, name)?;
+        let file = File::open(&self.rt, name)?;
         let id = FileId::of_regular(&file.metadata()?);
         Ok((FromRead::new(file), id))
     }
@@ -162,7 +197,7 @@ impl<'a, R: Files + Clock> NamedFiles for SystemFiles<'a, R> {
         let file = OpenOptions::new()
             .write(true)
             .create(true)
-            .open(self.rt, name)?;
+            .open(&self.rt, name)?;
         let id = FileId::of_regular(&file.metadata()?);
         let is_regular = id.is_some();
         Ok((SystemUncut { file, is_regular }, id))

@@ -1,24 +1,23 @@
 //! The task of replacing the days of an archive, and of putting their originals back.
-ghost use Rattle.std.specs.Prelude.{◌≡◌, IfErr, IsTrue};
+ghost use Rattle.std.specs.Prelude.{◌≡◌, IsTrue};
 ghost use Rattle.msr_devices.specs.Device.{CanCountCall};
-ghost use Rattle.msr_command.specs.Ends.{EndsReplacing, IsOverlapOrMemory, IsUnread, ReplacesArchive, wants_replaced};
+ghost use Rattle.msr_command.specs.Ends.{EndsReplacing, ReplacesArchive, wants_replaced};
 ghost use Rattle.msr_options.specs.Tasks.{AreApartFrom, StandApart};
 
 use crate::clock::time_of_now;
 use crate::done::Done;
-use crate::files::{make_folder, require_folder};
+use crate::locks::SystemLocks;
 use crate::named::NamedFiles;
+use crate::preparing::{Prepared, prepare_folders};
 use crate::task_fault::TaskFault;
-use crate::tasks::require_apart;
 use msr_devices::{DeviceFault, Sink};
-use msr_folders::{LockFile, WalkFound, is_gone, join};
-use msr_options::{Folders, Replacing};
+use msr_folders::{LockFile, WalkFound};
+use msr_options::Replacing;
 use msr_replace::replace;
 use msr_tree::Tree;
 use std::alloc::Global;
 use std::io;
 use std::rt::Files;
-use std::time::Clock;
 
 /// Whether by their names, too, none of the folders is another or stands below it.
 fn stand_apart(asked: &Replacing<'_>) -> bool
@@ -26,60 +25,6 @@ fn stand_apart(asked: &Replacing<'_>) -> bool
     ensures aside { IsTrue result → AreApartFrom asked.now.aside.now asked.now.folders }
 {
     asked.folders.stand_apart() && asked.folders.are_apart_from(asked.aside)
-}
-
-/// None of the folders of an archive is another or stands below it, by whatever names, that of its originals among them.
-fn require_all_apart<'a, R: Files>(
-    rt: &R,
-    alloc: Global,
-    asked: &Replacing<'a>,
-) -> Result<(), TaskFault<'a>>
-    ensures { IfErr result IsOverlapOrMemory }
-{
-    let Folders { root, out, reports } = asked.folders;
-    require_apart(rt, alloc, root, out, reports)?;
-    require_apart(rt, alloc, asked.aside, out, reports)?;
-    require_apart(rt, alloc, asked.aside, root, reports)
-}
-
-/// Whether something stands below a folder that is walked.
-fn is_asked_for<R: Files>(rt: &R, alloc: Global, walked: &str, folder: &str) -> bool {
-    match join(alloc, walked, folder) {
-        Ok(place) => !is_gone(rt, place.as_str()),
-        Err(_) => true,
-    }
-}
-
-/// Whether there may be a day below the folders that are asked for.
-fn may_have_days<R: Files>(rt: &R, alloc: Global, walked: &str, below: &[&str]) -> bool {
-    for folder in below {
-        if is_asked_for(rt, alloc, walked, folder) {
-            return true;
-        }
-    }
-    below.is_empty()
-}
-
-/// Those that have to be there are folders. The one that gets files is made, if it is missing, and stored, unless there is
-/// no day.
-fn prepare_folders<'a, R: Files>(
-    rt: &R,
-    alloc: Global,
-    asked: &Replacing<'a>,
-) -> Result<(), TaskFault<'a>>
-    ensures { IfErr result IsUnread }
-{
-    require_folder(rt, asked.folders.root)?;
-    let (walked, made) = if asked.undo {
-        require_folder(rt, asked.aside)?;
-        (asked.aside, asked.folders.out)
-    } else {
-        (asked.folders.root, asked.aside)
-    };
-    if !may_have_days(rt, alloc, walked, asked.below.as_slice()) {
-        return Ok(());
-    }
-    make_folder(rt, alloc, made)
 }
 
 /// Whether there has to be a day.
@@ -109,22 +54,26 @@ fn done_of_replacing<'a>(
     }
 }
 
-/// Replaces the days of the archive, or puts their originals back, and tells them.
-fn replace_days<'a, R: Files + Clock, T: Tree, O: Sink>(
-    rt: &R,
+/// Replaces the days of the archive, or puts their originals back, and tells them. A day's file and its records may be one
+/// file with both names.
+fn replace_days<'a, F: NamedFiles, O: Sink>(
+    rt: &F::System,
     alloc: Global,
-    tree: &mut T,
+    tree: &mut F::Names,
     asked: &Replacing<'a>,
+    _prepared: Prepared,
     output: &mut O,
 ) -> Result<Done, TaskFault<'a>>
 where
-    R::File: LockFile,
+    <F::System as Files>::File: LockFile,
     requires apart { StandApart asked.now.folders }
     requires aside { AreApartFrom asked.now.aside.now asked.now.folders }
     requires output { CanCountCall (O.device output.old) }
-    ensures { ReplacesArchive (T.went tree.old) (T.went tree.new) asked.now (O.device output.old) (O.device output.new) result }
+    ensures { ReplacesArchive (F.Names.went tree.old) (F.Names.went tree.new) asked.now
+        (O.device output.old) (O.device output.new) result }
 {
-    let replaced = replace(rt, alloc, tree, asked, time_of_now(rt), output);
+    let locks = SystemLocks { rt };
+    let replaced = replace(&locks, alloc, tree, asked, time_of_now(rt), output);
     let why = tree.reason();
     done_of_replacing(asked, replaced.found, replaced.failed, why)
 }
@@ -144,10 +93,8 @@ where
     if !stand_apart(asked) {
         return Err(TaskFault::Overlap);
     }
-    require_all_apart(files.system(), alloc, asked)?;
-    prepare_folders(files.system(), alloc, asked)?;
-    let mut names = files.lend(alloc, true, None);
-    let done = replace_days(files.system(), alloc, &mut names, asked, output);
-    files.take_back(names);
-    done
+    let system = *files.system();
+    let prepared = prepare_folders(&system, alloc, asked)?;
+    let names = files.lend(alloc, None);
+    replace_days::<F, O>(&system, alloc, names, asked, prepared, output)
 }

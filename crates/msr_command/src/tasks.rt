@@ -348,9 +348,10 @@ where
         WalksKnown (F.went files.old) (F.went files.new) asked (O.device output.old) (O.device output.new) result }
 {
     let watched = watched_below(archive.below.as_slice(), archive.folders.root);
-    let mut names = files.lend(alloc, false, watched);
-    let walked = walk_archive(files.system(), alloc, &mut names, archive, output);
-    files.take_back(names);
+    let system = *files.system();
+    let names = files.lend_unlinked(alloc, watched);
+    let walked = walk_archive(&system, alloc, names, archive, output);
+    files.clear();
     walked
 }
 
@@ -432,9 +433,9 @@ fn verify_watched<'a, F: NamedFiles, O: Sink>(
         VerifiesKnown (F.went files.old) (F.went files.new) asked (O.device output.old) (O.device output.new) result }
 {
     let watched = watched_below(archive.below.as_slice(), archive.folders.root);
-    let mut names = files.lend(alloc, true, watched);
-    let found = verify_read(alloc, &mut names, archive, output);
-    files.take_back(names);
+    let names = files.lend(alloc, watched);
+    let found = verify_read(alloc, names, archive, output);
+    files.clear();
     found
 }
 

@@ -40,8 +40,9 @@ pub(crate) fn try_watched<'a, F: NamedFiles, O: Sink>(
     ensures { TriesArchive (F.went files.old) (F.went files.new) asked.now (O.device output.old) (O.device output.new) result }
 {
     let watched = watched_below(asked.below.as_slice(), asked.root);
-    let mut names = files.lend(alloc, true, watched);
-    let tried = try_archive(files.system(), alloc, &mut names, asked, output);
-    files.take_back(names);
+    let system = *files.system();
+    let names = files.lend(alloc, watched);
+    let tried = try_archive(&system, alloc, names, asked, output);
+    files.clear();
     tried
 }

@@ -24,8 +24,8 @@ use std::time::Clock;
 
 /// The system's files.
 #[derive(Drop)]
-pub struct SystemTree<'a, R: Files> {
-    rt: &'a R,
+pub struct SystemTree<R: Files + Copy> {
+    rt: R,
     alloc: Global,
     reason: Option<io::Error>,
     /// Whether a file may have both names of a rename.
@@ -36,8 +36,8 @@ pub struct SystemTree<'a, R: Files> {
     anew: Anew,
 }
 
-impl<'a, R: Files> SystemTree<'a, R> {
-    pub fn new(rt: &'a R, alloc: Global) -> SystemTree<'a, R> {
+impl<R: Files + Copy> SystemTree<R> {
+    pub fn new(rt: R, alloc: Global) -> SystemTree<R> {
         SystemTree {
             rt,
             alloc,
@@ -50,7 +50,7 @@ impl<'a, R: Files> SystemTree<'a, R> {
     }
 
     /// The same, where no file that is renamed has the other name already: then a rename need not look whether it was done.
-    pub fn unlinked(rt: &'a R, alloc: Global) -> SystemTree<'a, R> {
+    pub fn unlinked(rt: R, alloc: Global) -> SystemTree<R> {
         SystemTree {
             rt,
             alloc,
@@ -63,19 +63,19 @@ impl<'a, R: Files> SystemTree<'a, R> {
     }
 }
 
-impl<'a, R: Files> SystemTree<'a, R> {
+impl<R: Files + Copy> SystemTree<R> {
     /// How many days of a walk were made anew, although their file was unchanged: their reports told other options or records.
     pub fn days_anew(&self) -> u64 {
         self.anew.days
     }
 }
 
-impl<'a, R: Files + Clock> SystemTree<'a, R> {
+impl<R: Files + Clock + Copy> SystemTree<R> {
     /// The same, and a person sees on that screen, if there is one, how far the walk of a folder is.
-    pub fn watched(self, root: &str, screen: Option<Stderr>) -> SystemTree<'a, R> {
+    pub fn watched(self, root: &str, screen: Option<Stderr>) -> SystemTree<R> {
         match screen {
             Some(screen) => SystemTree {
-                watch: Watch::new(self.rt, self.alloc, root, screen),
+                watch: Watch::new(&self.rt, self.alloc, root, screen),
                 ..self
             },
             None => self,
@@ -131,7 +131,7 @@ fn writer<F: Write>(
 }
 
 #[tactic(auto, using(crate::proofs::Unknown::unknown))]
-impl<'a, R: Files + Clock> Tree for SystemTree<'a, R> {
+impl<R: Files + Clock + Copy> Tree for SystemTree<R> {
     type Reader = FromRead<R::File>;
 
     type Writer = SystemWriter<R::File>;
@@ -144,18 +144,18 @@ impl<'a, R: Files + Clock> Tree for SystemTree<'a, R> {
     }
 
     fn look(&mut self, path: &str) -> Result<Option<Facts>, TreeFault> {
-        let answer = found(self.rt, path);
+        let answer = found(&self.rt, path);
         told(&mut self.reason, answer)
     }
 
     fn look_through(&mut self, path: &str) -> Result<Option<Facts>, TreeFault> {
-        let answer = followed(self.rt, path);
+        let answer = followed(&self.rt, path);
         told(&mut self.reason, answer)
     }
 
     fn list(&mut self, folder: &str) -> Result<Vec<String>, TreeFault> {
-        self.watch.note_folder(self.rt, self.alloc, folder);
-        match names_in(self.rt, self.alloc, folder) {
+        self.watch.note_folder(&self.rt, self.alloc, folder);
+        match names_in(&self.rt, self.alloc, folder) {
             Ok(names) => Ok(names),
             Err(error) => {
                 self.reason = Some(error);
@@ -165,23 +165,23 @@ impl<'a, R: Files + Clock> Tree for SystemTree<'a, R> {
     }
 
     fn kind(&self, path: &str) -> FileKind {
-        kind_of(self.rt, path)
+        kind_of(&self.rt, path)
     }
 
     fn has(&mut self, path: &str) -> Result<bool, TreeFault> {
-        let answer = is_there(self.rt, path);
+        let answer = is_there(&self.rt, path);
         told(&mut self.reason, answer)
     }
 
     fn is_one(&mut self, one: &str, other: &str) -> Result<bool, TreeFault> {
-        let answer = are_one(self.rt, one, other);
+        let answer = are_one(&self.rt, one, other);
         told(&mut self.reason, answer)
     }
 
     fn follow(&mut self, path: &str) -> Result<FromRead<R::File>, TreeFault> {
-        let opened = followed_regular(self.rt, path);
+        let opened = followed_regular(&self.rt, path);
         self.watch
-            .note_file(self.rt, self.alloc, path, opened.is_ok());
+            .note_file(&self.rt, self.alloc, path, opened.is_ok());
         reader(&mut self.reason, opened)
     }
 
@@ -191,23 +191,23 @@ impl<'a, R: Files + Clock> Tree for SystemTree<'a, R> {
             self.reason = None;
             return Err(TreeFault::Failed);
         }
-        let opened = File::open(self.rt, path);
+        let opened = File::open(&self.rt, path);
         self.anew.note_opened(self.alloc, path);
         self.watch
-            .note_file(self.rt, self.alloc, path, opened.is_ok());
+            .note_file(&self.rt, self.alloc, path, opened.is_ok());
         reader(&mut self.reason, opened)
     }
 
     fn open(&mut self, path: &str) -> Result<FromRead<R::File>, TreeFault> {
-        let opened = regular_file(self.rt, path);
+        let opened = regular_file(&self.rt, path);
         self.watch
-            .note_file(self.rt, self.alloc, path, opened.is_ok());
+            .note_file(&self.rt, self.alloc, path, opened.is_ok());
         reader(&mut self.reason, opened)
     }
 
     fn make(&mut self, path: &str) -> Result<SystemWriter<R::File>, TreeFault> {
         let path = String::from_str(self.alloc, path)?;
-        let made = File::create_new(self.rt, path.as_str());
+        let made = File::create_new(&self.rt, path.as_str());
         writer(&mut self.reason, path, made)
     }
 
@@ -226,17 +226,17 @@ impl<'a, R: Files + Clock> Tree for SystemTree<'a, R> {
     }
 
     fn is_same(&mut self, one: &str, other: &str) -> Result<bool, TreeFault> {
-        let answer = compare(self.rt, self.alloc, one, other);
+        let answer = compare(&self.rt, self.alloc, one, other);
         told(&mut self.reason, answer)
     }
 
     fn copy(&mut self, from: &str, to: &str) -> Result<(), TreeFault> {
-        let answer = copy_file(self.rt, from, to);
+        let answer = copy_file(&self.rt, from, to);
         told(&mut self.reason, answer)
     }
 
     fn rename(&mut self, from: &str, to: &str) -> Result<(), TreeFault> {
-        let answer = rename_over(self.rt, from, to, self.has_links);
+        let answer = rename_over(&self.rt, from, to, self.has_links);
         if answer.is_ok() {
             self.anew.note_named(to);
         }
@@ -244,38 +244,38 @@ impl<'a, R: Files + Clock> Tree for SystemTree<'a, R> {
     }
 
     fn rename_new(&mut self, from: &str, to: &str) -> Result<bool, TreeFault> {
-        let answer = rename_free(self.rt, from, to);
+        let answer = rename_free(&self.rt, from, to);
         told(&mut self.reason, answer)
     }
 
     fn remove(&mut self, path: &str) -> Result<(), TreeFault> {
-        let answer = remove(self.rt, path);
+        let answer = remove(&self.rt, path);
         told(&mut self.reason, answer)
     }
 
     fn store_file(&mut self, path: &str) -> Result<(), TreeFault> {
-        let answer = store_bytes(self.rt, path);
+        let answer = store_bytes(&self.rt, path);
         told(&mut self.reason, answer)
     }
 
     fn store_folder(&mut self, folder: &str) -> Result<(), TreeFault> {
-        let answer = store(self.rt, folder);
+        let answer = store(&self.rt, folder);
         told(&mut self.reason, answer)
     }
 
     fn make_folders(&mut self, top: &str, folder: &str) -> Result<bool, TreeFault> {
-        let answer = make_stored(self.rt, self.alloc, &mut self.stored, top, folder);
+        let answer = make_stored(&self.rt, self.alloc, &mut self.stored, top, folder);
         told(&mut self.reason, answer)
     }
 
     fn remove_folder(&mut self, folder: &str) -> Result<bool, TreeFault> {
         self.stored = None;
-        let answer = remove_folder(self.rt, folder);
+        let answer = remove_folder(&self.rt, folder);
         told(&mut self.reason, answer)
     }
 
     fn dress(&mut self, path: &str, facts: &Facts, time: Option<Time>) -> Result<(), TreeFault> {
-        let answer = dress(self.rt, path, facts, time);
+        let answer = dress(&self.rt, path, facts, time);
         told(&mut self.reason, answer)
     }
 }
