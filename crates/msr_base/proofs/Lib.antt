@@ -1,2 +1,3 @@
+pub mod DigitValues
 pub mod FaultLemmas
 pub mod IteratorLemmas

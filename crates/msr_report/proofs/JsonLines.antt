@@ -1,10 +1,13 @@
 -- Names without padding, and the time between two segments.
-use Rattle.std.proofs.Common.{◌≡◌, ℕ, zero, suc, ◌-◌, ◌==◌, ◌<◌, ◌≤◌, ◌^◌, false, List, [], ◌∷◌, ◌++◌, ◌∙◌, ap, arith, refl, sym, length, take, get_or, ℤ, ◌-ℤ◌, FitsSigned, w64, to_z, of_z, to_z-of_z, Result, Ok, Err, OnOk, is_ok, if◌then◌else◌}
+use Rattle.std.proofs.Common.{◌≡◌, ℕ, zero, suc, ◌-◌, ◌==◌, ◌<◌, ◌≤◌, ◌^◌, false, List, [], ◌∷◌, ◌++◌, ◌∙◌, ap, arith, refl, sym, length, take, get_or, ℤ, ◌-ℤ◌, FitsSigned, w64, to_z, of_z, to_z-of_z, codes, Option, Result, Ok, Err, OnOk, is_ok, if◌then◌else◌}
 use Rattle.std.proofs.lemmas.Bool.{ne_eqb}
 use Rattle.std.specs.Int.{w128}
 use Rattle.jiff_core.proofs.SignedLemmas.{signed_arith}
 use Rattle.jiff_core.specs.Calendar.{IsWithin}
-use Rattle.msr_report.specs.Json.{before_name, unpadded}
+use Rattle.msr_time.specs.SampleRate.{IsRoundedNominal}
+use Rattle.msr_report.specs.Json.{IsBegan, IsIsoText, IsJsonLine, before_name, clock_json, name_json, settings_json, times_json, unpadded}
+use Rattle.msr_report.specs.declared.json.ListedSegment.{ListedSegment}
+use Rattle.msr_report.proofs.Pieces.{six_pieces}
 
 -- a space at the end is left out
 unpadded_space : (name : List ℕ) → unpadded (name ++ 32 ∷ []) ≡ unpadded name
@@ -62,3 +65,39 @@ pub line_pushed : {A E : Type 0} (answer : Result A E) (new old text bytes : Lis
 line_pushed (Ok done) new old text bytes IsLine is same pushed =
     (text, (is, pushed ∙ ap (λ (t : List ℕ). old ++ t) same))
 line_pushed (Err why) new old text bytes IsLine is same pushed = tt
+
+-- the members of a segment, put down one after another
+pub object_put : (before : Option ListedSegment) (segment : ListedSegment) (last : ℤ)
+    (start_text end_text began old one two three four five six : List ℕ)
+    → IsRoundedNominal segment.key.rate segment.start (segment.count - 1) last
+    → IsIsoText segment.start start_text → IsIsoText last end_text → IsBegan before segment began
+    → one ≡ old ++ (codes "{" ++ name_json segment.key)
+    → two ≡ one ++ (codes "," ++ times_json start_text end_text segment.count)
+    → three ≡ two ++ (codes "," ++ settings_json segment.key)
+    → four ≡ three ++ (codes "," ++ clock_json segment.key.correction segment.key.timing)
+    → five ≡ four ++ (codes "," ++ began) → six ≡ five ++ codes "}\n"
+    → (line : List ℕ) × (IsJsonLine before segment line × (six ≡ old ++ line))
+object_put before segment last start_text end_text began old one two three four five six nominal start end is_began
+    first second third fourth fifth sixth =
+    let key = segment.key in
+    let line : List ℕ = codes "{" ++ (name_json key ++ (codes "," ++ (times_json start_text end_text segment.count
+    ++ (codes "," ++ (settings_json key ++ (codes "," ++ (clock_json key.correction key.timing
+    ++ (codes "," ++ (began ++ codes "}\n"))))))))) in (
+      line,
+      (
+        record {
+          start_text = start_text;
+          start = start;
+          last = last;
+          nominal = nominal;
+          end_text = end_text;
+          end = end;
+          began = began;
+          is_began = is_began;
+          is = refl;
+        },
+        six_pieces old (codes "{" ++ name_json key) (codes "," ++ times_json start_text end_text segment.count)
+            (codes "," ++ settings_json key) (codes "," ++ clock_json key.correction key.timing)
+            (codes "," ++ began) (codes "}\n") one two three four five six first second third fourth fifth sixth,
+      ),
+    )

@@ -1,24 +1,30 @@
 -- Texts that are appended one after another.
-use Rattle.std.proofs.Common.{◌≡◌, ◌∙◌, ℕ, ◌+◌, ◌<◌, List, [], ◌∷◌, ◌++◌, ap, sym, refl, append_assoc, flat_map, get_or, length, take, Result, Ok, Err, OnOk, is_ok, if◌then◌else◌}
+use Rattle.std.proofs.Common.{◌≡◌, ◌∙◌, ℕ, ◌+◌, ◌<◌, List, [], ◌∷◌, ◌++◌, ap, sym, append_assoc, flat_map, get_or, length, take, Result, Ok, Err, OnOk, is_ok, if◌then◌else◌}
 use Rattle.std.proofs.lemmas.List.{flat_map_more, take_more}
+
+-- what is appended behind a piece stands behind it
+behind_piece : (old a rest one last : List ℕ) → one ≡ old ++ a → last ≡ one ++ rest → last ≡ old ++ (a ++ rest)
+behind_piece old a rest one last first more =
+    more ∙ ap (λ (t : List ℕ). t ++ rest) first ∙ append_assoc old a rest
 
 pub four_pieces : (old a b c d one two three four : List ℕ) → one ≡ old ++ a → two ≡ one ++ b → three ≡ two ++ c
     → four ≡ three ++ d → four ≡ old ++ (a ++ (b ++ (c ++ d)))
 four_pieces old a b c d one two three four first second third fourth =
-    simp (fourth, third, second, first, append_assoc) refl
+    behind_piece old a (b ++ (c ++ d)) one four first
+    (behind_piece one b (c ++ d) two four second (behind_piece two c d three four third fourth))
 
 pub five_pieces : (old a b c d e one two three four five : List ℕ) → one ≡ old ++ a → two ≡ one ++ b
     → three ≡ two ++ c → four ≡ three ++ d → five ≡ four ++ e → five ≡ old ++ (a ++ (b ++ (c ++ (d ++ e))))
 five_pieces old a b c d e one two three four five first second third fourth fifth =
-    fifth ∙ ap (λ (t : List ℕ). t ++ e) (four_pieces old a b c d one two three four first second third fourth)
-    ∙ simp append_assoc refl
+    behind_piece old a (b ++ (c ++ (d ++ e))) one five first
+    (four_pieces one b c d e two three four five second third fourth fifth)
 
 pub six_pieces : (old a b c d e f one two three four five six : List ℕ) → one ≡ old ++ a → two ≡ one ++ b
     → three ≡ two ++ c → four ≡ three ++ d → five ≡ four ++ e → six ≡ five ++ f
     → six ≡ old ++ (a ++ (b ++ (c ++ (d ++ (e ++ f)))))
 six_pieces old a b c d e f one two three four five six first second third fourth fifth sixth =
-    sixth ∙ ap (λ (t : List ℕ). t ++ f) (five_pieces old a b c d e one two three four five first second third fourth
-    fifth) ∙ simp append_assoc refl
+    behind_piece old a (b ++ (c ++ (d ++ (e ++ f)))) one six first
+    (five_pieces one b c d e f two three four five six second third fourth fifth sixth)
 
 -- the pieces of the first items, and then that of one more
 pub one_piece_more : (piece : ℕ → List ℕ) (old items : List ℕ) (i : ℕ) (mid new : List ℕ) → i < length items

@@ -2,8 +2,10 @@
 use Rattle.std.proofs.Common.{◌≡◌, ℕ, ◌++◌, ◌∷◌, ◌∙◌, [], List, arith, ap, append_assoc, decimal, flat_map, refl, codes, take, ℤ, w64, to_z, of_z}
 use Rattle.std.proofs.lemmas.Int.{ints}
 use Rattle.msr_time.specs.Instant.{IsInstant}
-use Rattle.msr_report.specs.Text.{IsTimeText, segment_words, segment_line, separators_line, IsSegmentText}
+use Rattle.msr_rows.specs.declared.row.Key.{Key}
+use Rattle.msr_report.specs.Text.{IsTimeText, segment_words, settings_text, words_after_quality, segment_line, separators_line, IsSegmentText}
 use Rattle.msr_report.specs.declared.report.SegmentLine.{SegmentLine}
+use Rattle.msr_report.proofs.Pieces.{six_pieces}
 
 -- an instant fits 64 bits
 pub instant_back : (t : ℤ) → IsInstant t → to_z w64 (of_z w64 t) ≡ t
@@ -33,4 +35,19 @@ two_lines line time start more old between new separators is_time same rest firs
 pub separators_end : (old separators numbers new : List ℕ) (i : ℕ) → take i separators ≡ separators
     → numbers ≡ (old ++ codes "separators") ++ flat_map (λ n. 32 ∷ decimal n) (take i separators)
     → new ≡ numbers ++ 10 ∷ [] → new ≡ old ++ separators_line separators
-separators_end old separators numbers new i all are end = simp (end, are, all, append_assoc) refl
+separators_end old separators numbers new i all are end =
+    let told : List ℕ = flat_map (λ n. 32 ∷ decimal n) separators in
+    end ∙ ap (λ (t : List ℕ). t ++ 10 ∷ []) (are
+    ∙ ap (λ (s : List ℕ). (old ++ codes "separators") ++ flat_map (λ n. 32 ∷ decimal n) s) all)
+    ∙ append_assoc (old ++ codes "separators") told (10 ∷ []) ∙ append_assoc old (codes "separators") (told ++ 10 ∷ [])
+
+-- the words after the quality, put down one after another
+pub words_put : (key : Key) (start : List ℕ) (samples : ℕ) (more made first second third fourth fifth whole : List ℕ)
+    → made ≡ [] → first ≡ made ++ (32 ∷ settings_text key) → second ≡ first ++ codes " start "
+    → third ≡ second ++ start → fourth ≡ third ++ codes " samples " → fifth ≡ fourth ++ decimal samples
+    → whole ≡ fifth ++ more → whole ≡ words_after_quality key start samples more
+words_put key start samples more made first second third fourth fifth whole none is_first is_second is_third is_fourth
+    is_fifth is_whole =
+    six_pieces [] (32 ∷ settings_text key) (codes " start ") start (codes " samples ") (decimal samples) more first
+    second third fourth fifth whole (is_first ∙ ap (λ (t : List ℕ). t ++ (32 ∷ settings_text key)) none) is_second
+    is_third is_fourth is_fifth is_whole

@@ -1,10 +1,12 @@
 -- What a sink took of a report's text, and what waits, while the text is written segment by segment.
-use Rattle.std.proofs.Common.{◌≡◌, ℕ, ◌+◌, ◌≤◌, ◌<◌, List, [], ◌∷◌, ◌++◌, ◌∙◌, refl, ap, sym, subst, append_assoc, arith, take, drop, get_or, length}
+use Rattle.std.proofs.Common.{◌≡◌, ℕ, ◌+◌, ◌≤◌, ◌<◌, List, [], ◌∷◌, ◌++◌, ◌∙◌, refl, ap, sym, subst, append_assoc, arith, take, drop, get_or, length, ◌↔◌, Result, Ok, Err, IsErrOf, IsErrAnd}
 use Rattle.std.proofs.lemmas.List.{append-nil, take-append-drop, take_more}
 use Rattle.std.proofs.lemmas.List.Elements.{All-drop}
-use Rattle.msr_devices.specs.Device.{Device, Takes}
+use Rattle.msr_devices.specs.Device.{CountsFew, Device, HasFailed, IsCalm, Takes}
 use Rattle.msr_devices.specs.WriteBuffer.{Passes}
-use Rattle.msr_devices.proofs.Chaining.{takes_append, takes_none}
+use Rattle.msr_devices.specs.declared.fault.DeviceFault.{DeviceFault}
+use Rattle.msr_devices.specs.declared.fault.DeviceFault.TheVariants.{Failed, Memory}
+use Rattle.msr_devices.proofs.Chaining.{calm_failed, steady_sound, steady_then_few, takes_append, takes_none}
 use Rattle.msr_report.specs.Proper.{IsProper, IsProperLine, records_in}
 use Rattle.msr_report.specs.Text.{IsSegmentText, AreSegmentTexts, first_lines, end_line, IsReportText}
 use Rattle.msr_report.specs.Writing.{TakesPrefix}
@@ -193,3 +195,29 @@ records_next lines i line within item =
 pub records_take : (i : ℕ) (lines : List SegmentLine) → records_in (take i lines) ≤ records_in lines
 records_take i lines =
     omega (arith, records_append (take i lines) (drop i lines), ap records_in (take-append-drop i lines))
+
+-- what a writer tells of its sink: memory was refused, the sink failed, or all was written
+pub memory_tells : {T : Type 0} (result : Result T DeviceFault) (start now : Device) → IsCalm start now
+    → IsErrAnd result (λ e. e ≡ Memory) → IsErrOf result Failed ↔ HasFailed start now
+memory_tells (Ok done) start now calm is = absurd is
+memory_tells (Err why) start now calm is = (
+  (λ failed. absurd cc),
+  (λ has_failed. absurd (steady_sound start now calm.steady has_failed)),
+)
+
+pub failure_tells : {T : Type 0} (result : Result T DeviceFault) (start old now : Device) → IsCalm start old
+    → HasFailed old now → IsErrAnd result (λ e. e ≡ Failed) → IsErrOf result Failed ↔ HasFailed start now
+failure_tells (Ok done) start old now calm failed is = absurd is
+failure_tells (Err why) start old now calm failed is =
+    ((λ told. calm_failed start old now calm failed), (λ has_failed. cc))
+
+pub written_tells : {T : Type 0} (done : T) (start now : Device) → IsCalm start now
+    → IsErrOf {T = T} (Ok done) Failed ↔ HasFailed start now
+written_tells done start now calm = (
+  (λ failed. absurd cc),
+  (λ has_failed. absurd (steady_sound start now calm.steady has_failed)),
+)
+
+pub calm_few : (start now : Device) → IsCalm start now → CountsFew start now
+calm_few start now calm =
+    steady_then_few start now now calm.steady (record { failures = omega arith; interruptions = omega arith })

@@ -5,7 +5,6 @@ mod fields;
 mod json;
 mod laws;
 mod lines;
-mod numbers;
 mod report;
 mod text;
 
@@ -14,5 +13,4 @@ pub use json::{ListedSegment, push_json_counts, push_json_line, unpadded};
 pub use laws::{has_text, one_text};
 pub use lines::{kinds_line, push_counts, push_list_line};
 pub use msr_base::Counts;
-pub use numbers::number_of;
 pub use report::{Report, SegmentLine};

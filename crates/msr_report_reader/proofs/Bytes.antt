@@ -1,13 +1,13 @@
 -- Bytes of a name, one after another.
-use Rattle.std.proofs.Common.{◌≡◌, ◌≢◌, ◌∙◌, ap, arith, ℕ, ◌+◌, ◌-◌, ◌*◌, ◌/◌, ◌<◌, ◌≤◌, ◌%◌, ◌^◌, ◌==◌, Bool, true, false, List, [], ◌∷◌, ◌++◌, append_assoc, drop, length, refl, slice_index, sym, take}
+use Rattle.std.proofs.Common.{◌≡◌, ◌≢◌, ◌∙◌, ap, arith, inl, inr, ◌⊎◌, ℕ, ◌+◌, ◌-◌, ◌*◌, ◌/◌, ◌<◌, ◌≤◌, ◌%◌, ◌^◌, ◌==◌, Bool, true, false, List, [], ◌∷◌, ◌++◌, append_assoc, drop, length, refl, slice_index, sym, take}
 use Rattle.std.specs.Prelude.{cond, nat_lt, slice_set}
 use Rattle.std.specs.Char.{is_ascii_alphanumeric}
 use Rattle.std.specs.Fmt.{digit_glyph}
-use Rattle.std.proofs.lemmas.Bool.Decides.{nat_tests}
+use Rattle.std.proofs.lemmas.Bool.{cases_lt, ltb-false, ltb-true}
 use Rattle.std.proofs.lemmas.List.{drop_all, drop_more, length-set, take_all, take_more, take_more_set}
 use Rattle.msr_report.specs.Text.{byte_text, field_text, hex_text}
 use Rattle.msr_report_reader.specs.Fields.{AreBytes}
-use Rattle.msr_report_reader.proofs.LineFeeds.{same_cons}
+use Rattle.msr_report_reader.proofs.LineFeeds.{glyph_high, glyph_low, same_cons}
 
 -- The first bytes of a name were read, and the rest of the text follows. If the text is that of any name, they are its
 -- first ones.
@@ -91,14 +91,19 @@ escaped b false false tail more plain is_space is =
     ((same_cons 37 37 tail (hex_text b ++ more) is).1, (plain, other))
 
 -- a hexadecimal digit, as its byte less that of `0`, or of `a`, tells it
-glyph_low : (n : ℕ) → n < 10 → digit_glyph false n ≡ 48 + n
-glyph_low n small = grind (arith, nat_tests)
-
-glyph_high : (n : ℕ) → 10 ≤ n → digit_glyph false n ≡ 87 + n
-glyph_high n large = grind (arith, nat_tests)
+same_by : (m n : ℕ) → (m < 10) ⊎ (10 ≤ m) → (n < 10) ⊎ (10 ≤ n) → m < 16 → n < 16
+    → digit_glyph false m ≡ digit_glyph false n → m ≡ n
+same_by m n (inl low_m) (inl low_n) small_m small_n is =
+    omega (arith, sym (glyph_low m low_m) ∙ is ∙ glyph_low n low_n)
+same_by m n (inl low_m) (inr high_n) small_m small_n is =
+    omega (arith, sym (glyph_low m low_m) ∙ is ∙ glyph_high n high_n)
+same_by m n (inr high_m) (inl low_n) small_m small_n is =
+    omega (arith, sym (glyph_high m high_m) ∙ is ∙ glyph_low n low_n)
+same_by m n (inr high_m) (inr high_n) small_m small_n is =
+    omega (arith, sym (glyph_high m high_m) ∙ is ∙ glyph_high n high_n)
 
 pub same_glyph : (m n : ℕ) → m < 16 → n < 16 → digit_glyph false m ≡ digit_glyph false n → m ≡ n
-same_glyph m n small_m small_n is = grind (arith, nat_tests)
+same_glyph m n small_m small_n is = same_by m n (cases_lt m 10) (cases_lt n 10) small_m small_n is
 
 pub record IsHexDigit (byte digit : ℕ) : Type 0 where
   pub small : digit < 16
@@ -123,9 +128,9 @@ no_hex_by : (low : Bool) (byte digit letter n : ℕ) → nat_lt n 10 ≡ low →
     → digit ≡ (byte + (2 ^ 8 - 48)) % 2 ^ 8 → 10 ≤ digit → letter ≡ (byte + (2 ^ 8 - 97)) % 2 ^ 8 → 6 ≤ letter
     → n < 16 → byte ≡ digit_glyph false n → ⊥
 no_hex_by true byte digit letter n test fits is_digit no_digit is_letter no_letter small is =
-    let low : n < 10 = grind (arith, nat_tests) in omega (arith, glyph_low n low)
+    let low = ltb-true n 10 test in omega (arith, glyph_low n low)
 no_hex_by false byte digit letter n test fits is_digit no_digit is_letter no_letter small is =
-    let high : 10 ≤ n = grind (arith, nat_tests) in omega (arith, glyph_high n high)
+    let high = ltb-false n 10 test in omega (arith, glyph_high n high)
 
 pub no_hex : (byte digit letter n : ℕ) → byte < 256 → digit ≡ (byte + (2 ^ 8 - 48)) % 2 ^ 8 → 10 ≤ digit
     → letter ≡ (byte + (2 ^ 8 - 97)) % 2 ^ 8 → 6 ≤ letter → n < 16 → byte ≡ digit_glyph false n → ⊥

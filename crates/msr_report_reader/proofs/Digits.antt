@@ -1,11 +1,12 @@
 -- Decimal numbers in a text, and what stands after a word.
-use Rattle.std.proofs.Common.{◌≡◌, ◌≢◌, ◌∙◌, ap, sym, refl, rules, arith, ℕ, ◌+◌, ◌&&◌, ◌==◌, ◌<◌, ◌≤◌, suc, ℤ, pos, negsuc, ◌^◌, Bool, true, false, List, [], ◌∷◌, ◌++◌, length, take, drop, get_or, decimal, Option, Some, None, MatchOption, IfSome, IsSomeAnd, Bor}
+use Rattle.std.proofs.Common.{◌≡◌, ◌≢◌, ◌∙◌, ap, sym, refl, arith, ℕ, ◌+◌, ◌-◌, ◌*◌, ◌&&◌, ◌==◌, ◌<◌, ◌≤◌, suc, ℤ, pos, negsuc, ◌^◌, Bool, true, false, List, [], ◌∷◌, ◌++◌, length, take, drop, get_or, decimal, Option, Some, None, MatchOption, IfSome, IsSomeAnd, Bor}
 use Rattle.std.specs.Char.{is_ascii_digit}
 use Rattle.std.specs.List.{prefix_len}
 use Rattle.std.specs.Str.{all_ascii_digits}
-use Rattle.std.proofs.lemmas.Str.Parse.{IsNumeralModel, numerals_by_fold}
+use Rattle.std.proofs.lemmas.Str.Parse.{IsNumeralModel, numerals_by_fold, tells_all_ascii_digits}
 use Rattle.std.proofs.lemmas.Fmt.{digits_decimal, decimal_nonempty}
-use Rattle.std.proofs.lemmas.Bool.Decides.{nat_tests}
+use Rattle.std.proofs.lemmas.Bool.{and_parts, leb-true, ne_eqb}
+use lib.Dec.{leb}
 use Rattle.std.specs.Fmt.{signed_decimal}
 use Rattle.std.specs.Int.RustNames.{FitsSigned}
 use Rattle.std.specs.Int.{w32}
@@ -16,7 +17,11 @@ use Rattle.std.proofs.Math.Seq.{take-append_seam, drop-append_seam}
 use Rattle.msr_report_reader.specs.Fields.{EndsNumber, signed_len, with_digits}
 
 pub own : IsNumeralModel (λ ds. all_ascii_digits ds ≡ true) (with_digits 0)
-own = numerals_by_fold _ (search rules) with_digits (search rules)
+own = numerals_by_fold (λ ds. all_ascii_digits ds ≡ true) tells_all_ascii_digits with_digits (record {
+  empty = λ n. refl;
+  more = λ n c cs digit.
+      let turned : 10 * n ≡ n * 10 = omega arith in ap (λ (k : ℕ). with_digits (k + (c - 48)) cs) turned;
+})
 
 pub decimal_is_digits : (n : ℕ) → n < 2 ^ 64 → all_ascii_digits (decimal n) ≡ true
 decimal_is_digits n small = digits_decimal own n small
@@ -67,7 +72,9 @@ pub record IsDigit (d : ℕ) : Type 0 where
   pub most : d ≤ 57
 
 pub digit_range : (d : ℕ) → is_ascii_digit d ≡ true → IsDigit d
-digit_range d is = record { least = grind (arith, nat_tests); most = grind (arith, nat_tests) }
+digit_range d is =
+    let both = and_parts (leb 48 d) (leb d 57) is in
+    record { least = leb-true 48 d both.0; most = leb-true d 57 both.1 }
 
 pub digits_front : (a rest : List ℕ) → all_ascii_digits a ≡ true → EndsNumber rest
     → prefix_len is_ascii_digit (a ++ rest) ≡ length a
@@ -92,12 +99,12 @@ signed_minus text digits first count is minus counted = rw (is, minus, counted) 
 pub signed_other : (text digits : List ℕ) (first count : ℕ) → text ≡ first ∷ digits → first ≢ 45
     → count ≡ prefix_len is_ascii_digit text → count ≡ signed_len text
 signed_other text digits first count is other counted =
-    let test : (first == 45) ≡ false = grind (arith, nat_tests) in
+    let test : (first == 45) ≡ false = ne_eqb first 45 other in
     let same : prefix_len is_ascii_digit (first ∷ digits) ≡ signed_len (first ∷ digits) = rw test refl in
     counted ∙ ap (prefix_len is_ascii_digit) is ∙ same ∙ ap signed_len (sym is)
 
 not_minus : (d : ℕ) → is_ascii_digit d ≡ true → (d == 45) ≡ false
-not_minus d h = grind (arith, nat_tests)
+not_minus d h = let range = digit_range d h in ne_eqb d 45 (λ e. omega (arith, range.least))
 
 signed_front_digits : (a rest : List ℕ) → 0 < length a → all_ascii_digits a ≡ true → EndsNumber rest
     → signed_len (a ++ rest) ≡ length a

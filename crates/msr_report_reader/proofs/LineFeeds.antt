@@ -1,12 +1,12 @@
 -- Lines have no line feed inside.
-use Rattle.std.proofs.Common.{◌≡◌, ◌∙◌, ap, sym, refl, arith, ℕ, suc, ◌<◌, ◌≤◌, ◌^◌, ◌/◌, ◌%◌, ◌==◌, Bool, true, false, List, [], ◌∷◌, ◌++◌, append_assoc, decimal, flat_map, cond, All, slice_index}
+use Rattle.std.proofs.Common.{◌≡◌, ◌∙◌, ap, sym, refl, arith, inl, inr, ◌⊎◌, ℕ, suc, ◌+◌, ◌<◌, ◌≤◌, ◌^◌, ◌/◌, ◌%◌, ◌==◌, Bool, true, false, List, [], ◌∷◌, ◌++◌, append_assoc, decimal, flat_map, cond, All, slice_index}
 use Rattle.std.specs.Char.{is_ascii_digit, is_ascii_alphanumeric}
 use Rattle.std.specs.Fmt.{digit_glyph}
 use Rattle.std.specs.Str.{all_ascii_digits}
-use Rattle.std.proofs.lemmas.Bool.Decides.{nat_tests}
+use Rattle.std.proofs.lemmas.Bool.{cases_lt, eqb-false, le-ltb, lt-ltb, ne_eqb}
 use Rattle.msr_report.specs.Text.{hex_text, byte_text, field_text, padded_decimal}
 use Rattle.msr_report_reader.specs.Fault.{IsOfLines, IsOneLine}
-use Rattle.msr_report_reader.proofs.Digits.{both_true, decimal_is_digits}
+use Rattle.msr_report_reader.proofs.Digits.{both_true, decimal_is_digits, digit_range}
 use Rattle.msr_report_reader.proofs.Padded.{reads_padded}
 
 pub one_append : (a b : List ℕ) → IsOneLine a → IsOneLine b → IsOneLine (a ++ b)
@@ -14,7 +14,7 @@ one_append [] b one_a one_b = one_b
 one_append (x ∷ a) b one_a one_b = (one_a.0, one_append a b one_a.1 one_b)
 
 digit_is_no_feed : (d : ℕ) → is_ascii_digit d ≡ true → (d == 10) ≡ false
-digit_is_no_feed d h = grind (arith, nat_tests)
+digit_is_no_feed d h = let range = digit_range d h in ne_eqb d 10 (λ e. omega (arith, range.least))
 
 pub digits_are_one : (ds : List ℕ) → all_ascii_digits ds ≡ true → IsOneLine ds
 digits_are_one [] all = tt
@@ -29,14 +29,24 @@ pub padded_is_one : (width n : ℕ) → 1 ≤ width → n < 10 ^ width → n < 1
 padded_is_one width n some fits small = digits_are_one (padded_decimal width n)
     (reads_padded width n some fits small).all
 
+pub glyph_low : (n : ℕ) → n < 10 → digit_glyph false n ≡ 48 + n
+glyph_low n small = rw (lt-ltb n 10 small) refl
+
+pub glyph_high : (n : ℕ) → 10 ≤ n → digit_glyph false n ≡ 87 + n
+glyph_high n large = rw (le-ltb n 10 large) refl
+
+no_feed_by : (n : ℕ) → (n < 10) ⊎ (10 ≤ n) → digit_glyph false n ≡ 10 → ⊥
+no_feed_by n (inl low) is = omega (arith, glyph_low n low)
+no_feed_by n (inr high) is = omega (arith, glyph_high n high)
+
 pub glyph_is_no_feed : (n : ℕ) → n < 16 → (digit_glyph false n == 10) ≡ false
-glyph_is_no_feed n small = grind (arith, nat_tests)
+glyph_is_no_feed n small = ne_eqb (digit_glyph false n) 10 (no_feed_by n (cases_lt n 10))
 
 pub hex_is_one : (n : ℕ) → n < 256 → IsOneLine (hex_text n)
 hex_is_one n small = (glyph_is_no_feed (n / 16) (omega arith), (glyph_is_no_feed (n % 16) (omega arith), tt))
 
 letter_is_no_feed : (b : ℕ) → is_ascii_alphanumeric b ≡ true → (b == 10) ≡ false
-letter_is_no_feed b h = grind (arith, nat_tests)
+letter_is_no_feed b h = ne_eqb b 10 (λ e. let wrong : false ≡ true = rw e at h in cc wrong)
 
 byte_by : (b : ℕ) (letter space : Bool) → is_ascii_alphanumeric b ≡ letter → b < 256
     → IsOneLine (cond letter (b ∷ []) (cond space (95 ∷ []) (37 ∷ hex_text b)))
@@ -70,7 +80,7 @@ pub record SameLine (line xs body ys : List ℕ) : Type 0 where
   pub rest_is : xs ≡ ys
 
 feed_is_feed : (b : ℕ) (xs ys : List ℕ) → (b == 10) ≡ false → b ∷ xs ≡ 10 ∷ ys → ⊥
-feed_is_feed b xs ys other e = let same : b ≡ 10 = cc in grind (arith, nat_tests)
+feed_is_feed b xs ys other e = let same : b ≡ 10 = cc in eqb-false b 10 other same
 
 pub same_cons : (a b : ℕ) (xs ys : List ℕ) → a ∷ xs ≡ b ∷ ys → (a ≡ b) × (xs ≡ ys)
 same_cons a b xs ys e = (cc, cc)

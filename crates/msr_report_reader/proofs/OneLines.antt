@@ -3,7 +3,7 @@ use Rattle.std.proofs.Common.{◌≡◌, refl, rules, arith, ℕ, zero, suc, ◌
 use Rattle.std.specs.Fmt.{digits, digits_onto, digit_glyph, signed_decimal}
 use Rattle.std.specs.Int.{w16}
 use Rattle.std.specs.Int.RustNames.{FitsSigned}
-use Rattle.std.proofs.lemmas.Bool.Decides.{nat_tests}
+use Rattle.std.proofs.lemmas.Bool.{ne_eqb}
 use Rattle.jiff_core.proofs.CalendarLemmas.{days_in_year_bounds}
 use Rattle.msr_time.specs.declared.btime.BTime.{BTime}
 use Rattle.msr_time.specs.Instant.{IsTime}
@@ -70,7 +70,7 @@ pub time_is_one : (t : ℤ) (word : List ℕ) → IsTimeText t word → IsOneLin
 time_is_one t word is = rw is.is (split_is_one is.time is.micros is.split.is_time is.split.below)
 
 quality_is_no_feed : (b : ℕ) → IsTrue (is_quality b) → (b == 10) ≡ false
-quality_is_no_feed b h = grind (arith, nat_tests)
+quality_is_no_feed b h = ne_eqb b 10 (λ e. let wrong : false ≡ true = rw e at h in cc wrong)
 
 name_is_one : (network station location channel more : List ℕ) → AreBytes 2 network → AreBytes 5 station
     → AreBytes 2 location → AreBytes 3 channel

@@ -4,7 +4,9 @@ use Rattle.std.specs.Char.{is_ascii_digit}
 use Rattle.std.specs.Str.{all_ascii_digits}
 use Rattle.std.proofs.lemmas.Str.Parse.{digits_value_short, digit_at}
 use Rattle.std.proofs.lemmas.Fmt.{decimal-digits_value, digits_value-decimal, length-decimal-le}
-use Rattle.std.proofs.lemmas.Bool.Decides.{nat_tests}
+use Rattle.std.proofs.lemmas.Bool.{and_from, eqb-false, eqb-true, le-leb}
+use Rattle.std.proofs.Math.Bool.{and-true}
+use lib.Dec.{leb}
 use Rattle.std.proofs.lemmas.List.{length-take-le, take_all, take_more, length-replicate}
 use Rattle.std.proofs.Math.Nat.{pow-le-pow_right}
 use Rattle.std.proofs.Math.Seq.{take-append_seam, drop-append_seam}
@@ -17,9 +19,15 @@ pub value_more : (n : ℕ) (ds : List ℕ) (d : ℕ) → with_digits n (ds ++ d 
 value_more n [] d = refl
 value_more n (c ∷ cs) d = value_more (10 * n + (c - 48)) cs d
 
+three_tests : (a b c : Bool) → (a && (b && c)) ≡ ((a && b) && c)
+three_tests true b c = refl
+three_tests false b c = refl
+
 pub digits_more : (ds : List ℕ) (d : ℕ) → all_ascii_digits (ds ++ d ∷ []) ≡ (all_ascii_digits ds && is_ascii_digit d)
-digits_more [] d = grind (arith, nat_tests)
-digits_more (c ∷ cs) d = rw (digits_more cs d) (grind (arith, nat_tests))
+digits_more [] d = and-true (is_ascii_digit d)
+digits_more (c ∷ cs) d =
+    ap (λ (more : Bool). is_ascii_digit c && more) (digits_more cs d)
+    ∙ three_tests (is_ascii_digit c) (all_ascii_digits cs) (is_ascii_digit d)
 
 -- the first `i` bytes are digits, and give the number `value`
 pub record ReadsDigits (digits : List ℕ) (i : ℕ) (value : ℕ) : Type 0 where
@@ -52,13 +60,15 @@ reads_all digits i value so_far end =
 pub all_are_digits : (digits : List ℕ) (i : ℕ) → all_ascii_digits digits ≡ true → i < length digits
     → is_ascii_digit (get_or digits i 0) ≡ true
 all_are_digits digits i all within =
-    let range = digit_at digits i (own.to digits all) within in grind (arith, nat_tests)
+    let d : ℕ = get_or digits i 0 in
+    let range = digit_at digits i (own.to digits all) within in
+    and_from (leb 48 d) (leb d 57) (le-leb 48 d range.0) (le-leb d 57 range.1)
 
 is_48 : (d : ℕ) → (d == 48) ≡ true → d ≡ 48
-is_48 d h = grind (arith, nat_tests)
+is_48 d h = eqb-true d 48 h
 
 not_48 : (d : ℕ) → (d == 48) ≡ false → d ≡ 48 → ⊥
-not_48 d h is = grind (arith, nat_tests)
+not_48 d h is = eqb-false d 48 h is
 
 -- digits are the decimal of their number with leading zeros
 pads_behind_zero : (d : ℕ) (ds : List ℕ) → d ≡ 48 → 0 < length ds → length ds ≤ 6 → all_ascii_digits ds ≡ true

@@ -5,7 +5,7 @@ use Rattle.std.specs.Fmt.{signed_decimal, digit_glyph}
 use Rattle.std.specs.Int.{w16, w32}
 use Rattle.std.specs.Int.RustNames.{FitsSigned}
 use Rattle.std.specs.List.{prefix_len}
-use Rattle.std.proofs.lemmas.Bool.Decides.{nat_tests}
+use Rattle.std.proofs.lemmas.Bool.{eqb-false, eqb-true}
 use Rattle.std.proofs.lemmas.Fmt.{decimal_injective, signed_decimal_injective}
 use Rattle.jiff_core.proofs.CalendarLemmas.{days_in_year_bounds}
 use Rattle.msr_time.specs.declared.btime.BTime.{BTime}
@@ -49,14 +49,14 @@ same_hex m n xs ys small_m small_n is =
     (omega arith, low.1)
 
 pub differ : (a b : ℕ) (xs ys : List ℕ) → (a == b) ≡ false → a ∷ xs ≡ b ∷ ys → ⊥
-differ a b xs ys other is = let same : a ≡ b = (same_cons a b xs ys is).0 in grind (arith, nat_tests)
+differ a b xs ys other is = eqb-false a b other (same_cons a b xs ys is).0
 
 -- how a byte of a name is written: as itself, as `_`, or as `%` and its digits
 abbrev byte_as : ℕ → Bool → Bool → List ℕ
 byte_as b letter space = cond letter (b ∷ []) (cond space (95 ∷ []) (37 ∷ hex_text b))
 
 is_space : (b : ℕ) → (b == 32) ≡ true → b ≡ 32
-is_space b test = grind (arith, nat_tests)
+is_space b test = eqb-true b 32 test
 
 no_letter : (b c : ℕ) → is_ascii_alphanumeric b ≡ true → is_ascii_alphanumeric c ≡ false → b ≡ c → ⊥
 no_letter b c letter other is = let same : is_ascii_alphanumeric b ≡ is_ascii_alphanumeric c =

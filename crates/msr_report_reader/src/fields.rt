@@ -9,7 +9,7 @@ ghost use Rattle.msr_report.specs.Text.{hex_text, byte_text, field_text};
 ghost use Rattle.msr_report_reader.specs.Fields.{AreBytes, EndsNumber, signed_len};
 
 use itoa::Buffer;
-use msr_report::number_of;
+use msr_base::number_of;
 use std::str;
 
 /// The text after the given word.

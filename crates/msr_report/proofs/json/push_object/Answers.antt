@@ -1,41 +1,18 @@
-use Rattle.std.proofs.Common.{◌++◌, FitsSigned, codes, refl, rules, string_bytes, to_z-of_z, w64}
-use Rattle.msr_report.specs.Json.{clock_json, name_json, settings_json, times_json}
-use Rattle.msr_report.proofs.Pieces.{six_pieces}
+use Rattle.std.proofs.Common.{FitsSigned, rules, string_bytes, to_z-of_z, w64}
+use Rattle.msr_report.proofs.JsonLines.{object_put}
 use Rattle.msr_report.proofs.json.push_object.Goals as goal
 
 pub returns : goal.returns
 returns c =
-    let key = c.args.segment.now.key in
     let fits : FitsSigned w64 c.args.segment.now.start = search rules in
     let fits_last : FitsSigned w64 c.in-Some.last = search rules in
     let found = c.in-Some.ensures.found in
     let times = c.in_ok-push_times.ensures in
-    let start = rw (to_z-of_z fits) at times.1.1.0 in
-    let end = rw (to_z-of_z fits_last, found.2.1) at times.1.1.1.0 in
     let began = c.in_ok-push_began.ensures in
-    let line = codes "{" ++ (name_json key ++ (codes "," ++ (times_json times.0 times.1.0 c.args.segment.now.count
-    ++ (codes "," ++ (settings_json key ++ (codes "," ++ (clock_json key.correction key.timing
-    ++ (codes "," ++ (began.0 ++ codes "}\n"))))))))) in (
-      line,
-      (
-        record {
-          start_text = times.0;
-          start = start;
-          last = found.0;
-          nominal = rw (to_z-of_z fits) at found.1;
-          end_text = times.1.0;
-          end = end;
-          began = began.0;
-          is_began = began.1.0;
-          is = refl;
-        },
-        six_pieces (string_bytes c.args.text.now) (codes "{" ++ name_json key)
-            (codes "," ++ times_json times.0 times.1.0 c.args.segment.now.count) (codes "," ++ settings_json key)
-            (codes "," ++ clock_json key.correction key.timing) (codes "," ++ began.0) (codes "}\n") _ _ _ _ _ _
-            c.in_ok-push_name.ensures times.1.1.1.1 c.in_ok-push_rate_and_flags.ensures c.in_ok-push_correction.ensures
-            began.1.1 c.in_ok-push_str.ensures.bytes,
-      ),
-    )
+    object_put c.args.before c.args.segment.now found.0 times.0 times.1.0 began.0 (string_bytes c.args.text.now)
+    _ _ _ _ _ _ (rw (to_z-of_z fits) at found.1) (rw (to_z-of_z fits) at times.1.1.0)
+    (rw (to_z-of_z fits_last, found.2.1) at times.1.1.1.0) began.1.0 c.in_ok-push_name.ensures times.1.1.1.1
+    c.in_ok-push_rate_and_flags.ensures c.in_ok-push_correction.ensures began.1.1 c.in_ok-push_str.ensures.bytes
 
 pub push_times-requires-clause-first : goal.push_times-requires-clause-first
 push_times-requires-clause-first c =

@@ -10,7 +10,7 @@ loop-digit-init c = reads_none c.args.digits.now
 pub returns-then-not-is_ascii_digit : goal.returns-then-not-is_ascii_digit
 returns-then-not-is_ascii_digit c all =
     let yes : is_ascii_digit (slice_index_or c.args.digits.now c.loop-digit.digit-index 0) ≡ true =
-    all_are_digits c.args.digits.now c.loop-digit.digit-index all (omega arith) in
+    all_are_digits c.args.digits.now c.loop-digit.digit-index all c.loop-digit-test.true in
     cc (yes, c.is_ascii_digit.ensures.value)
 
 pub overflow_mul-value : goal.overflow_mul-value
@@ -29,8 +29,10 @@ overflow_add-value c =
 
 pub loop-digit-preserved : goal.loop-digit-preserved
 loop-digit-preserved c =
-    reads_more c.args.digits.now c.loop-digit.digit-index c.loop-digit.value _ c.loop-digit.invariant (omega arith)
-    (omega arith) refl (sym c.is_ascii_digit.ensures.value ∙ c.if-not-is_ascii_digit.false)
+    reads_more c.args.digits.now c.loop-digit.digit-index c.loop-digit.value _ c.loop-digit.invariant
+    c.loop-digit-test.true c.requires refl (sym c.is_ascii_digit.ensures.value ∙ c.if-not-is_ascii_digit.false)
 
 pub returns : goal.returns
-returns c = reads_all c.args.digits.now c.loop-digit.digit-index c.loop-digit.value c.loop-digit.invariant (omega arith)
+returns c =
+    reads_all c.args.digits.now c.loop-digit.digit-index c.loop-digit.value c.loop-digit.invariant
+    c.loop-digit-test.false

@@ -1,9 +1,9 @@
-use Rattle.std.proofs.Common.{◌≡◌, ◌+◌, refl, ap, ◌∙◌, arith, length}
+use Rattle.std.proofs.Common.{◌≡◌, ◌+◌, ap, ◌∙◌, arith, length}
 use Rattle.std.proofs.lemmas.List.{take_all}
 use Rattle.std.proofs.lemmas.Result.{err_from_is_err_and}
-use Rattle.msr_devices.proofs.Chaining.{calm_calm, calm_failed}
+use Rattle.msr_devices.proofs.Chaining.{calm_calm, calm_same, steady_can_count, steady_then_few}
 use Rattle.msr_report.specs.Proper.{records_in}
-use Rattle.msr_report.proofs.Written.{nothing_taken, written_next, written_front_of, written_end, end_front, end_whole, records_next, records_take}
+use Rattle.msr_report.proofs.Written.{calm_few, failure_tells, memory_tells, written_tells, nothing_taken, written_next, written_front_of, written_end, end_front, end_whole, records_next, records_take}
 use Rattle.msr_report.proofs.report.Report.write_text.Goals as goal
 
 pub returns-in_err-push_first_lines-clause-text : goal.returns-in_err-push_first_lines-clause-text
@@ -29,13 +29,75 @@ returns-in_err-flush_full-clause-text g c =
 
 pub returns-in_err-flush_full-clause-write : goal.returns-in_err-flush_full-clause-write
 returns-in_err-flush_full-clause-write g c =
-    let p = err_from_is_err_and c.from_residual-in_err-flush_full.result c.from_residual-in_err-flush_full.ensures.1 in
-    rw (p.1, p.2) (
-      λ _. calm_failed (g.W.Sink.device c.args.sink.now) (g.W.Sink.device c.loop-line.sink)
-          (g.W.Sink.device c.flush_full.new.sink) c.loop-line.invariant.calm c.in_err-flush_full.ensures.failed,
-      λ _.
-          refl,
-    )
+    failure_tells c.from_residual-in_err-flush_full.result (g.W.Sink.device c.args.sink.now) (g.W.Sink.device c.loop-line.sink)
+    (g.W.Sink.device c.flush_full.new.sink) c.loop-line.invariant.calm c.in_err-flush_full.ensures.failed
+    c.from_residual-in_err-flush_full.ensures.1
+
+pub returns-in_err-flush_full-clause-few : goal.returns-in_err-flush_full-clause-few
+returns-in_err-flush_full-clause-few g c =
+    steady_then_few (g.W.Sink.device c.args.sink.now) (g.W.Sink.device c.loop-line.sink)
+    (g.W.Sink.device c.flush_full.new.sink) c.loop-line.invariant.calm.steady c.flush_full.ensures.few
+
+pub returns-in_err-push_first_lines-clause-write : goal.returns-in_err-push_first_lines-clause-write
+returns-in_err-push_first_lines-clause-write g c =
+    memory_tells c.from_residual.result (g.W.Sink.device c.args.sink.now) (g.W.Sink.device c.args.sink.now)
+    (calm_same (g.W.Sink.device c.args.sink.now)) c.from_residual.ensures.1
+
+pub returns-in_err-push_first_lines-clause-few : goal.returns-in_err-push_first_lines-clause-few
+returns-in_err-push_first_lines-clause-few g c =
+    calm_few (g.W.Sink.device c.args.sink.now) (g.W.Sink.device c.args.sink.now) (calm_same (g.W.Sink.device c.args.sink.now))
+
+pub returns-in_err-push_segment-clause-write : goal.returns-in_err-push_segment-clause-write
+returns-in_err-push_segment-clause-write g c =
+    memory_tells c.from_residual-in_err-push_segment.result (g.W.Sink.device c.args.sink.now) (g.W.Sink.device c.loop-line.sink)
+    c.loop-line.invariant.calm c.from_residual-in_err-push_segment.ensures.1
+
+pub returns-in_err-push_segment-clause-few : goal.returns-in_err-push_segment-clause-few
+returns-in_err-push_segment-clause-few g c =
+    calm_few (g.W.Sink.device c.args.sink.now) (g.W.Sink.device c.loop-line.sink) c.loop-line.invariant.calm
+
+pub returns-in_err-push_end_line-clause-write : goal.returns-in_err-push_end_line-clause-write
+returns-in_err-push_end_line-clause-write g c =
+    memory_tells c.from_residual-in_err-push_end_line.result (g.W.Sink.device c.args.sink.now) (g.W.Sink.device c.loop-line.sink)
+    c.loop-line.invariant.calm c.from_residual-in_err-push_end_line.ensures.1
+
+pub returns-in_err-push_end_line-clause-few : goal.returns-in_err-push_end_line-clause-few
+returns-in_err-push_end_line-clause-few g c =
+    calm_few (g.W.Sink.device c.args.sink.now) (g.W.Sink.device c.loop-line.sink) c.loop-line.invariant.calm
+
+pub returns-in_err-flush-clause-write : goal.returns-in_err-flush-clause-write
+returns-in_err-flush-clause-write g c =
+    failure_tells c.from_residual-in_err-flush.result (g.W.Sink.device c.args.sink.now) (g.W.Sink.device c.loop-line.sink)
+    (g.W.Sink.device c.flush.new.sink) c.loop-line.invariant.calm c.in_err-flush.ensures.failed
+    c.from_residual-in_err-flush.ensures.1
+
+pub returns-in_err-flush-clause-few : goal.returns-in_err-flush-clause-few
+returns-in_err-flush-clause-few g c =
+    steady_then_few (g.W.Sink.device c.args.sink.now) (g.W.Sink.device c.loop-line.sink)
+    (g.W.Sink.device c.flush.new.sink) c.loop-line.invariant.calm.steady c.flush.ensures.few
+
+pub returns-clause-write : goal.returns-clause-write
+returns-clause-write g c =
+    written_tells _ (g.W.Sink.device c.args.sink.now) (g.W.Sink.device c.flush.new.sink)
+    (calm_calm _ _ _ c.loop-line.invariant.calm c.in_ok-flush.ensures.calm)
+
+pub returns-clause-calm : goal.returns-clause-calm
+returns-clause-calm g c = calm_calm _ _ _ c.loop-line.invariant.calm c.in_ok-flush.ensures.calm
+
+pub returns-clause-few : goal.returns-clause-few
+returns-clause-few g c =
+    calm_few (g.W.Sink.device c.args.sink.now) (g.W.Sink.device c.flush.new.sink)
+    (calm_calm _ _ _ c.loop-line.invariant.calm c.in_ok-flush.ensures.calm)
+
+pub flush_full-requires : goal.flush_full-requires
+flush_full-requires g c =
+    steady_can_count (g.W.Sink.device c.args.sink.now) (g.W.Sink.device c.loop-line.sink)
+    c.loop-line.invariant.calm.steady c.requires.count
+
+pub flush-requires : goal.flush-requires
+flush-requires g c =
+    steady_can_count (g.W.Sink.device c.args.sink.now) (g.W.Sink.device c.loop-line.sink)
+    c.loop-line.invariant.calm.steady c.requires.count
 
 pub overflow_add-records : goal.overflow_add-records
 overflow_add-records g c =

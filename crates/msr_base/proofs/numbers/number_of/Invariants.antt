@@ -1,6 +1,6 @@
 use Rattle.std.proofs.Common.{length}
-use Rattle.msr_report.proofs.DigitValues.{ReadsOn}
-use Rattle.msr_report.proofs.numbers.number_of.Given as goal
+use Rattle.msr_base.proofs.DigitValues.{ReadsOn}
+use Rattle.msr_base.proofs.numbers.number_of.Given as goal
 
 abbrev pub invariant-digits : goal.invariant-digits
 invariant-digits l = ReadsOn l.n l.rest l.digits

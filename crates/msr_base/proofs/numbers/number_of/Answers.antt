@@ -2,9 +2,9 @@ use Rattle.std.proofs.Common.{◌≡◌, ◌∙◌, ap, sym, arith, true, false,
 use Rattle.std.proofs.lemmas.Fmt.{decimal_nonempty}
 use Rattle.std.proofs.lemmas.Bool.Decides.{Decides-eqb}
 use Rattle.std.proofs.lemmas.List.{nil_from_length}
-use Rattle.msr_report.proofs.DigitValues.{fits_more, is_decimal, is_number, no_zero}
-use Rattle.msr_report.proofs.numbers.number_of.Goals.{else-first-eq48-via-then-first-eq48+else-not-is_empty, else-first-eq48-via-else-first-eq48}
-use Rattle.msr_report.proofs.numbers.number_of.Goals as goal
+use Rattle.msr_base.proofs.DigitValues.{fits_more, is_decimal, is_number, no_zero}
+use Rattle.msr_base.proofs.numbers.number_of.Goals.{else-first-eq48-via-then-first-eq48+else-not-is_empty, else-first-eq48-via-else-first-eq48}
+use Rattle.msr_base.proofs.numbers.number_of.Goals as goal
 
 pub returns-in_err-first-clause-only : goal.returns-in_err-first-clause-only
 returns-in_err-first-clause-only c n small is =

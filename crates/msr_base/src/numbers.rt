@@ -1,4 +1,4 @@
-//! Numbers of a report's text, read back.
+//! Numbers of a text, read back.
 ghost use Rattle.std.specs.Prelude.{◌≡◌, ◌<◌, ◌^◌, ◌+◌, ◌-◌, ◌*◌, ℕ, IfSome, IsSomeAnd, SomeIff, decimal, true};
 ghost use Rattle.std.specs.Char.{is_ascii_digit};
 
