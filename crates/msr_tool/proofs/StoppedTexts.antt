@@ -1,4 +1,4 @@
--- What is answered when a task that writes a text stops.
+-- What is answered when a task that writes a text stops, or has written it whole.
 use Rattle.std.proofs.Common.{◌≡◌, ℕ, List, [], take, drop, refl, sym, ◌∙◌, inl, inr, Ok, Err}
 use Rattle.std.proofs.lemmas.List.{take-append-drop}
 use Rattle.msr_devices.specs.Device.{Device, HasLeft, Takes}
@@ -68,6 +68,22 @@ text_stops choice source0 source records0 records text0 text whole report why do
       });
     }
 
+-- the text of the report is written whole
+pub text_told : (choice : Choice) (source0 source records0 records text0 text : Device) (whole : List ℕ)
+    (report : Report) → ReadsAndWrites (Answers choice) source0 source records0 records (Ok report)
+    → IsReportText report whole → Takes text0 text whole → Reports choice source0 records0 records text0 text (Ok report)
+text_told choice source0 source records0 records text0 text whole report does is_text took =
+    let a = does.answer in
+    record {
+      input = a.0;
+      written = a.1;
+      told = whole;
+      left = a.2;
+      wrote = a.3;
+      told_all = took;
+      answers = record { repacked = a.4; text = is_text };
+    }
+
 -- what is answered if no call was made for the verdict
 unspoken : (input text : List ℕ) (why : ToolFault) → CheckAnswers input text (Err why)
     → VerdictAnswers input text [] (Err why)
@@ -88,6 +104,20 @@ check_stops packed report out input text why left left_text a = record {
   left_text = left_text;
   told_all = takes_none out;
   answers = unspoken input text why a;
+}
+
+-- the line of the verdict is written whole
+pub line_told : (packed report out0 out : Device) (input text line : List ℕ) (verdict : Verdict) →
+    HasLeft packed input → HasLeft report text → IsChecked input text (Ok verdict) → line ≡ verdict_line verdict →
+    Takes out0 out line → TellsVerdict packed report out0 out (Ok verdict)
+line_told packed report out0 out input text line verdict left left_text checked is_line took = record {
+  input = input;
+  text = text;
+  told = line;
+  left = left;
+  left_text = left_text;
+  told_all = took;
+  answers = (checked, is_line);
 }
 
 -- the line of the verdict is not written whole

@@ -3,7 +3,7 @@ use Rattle.std.proofs.lemmas.Result.{err_from_is_err_and}
 use Rattle.msr_tool.specs.Tasks.{verdict_line}
 use Rattle.msr_tool.specs.declared.fault.ToolFault.TheVariants.{Memory}
 use Rattle.msr_tool.proofs.StoppedRepacks.{ok_unread}
-use Rattle.msr_tool.proofs.StoppedTexts.{check_stops, line_cut}
+use Rattle.msr_tool.proofs.StoppedTexts.{check_stops, line_cut, line_told}
 use Rattle.msr_tool.proofs.tasks.check_and_tell.Goals as goal
 
 pub returns-in_err-verdict-clause-answer : goal.returns-in_err-verdict-clause-answer
@@ -30,3 +30,9 @@ pub returns-in_err-write_all-clause-read : goal.returns-in_err-write_all-clause-
 returns-in_err-write_all-clause-read g c =
     let p = err_from_is_err_and c.from_residual-in_err-write_all.result c.from_residual-in_err-write_all.ensures.1 in
     rw (p.1, p.2) ((λ e. absurd cc), (λ failed. ok_unread _ _ (c.in_ok-verdict.ensures.read.1 failed)))
+
+pub returns-clause-answer : goal.returns-clause-answer
+returns-clause-answer g c =
+    let a = c.in_ok-verdict.ensures.answer in
+    let line : c.as_bytes.result.now ≡ verdict_line c.in_ok-verdict.verdict = search rules in
+    line_told _ _ _ _ a.0 a.1 c.as_bytes.result.now c.in_ok-verdict.verdict a.2 a.3 a.4 line c.in_ok-write_all.ensures.all

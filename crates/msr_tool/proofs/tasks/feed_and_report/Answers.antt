@@ -1,6 +1,6 @@
 use Rattle.std.proofs.Common.{rules}
 use Rattle.std.proofs.lemmas.Result.{err_from_is_err_and}
-use Rattle.msr_tool.proofs.StoppedTexts.{repack_stops, text_stops}
+use Rattle.msr_tool.proofs.StoppedTexts.{repack_stops, text_stops, text_told}
 use Rattle.msr_tool.proofs.tasks.feed_and_report.Goals as goal
 
 pub returns-in_err-fed-clause-answer : goal.returns-in_err-fed-clause-answer
@@ -27,7 +27,9 @@ pub returns-in_err-write_text-clause-failures : goal.returns-in_err-write_text-c
 returns-in_err-write_text-clause-failures g c = search rules
 
 pub returns-clause-answer : goal.returns-clause-answer
-returns-clause-answer g c = search rules
+returns-clause-answer g c =
+    let t = c.in_ok-write_text.ensures.text in
+    text_told c.args.options _ _ _ _ _ _ t.0 c.in_ok-fed.fed c.in_ok-fed.ensures.does t.1.0 t.1.1
 
 pub returns-clause-failures : goal.returns-clause-failures
 returns-clause-failures g c = search rules
