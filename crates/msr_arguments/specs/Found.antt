@@ -11,8 +11,8 @@ use Rattle.msr_arguments.specs.declared.words.LineFault.TheVariants.{SameFile, O
 use Rattle.msr_options.specs.declared.days.DayOptions.{DayOptions}
 use Rattle.msr_options.specs.declared.names.Names.{Names}
 use Rattle.msr_options.specs.declared.names.Names.TheVariants.{Any, Own}
-use Rattle.msr_kinds.specs.declared.kinds.Kinds.{Kinds}
-use Rattle.msr_kinds.specs.declared.kinds.Kinds.TheVariants.{All, WithoutInt24}
+use Rattle.msr_base.specs.declared.kinds.Kinds.{Kinds}
+use Rattle.msr_base.specs.declared.kinds.Kinds.TheVariants.{All, WithoutInt24}
 use Rattle.msr_options.specs.declared.known.Known.{Known}
 use Rattle.msr_options.specs.declared.known.Known.TheVariants.{Nothing, File}
 use Rattle.msr_options.specs.declared.task.Archiving.{Archiving}

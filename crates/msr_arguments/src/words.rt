@@ -1,6 +1,6 @@
 //! What the words of a command line ask for.
 ghost use Rattle.std.specs.Prelude.{◌≡◌, ◌≢◌, ◌<◌, ◌≤◌, ◌↔◌, ℕ, length, codes, false, slice_get, Some, IfOk, IfErr, IfSome, IsSome, IsSomeAnd, IsOk, IsOkAnd, IsErrAnd, IsTrue, Ok, Err, Any, drop, map, option_map, true};
-ghost use Rattle.msr_kinds.specs.RecordLength.{IsRecordLength};
+ghost use Rattle.msr_base.specs.RecordLength.{IsRecordLength};
 ghost use Rattle.clap.specs.Words.{first_value, found_of, kind_of, one_text};
 ghost use Rattle.msr_arguments.specs.Found.{AsksArchive, AsksBelow, AsksCheck, AsksDays, AsksFolders, AsksKnown, AsksOptions, AsksPlaces, AsksReplace, AsksTask, AsksTelling, AsksVerify, EndsFor, EndsWith, IsBadLine, IsFlagOf, IsFormOf, IsKindsOf, IsLengthOf, IsNumberOf, IsToldByClap, IsWrong, length_in, line_fault_text, without_slash};
 ghost use Rattle.msr_arguments.specs.Rules.{IsFoundFor, HasNeeded, HoldsDays, HoldsTolerance, folder_rules};
@@ -11,7 +11,7 @@ use crate::commands::{command_line, length_alone, program_line};
 use crate::dry_run::read_command;
 use clap::ArgMatches;
 use clap::error::ErrorKind;
-use msr_kinds::{Kinds, Length};
+use msr_base::{Kinds, Length};
 use msr_options::{
     Archiving, Checking, Comparing, DayOptions, Ending, Feeding, Folders, Known, ListForm, Listing,
     Names, NoTask, Options, Repacking, Replacing, Task, Telling, Verb, Verifying, overlap,

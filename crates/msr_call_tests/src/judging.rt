@@ -2,9 +2,9 @@
 
 use crate::made::Made::{self, Bounds, Extremes, Noise, Signs, Teeth, Turns, Zeros};
 use Change::{Back, Doubled, Dropped, On, Stays};
+use msr_base::{Form, Kind, Kinds, Length};
 use msr_check::{Judge, shows_least_in};
 use msr_fixtures::expect;
-use msr_kinds::{Form, Kind, Kinds, Length};
 use msr_packer::{Packing, pack_in};
 use msr_words::Kind::{Int16, Int24, Int32, Steim1, Steim2};
 use msr_words::Kinds::{All, WithoutInt24};

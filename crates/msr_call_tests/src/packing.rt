@@ -1,7 +1,7 @@
 //! Packers and areas, by calls that ask of their caller what no row of a table can know.
 use crate::facts::expect_all;
+use msr_base::{Form, Kinds, Length, Width};
 use msr_fixtures::expect;
-use msr_kinds::{Form, Kinds, Length, Width};
 use msr_packer::{BlockPacker, Piece, pack};
 use msr_plain::fill_plain;
 use msr_words::Kind::{self, Steim2};

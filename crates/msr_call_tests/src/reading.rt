@@ -1,10 +1,9 @@
 //! A reader that has records at hand, rows whose samples are joined, and laws.
 use crate::facts::expect_all;
-use msr_base::SampleVec;
+use msr_base::{Kind, SampleVec};
 use msr_devices::{Behavior, TestSource};
 use msr_fixtures::{START, int32_record, key_at};
 use msr_input::{NextRecord, ReadFault, RowReader, Settings};
-use msr_kinds::Kind;
 use msr_rows::{Key, Row};
 use msr_segments::{
     Joiner, cuts_grow_by_rows, cuts_keep_segments, followers_stand_with_joiners,

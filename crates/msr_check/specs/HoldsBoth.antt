@@ -1,7 +1,7 @@
 -- Two samples that one record holds.
 use Rattle.std.specs.Prelude.{ℕ, ◌<◌, ◌≤◌, ◌⊎◌, ℤ, List}
-use Rattle.msr_kinds.specs.declared.kinds.Kind.{Kind}
-use Rattle.msr_kinds.specs.declared.kinds.Kind.TheVariants.{Steim1, Steim2}
+use Rattle.msr_base.specs.declared.kinds.Kind.{Kind}
+use Rattle.msr_base.specs.declared.kinds.Kind.TheVariants.{Steim1, Steim2}
 use Rattle.msr_words.specs.Fit.{Records, Fits, FitsIn, IsRun}
 
 -- a run in one of these records, of that kind, holds both samples, of which the first stands before the second

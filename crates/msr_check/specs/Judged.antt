@@ -1,6 +1,6 @@
 -- What is known of a segment whose runs are judged one after another.
 use Rattle.std.specs.Prelude.{◌≡◌, ℕ, ◌+◌, ◌-◌, ◌<◌, ◌≤◌, ◌⊎◌, ⊤, Bool, true, false, ℤ, List, [], ◌∷◌, ◌++◌, length, drop, slice_index, Option, Some, None, All}
-use Rattle.msr_kinds.specs.declared.kinds.Kind.{Kind}
+use Rattle.msr_base.specs.declared.kinds.Kind.{Kind}
 use Rattle.msr_words.specs.declared.kinds.Run.{Run}
 use Rattle.msr_words.specs.Fit.{Records, FitsIn, IsRun}
 use Rattle.msr_words.specs.Packing.{IsPacking, IsSeparating, Joins, NoneHolds}

@@ -1,6 +1,6 @@
 -- How far Steim-1 or Steim-2 reaches, if that is known.
 use Rattle.std.specs.Prelude.{ℕ, ℤ, List, Option, IfSome, IsTrue}
-use Rattle.msr_kinds.specs.declared.kinds.Kind.TheVariants.{Steim2}
+use Rattle.msr_base.specs.declared.kinds.Kind.TheVariants.{Steim2}
 use Rattle.msr_words.specs.Bounds.{AreNarrowThrough, IsEnd}
 use Rattle.msr_check.specs.declared.reach.Reach.{Reach}
 

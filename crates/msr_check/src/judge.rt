@@ -9,7 +9,7 @@ ghost use Rattle.msr_check.specs.Judged.{AreShown, FollowsLast, IsComplete, IsFo
 use crate::held::Held;
 use crate::reach::reach_of;
 use crate::{is_run, none_between};
-use msr_kinds::{Form, Kind};
+use msr_base::{Form, Kind};
 use msr_words::Run;
 use std::alloc::{AllocError, Global};
 use std::marker::Model;

@@ -6,14 +6,14 @@ mod judge;
 mod reach;
 
 ghost use Rattle.std.specs.Prelude.{◌≡◌, ◌<◌, ◌≤◌, ◌↔◌, ℕ, length, IsTrue, IsFalse};
-ghost use Rattle.msr_kinds.specs.declared.kinds.Kind.TheVariants.{Steim1, Steim2};
-ghost use Rattle.msr_kinds.specs.Forms.{all_kinds};
-ghost use Rattle.msr_kinds.specs.Kinds.{IsChosen};
+ghost use Rattle.msr_base.specs.declared.kinds.Kind.TheVariants.{Steim1, Steim2};
+ghost use Rattle.msr_base.specs.Forms.{all_kinds};
+ghost use Rattle.msr_base.specs.Kinds.{IsChosen};
 ghost use Rattle.msr_words.specs.Fit.{Fits, FitsIn, IsRun, records_of};
 ghost use Rattle.msr_words.specs.Bounds.{IsEnd};
 ghost use Rattle.msr_words.specs.Laws.{look_back_of};
 ghost use Rattle.msr_words.specs.Segment.{run_points};
-ghost use Rattle.msr_kinds.specs.Lengths.{bytes_of};
+ghost use Rattle.msr_base.specs.Lengths.{bytes_of};
 ghost use Rattle.msr_check.specs.HoldsBoth.{HaveNoRoom, HoldsBoth, SteimHolds};
 ghost use Rattle.msr_check.specs.Known.{IsKnown};
 ghost use Rattle.msr_check.specs.Next.{IsNextSeparator};
@@ -22,7 +22,7 @@ ghost use Rattle.msr_words.specs.Packing.{NoneHolds, IsPacking, IsSeparating, Is
 use crate::judge::{ends_sound, followed_by};
 use crate::reach::{Known, is_of_steim2, known_end, meets_narrow};
 pub use judge::Judge;
-use msr_kinds::{Form, Kind, Length};
+use msr_base::{Form, Kind, Length};
 use msr_words::{
     Fitting, Run, are_narrow, begins_with_four, count_halves, count_wide, run_fits, steim1_reach,
 };

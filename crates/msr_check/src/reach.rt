@@ -2,11 +2,11 @@
 //! separator.
 
 ghost use Rattle.std.specs.Prelude.{IfSome, IsTrue};
-ghost use Rattle.msr_kinds.specs.Lengths.{bytes_of};
+ghost use Rattle.msr_base.specs.Lengths.{bytes_of};
 ghost use Rattle.msr_words.specs.Bounds.{IsEnd};
 ghost use Rattle.msr_check.specs.Known.{IsKnown, MeetsNarrow};
 
-use msr_kinds::{Kind, Length};
+use msr_base::{Kind, Length};
 use msr_words::{Run, steim1_reach, steim2_reach};
 
 /// Where the longest run of a kind from a sample on ends.

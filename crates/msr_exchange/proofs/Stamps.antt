@@ -13,12 +13,12 @@ use Rattle.msr_tree.proofs.Acting.{acts_does, acts_tells, goes_as, within_rename
 use Rattle.msr_tree.proofs.Changes.{changes_more, changes_none, changes_then, each_by_changes, leaves_kept, may_kept, now_kept, ready_renamed, with_changes}
 use Rattle.msr_tree.proofs.Crash.{is_of, is_self, leaves, leaves_seen}
 use Rattle.msr_tree.proofs.Moments.{at_end, joined}
-use Rattle.msr_stamp.specs.Making.{WritesText}
-use Rattle.msr_stamp.specs.Stamp.{stamp_of, stamp_text}
-use Rattle.msr_stamp.specs.declared.stamp.Stamp.{Stamp}
-use Rattle.msr_stamp.specs.declared.stamp.StampOf.{StampOf}
-use Rattle.msr_stamp.specs.declared.stamp.StampOf.TheVariants as stamped
-use Rattle.msr_stamp.proofs.Begun.{goes_both}
+use Rattle.msr_naming.specs.Making.{WritesText}
+use Rattle.msr_naming.specs.Stamp.{stamp_of, stamp_text}
+use Rattle.msr_naming.specs.declared.stamp.Stamp.{Stamp}
+use Rattle.msr_naming.specs.declared.stamp.StampOf.{StampOf}
+use Rattle.msr_naming.specs.declared.stamp.StampOf.TheVariants as stamped
+use Rattle.msr_naming.proofs.Begun.{goes_both}
 use Rattle.msr_exchange.specs.Names.{AreStampNames, Names, StampPlaces}
 use Rattle.msr_exchange.specs.Promise.{KeepsBoth}
 use Rattle.msr_exchange.specs.declared.names.Place.TheVariants.{Day, Original, Records}

@@ -4,10 +4,10 @@ use Rattle.std.specs.Str.{bytes_eq}
 use Rattle.msr_tree.specs.Steps.{AtEachMoment, ChangesOnly, IsReady, Leaves, MayLeave, Path, Step, now}
 use Rattle.msr_tree.specs.declared.facts.Facts.{Facts}
 use Rattle.msr_tree.specs.declared.facts.Kind.TheVariants.{Regular}
-use Rattle.msr_stamp.specs.Stamp.{stamp_of, stamp_text}
-use Rattle.msr_stamp.specs.declared.stamp.Stamp.{Stamp}
-use Rattle.msr_stamp.specs.declared.stamp.StampOf.{StampOf}
-use Rattle.msr_stamp.specs.declared.stamp.StampOf.TheVariants as stamped
+use Rattle.msr_naming.specs.Stamp.{stamp_of, stamp_text}
+use Rattle.msr_naming.specs.declared.stamp.Stamp.{Stamp}
+use Rattle.msr_naming.specs.declared.stamp.StampOf.{StampOf}
+use Rattle.msr_naming.specs.declared.stamp.StampOf.TheVariants as stamped
 use Rattle.msr_exchange.specs.Names.{AreStampNames, Names, StampPlaces, all, path_below}
 use Rattle.msr_exchange.specs.Promise.{KeepsBoth}
 use Rattle.msr_exchange.specs.Work.{parts_in}

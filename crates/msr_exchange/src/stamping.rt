@@ -8,7 +8,7 @@ ghost use Rattle.msr_exchange.specs.Stamped.{DropsStamp, FindsStamp, GivesStamp,
 
 use crate::names::{DayNames, Place};
 use crate::work::DayWork;
-use msr_stamp::{Stamp, StampOf, gives_text, write_stamp};
+use msr_naming::{Stamp, StampOf, gives_text, write_stamp};
 use msr_tree::{Facts, Kind, Tree, TreeFault, folder_above};
 use std::alloc::{AllocError, Global};
 use std::marker::Model;

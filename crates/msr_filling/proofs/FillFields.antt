@@ -8,8 +8,8 @@ use Rattle.std.proofs.lemmas.List.{append-nil, take_more, length-take-le}
 use Rattle.std.proofs.lemmas.Nat.{and_mask, mod-mul-add, pow_pos, pow-add}
 use Rattle.std.proofs.Common.{mod-lt}
 use Rattle.std.proofs.Math.Nat.{pow-le-pow_right, mul-le-mul_right, mul-lt-mul_of_pos_right}
-use Rattle.msr_kinds.specs.declared.storage.Version.{Version}
-use Rattle.msr_kinds.specs.declared.storage.Version.TheVariants.{One, Two}
+use Rattle.msr_base.specs.declared.storage.Version.{Version}
+use Rattle.msr_base.specs.declared.storage.Version.TheVariants.{One, Two}
 use Rattle.msr_steim.specs.Word.{FitsBits, IsGroup, padding_of, group_top, group_width, group_word, joined_fields, twos_complement}
 use Rattle.msr_steim.proofs.Fields.{field_bound, joined_fields_lt, joined_fields_push, ones_shr, power_is_half, push_field}
 

@@ -1,7 +1,7 @@
 -- The area that is filled with the words of a run.
 use Rattle.std.proofs.Common.{◌≡◌, ◌≤◌, ◌+◌, ◌-◌, ◌*◌, ℕ, ℤ, pos, List, Option, length, get_or, arith, inl, inr}
 use Rattle.std.proofs.lemmas.Bool.{cases_lt}
-use Rattle.msr_kinds.specs.declared.storage.Version.{Version}
+use Rattle.msr_base.specs.declared.storage.Version.{Version}
 use Rattle.msr_steim.specs.Frames.{frame_bytes}
 use Rattle.msr_words.specs.Canonical.{IsCanonicalDivision}
 use Rattle.msr_words.specs.Division.{CanDivide}

@@ -9,7 +9,7 @@ use Rattle.std.proofs.lemmas.Grind.{flat_map-append}
 use Rattle.std.proofs.lemmas.List.{append-nil, get_or_past, length-drop, replicate-append-replicate, take_all, take_at}
 use Rattle.std.proofs.lemmas.List.FromFn.{length-map-range_with_len, map-range_with_len_more}
 use Rattle.byteorder.specs.Endian.{big_bytes}
-use Rattle.msr_kinds.specs.declared.storage.Version.{Version}
+use Rattle.msr_base.specs.declared.storage.Version.{Version}
 use Rattle.msr_steim.specs.Word.{group_code, group_word}
 use Rattle.msr_steim.specs.Frames.{code_in, frame_bytes, frame_word, group_in}
 use Rattle.msr_steim.proofs.Filling.{codes_more, length-words}

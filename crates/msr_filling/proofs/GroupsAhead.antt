@@ -4,7 +4,7 @@ use Rattle.std.specs.Prelude.{set, slice_set, slice_index, sum}
 use Rattle.std.proofs.lemmas.Bool.{cases_lt}
 use Rattle.std.proofs.lemmas.List.{drop-drop, drop-take, get_or-set_other, get_or-set_same, get_or-take, length-take-le, take-set-le, take-take}
 use Rattle.std.proofs.lemmas.List.Sums.{sum_by_more_le}
-use Rattle.msr_kinds.specs.declared.storage.Version.TheVariants.{Two}
+use Rattle.msr_base.specs.declared.storage.Version.TheVariants.{Two}
 use Rattle.msr_steim.specs.Word.{group_word}
 use Rattle.msr_words.specs.Segment.{differences, run_points}
 use Rattle.msr_filling.proofs.SizesAhead.{AreTold, differences_of_run}

@@ -5,8 +5,8 @@ use Rattle.std.proofs.lemmas.Bool.{cases_lt}
 use Rattle.std.proofs.lemmas.List.{length-drop, length-take-le, take_all}
 use Rattle.std.proofs.lemmas.List.Sums.{sum_by-take-le}
 use Rattle.byteorder.specs.Endian.{big_bytes}
-use Rattle.msr_kinds.specs.declared.storage.Version.{Version}
-use Rattle.msr_kinds.specs.declared.storage.Version.TheVariants.{Two}
+use Rattle.msr_base.specs.declared.storage.Version.{Version}
+use Rattle.msr_base.specs.declared.storage.Version.TheVariants.{Two}
 use Rattle.msr_steim.specs.Word.{IsGroup, group_code, group_word}
 use Rattle.msr_words.specs.Groups.{AreGroupSizes, IsLongestGroup}
 use Rattle.msr_words.specs.Segment.{differences}

@@ -1,7 +1,7 @@
 -- The next Steim-1 word, if the size of its group is known.
 use Rattle.std.proofs.Common.{◌≡◌, ◌<◌, ◌≤◌, ◌+◌, ℕ, ℤ, List, Option, drop, take, length, sym, subst, arith}
 use Rattle.std.proofs.lemmas.List.{length-drop}
-use Rattle.msr_kinds.specs.declared.storage.Version.TheVariants.{One}
+use Rattle.msr_base.specs.declared.storage.Version.TheVariants.{One}
 use Rattle.msr_steim.specs.Word.{IsGroup, group_word}
 use Rattle.msr_filling.specs.declared.filling.SteimWord.{SteimWord}
 use Rattle.msr_words.specs.FirstGroup.{IsCanonicalFirst}

@@ -2,7 +2,7 @@
 use Rattle.std.proofs.Common.{◌≡◌, ◌<◌, ◌≤◌, ℕ, ◌+◌, ◌*◌, ℤ, get_or, take, drop, List, ◌++◌, Option, length, refl, subst, arith, sum}
 use Rattle.std.proofs.lemmas.List.Sums.{sum_by_more}
 use Rattle.byteorder.specs.Endian.{big_bytes}
-use Rattle.msr_kinds.specs.declared.storage.Version.TheVariants.{Two}
+use Rattle.msr_base.specs.declared.storage.Version.TheVariants.{Two}
 use Rattle.msr_steim.specs.Word.{group_code}
 use Rattle.msr_words.specs.Groups.{AreGroupSizes}
 use Rattle.msr_words.specs.Segment.{differences}

@@ -1,6 +1,6 @@
 -- The words of groups whose sizes are told (SEED 2.4, appendix B).
 use Rattle.std.specs.Prelude.{◌≡◌, ℕ, ◌<◌, ℤ, List, [], length, take, drop, sum, slice_index}
-use Rattle.msr_kinds.specs.declared.storage.Version.TheVariants.{Two}
+use Rattle.msr_base.specs.declared.storage.Version.TheVariants.{Two}
 use Rattle.msr_steim.specs.Word.{group_word}
 
 -- for each group of these sizes, one after another, its Steim-2 word

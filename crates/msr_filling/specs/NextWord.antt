@@ -1,6 +1,6 @@
 -- The word that comes next when the groups of some differences are written.
 use Rattle.std.specs.Prelude.{◌≡◌, ◌<◌, ◌≤◌, ◌+◌, ℕ, ℤ, List, [], length, take, drop, slice_index_or}
-use Rattle.msr_kinds.specs.declared.storage.Version.{Version}
+use Rattle.msr_base.specs.declared.storage.Version.{Version}
 use Rattle.msr_steim.specs.Word.{group_code, group_word}
 use Rattle.msr_words.specs.Canonical.{IsCanonicalDivision}
 use Rattle.msr_filling.specs.declared.filling.SteimWord.{SteimWord}

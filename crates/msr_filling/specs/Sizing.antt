@@ -1,7 +1,7 @@
 -- How the size of the next group is found when the words of a run are written.
 use Rattle.std.specs.Prelude.{◌≡◌, ℕ, ℤ, List, drop}
-use Rattle.msr_kinds.specs.declared.storage.Version.{Version}
-use Rattle.msr_kinds.specs.declared.storage.Version.TheVariants.{One, Two}
+use Rattle.msr_base.specs.declared.storage.Version.{Version}
+use Rattle.msr_base.specs.declared.storage.Version.TheVariants.{One, Two}
 use Rattle.msr_words.specs.Bounds.{BeginsWithFour}
 use Rattle.msr_filling.specs.declared.frames.Sizing.{Sizing}
 use Rattle.msr_filling.specs.declared.frames.Sizing.TheVariants.{Ahead, Given, Longest}

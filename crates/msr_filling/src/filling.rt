@@ -2,7 +2,7 @@
 
 ghost use Rattle.std.specs.Prelude.{◌≡◌, ◌<◌, ◌≤◌, ◌+◌, ◌-◌, ◌*◌, ◌/◌, ◌%◌, ◌^◌, ℤ, List, Some, length, drop, take};
 ghost use Rattle.std.specs.List.{AllByRecursion};
-ghost use Rattle.msr_kinds.specs.declared.storage.Version.TheVariants.{Two};
+ghost use Rattle.msr_base.specs.declared.storage.Version.TheVariants.{Two};
 ghost use Rattle.msr_steim.specs.Word.{FitsBits, group_code, group_top, group_width, group_word, joined_fields, twos_complement};
 ghost use Rattle.msr_words.specs.Division.{CanDivide};
 ghost use Rattle.msr_filling.specs.Filled.{IsFilledArea};

@@ -2,7 +2,7 @@
 
 ghost use Rattle.std.specs.Prelude.{◌≡◌, ◌<◌, ◌≤◌, ◌+◌, ◌-◌, ◌*◌, ◌/◌, ◌%◌, ℤ, List, Option, IfOk, IfSome, IsNone, Some, length, drop, take};
 ghost use Rattle.std.specs.List.{AllByRecursion};
-ghost use Rattle.msr_kinds.specs.declared.storage.Version.TheVariants.{One};
+ghost use Rattle.msr_base.specs.declared.storage.Version.TheVariants.{One};
 ghost use Rattle.msr_steim.specs.Word.{FitsBits, IsGroup, group_code, group_width, group_word, joined_fields, padding_of};
 ghost use Rattle.msr_words.specs.Bounds.{BeginsWithFour};
 ghost use Rattle.msr_words.specs.Division.{CanDivide};

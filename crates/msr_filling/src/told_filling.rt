@@ -1,7 +1,7 @@
 //! The Steim-2 words of a run that are told, put in place.
 
 ghost use Rattle.std.specs.Prelude.{◌≡◌, ◌<◌, ◌≤◌, ◌-◌, ◌*◌, ◌/◌, ◌%◌, length};
-ghost use Rattle.msr_kinds.specs.declared.storage.Version.TheVariants.{Two};
+ghost use Rattle.msr_base.specs.declared.storage.Version.TheVariants.{Two};
 ghost use Rattle.msr_steim.specs.Word.{group_code};
 ghost use Rattle.msr_words.specs.Division.{CanDivide};
 ghost use Rattle.msr_words.specs.Groups.{AreGroupSizes};

@@ -1,16 +1,16 @@
 //! How far a Steim-2 record reaches, with the words of its groups.
 
 ghost use Rattle.std.specs.Prelude.{◌≤◌, IsTrue, length, map, take};
-ghost use Rattle.msr_kinds.specs.declared.kinds.Kind.TheVariants.{Steim2 as SecondSteim};
-ghost use Rattle.msr_kinds.specs.Lengths.{bytes_of};
-ghost use Rattle.msr_kinds.specs.RecordLength.{words_of};
+ghost use Rattle.msr_base.specs.declared.kinds.Kind.TheVariants.{Steim2 as SecondSteim};
+ghost use Rattle.msr_base.specs.Lengths.{bytes_of};
+ghost use Rattle.msr_base.specs.RecordLength.{words_of};
 ghost use Rattle.msr_words.specs.Bounds.{AreNarrowThrough, IsEnd};
 ghost use Rattle.msr_words.specs.Groups.{AreGroupSizes, AreGroupSizesIfKnown};
 ghost use Rattle.msr_words.specs.Segment.{run_points};
 ghost use Rattle.msr_filling.specs.GroupWords.{AreGroupWords};
 
 use crate::filling::steim2_word;
-use msr_kinds::{Kind, Length};
+use msr_base::{Kind, Length};
 use msr_words::{Fitting, Steim2Reach, Window, steim2_greedy_reach, steim2_reach};
 
 /// As many of the longest groups as there are words, of no more samples than a record has. The size and the word of

@@ -9,3 +9,6 @@ pub mod VisitLemmas
 pub mod WalkedLemmas
 pub mod WalkLemmas
 pub mod WithinLemmas
+mod Counting
+mod Lines
+mod OnDays

@@ -12,3 +12,6 @@ pub mod Within
 pub mod Ages
 pub mod Opening
 pub mod Stopping
+pub mod Belonging
+pub mod Names
+pub mod Times

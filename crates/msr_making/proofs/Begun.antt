@@ -7,8 +7,8 @@ use Rattle.msr_tree.specs.Steps.{ChangesOnly, IsNoneOf, Path, Step}
 use Rattle.msr_tree.specs.declared.tree.TreeFault.{TreeFault}
 use Rattle.msr_tree.proofs.Acting.{goes_as}
 use Rattle.msr_tree.proofs.Changes as change
-use Rattle.msr_stamp.specs.Making.{IsBegun, LeadsToTaken}
-use Rattle.msr_stamp.proofs.Begun.{begun}
+use Rattle.msr_naming.specs.Making.{IsBegun, LeadsToTaken}
+use Rattle.msr_naming.proofs.Begun.{begun}
 use Rattle.msr_making.specs.Parts.{called_told}
 use Rattle.msr_making.specs.declared.answer.Stop.{Stop}
 

@@ -4,7 +4,7 @@ use Rattle.std.proofs.lemmas.List.{append-nil}
 use Rattle.msr_devices.specs.Device.{Device}
 use Rattle.msr_options.specs.Choice.{Choice}
 use Rattle.msr_options.specs.declared.days.DayOptions.{DayOptions}
-use Rattle.msr_output.specs.Output.{segment_of_packed}
+use Rattle.msr_record.specs.Output.{segment_of_packed}
 use Rattle.msr_report.specs.declared.report.Report.{Report}
 use Rattle.msr_tool.specs.Answer.{IsRepacked, IsStopped}
 use Rattle.msr_tool.specs.Tasks.{IsReported, IsReportedInPart, Reports}

@@ -9,8 +9,8 @@ use Rattle.msr_tree.specs.Steps.{File, Path, Step, failures, now, seen}
 use Rattle.msr_tree.specs.declared.facts.Facts.{Facts}
 use Rattle.msr_tree.specs.declared.tree.TreeFault.{TreeFault}
 use Rattle.msr_tree.proofs.Filing.{no_fewer, now_kept, seen_kept}
-use Rattle.msr_stamp.specs.Stamp.{stamp_of, stamp_text}
-use Rattle.msr_stamp.specs.declared.stamp.Stamp.{Stamp}
+use Rattle.msr_naming.specs.Stamp.{stamp_of, stamp_text}
+use Rattle.msr_naming.specs.declared.stamp.Stamp.{Stamp}
 use Rattle.msr_making.specs.Day.{IsKeptEither, IsReportKept, IsReportLeft}
 use Rattle.msr_making.specs.Keeping.{AsksForKept, AsksForReport, AsksForText, IsKeptBy, IsReportThere, stamped_by}
 use Rattle.msr_making.specs.Looking.{Asks, AsksForOne, AsksForShared, IsRegular, IsSightAt}

@@ -7,10 +7,10 @@ use Rattle.msr_tree.specs.declared.facts.Facts.{Facts}
 use Rattle.msr_tree.specs.declared.tree.TreeFault.{TreeFault}
 use Rattle.msr_tree.proofs.Acting.{goes_as}
 use Rattle.msr_tree.proofs.Filing.{acts_does, changes_more, changes_none, changes_then}
-use Rattle.msr_stamp.specs.Making.{WritesText}
-use Rattle.msr_stamp.specs.Stamp.{stamp_of, stamp_text}
-use Rattle.msr_stamp.specs.declared.stamp.Stamp.{Stamp}
-use Rattle.msr_stamp.specs.declared.stamp.StampOf.TheVariants.{Input}
+use Rattle.msr_naming.specs.Making.{WritesText}
+use Rattle.msr_naming.specs.Stamp.{stamp_of, stamp_text}
+use Rattle.msr_naming.specs.declared.stamp.Stamp.{Stamp}
+use Rattle.msr_naming.specs.declared.stamp.StampOf.TheVariants.{Input}
 use Rattle.msr_naming.proofs.FallingBack.{goes_both}
 use Rattle.msr_naming.specs.declared.files.DayFiles.{DayFiles}
 use Rattle.msr_making.specs.Stamping.{StampsAsked}

@@ -25,7 +25,7 @@ use Rattle.msr_making.specs.declared.answer.Stop.TheVariants.{Memory, Refused}
 use Rattle.msr_making.specs.declared.looks.Sight.{Sight}
 use Rattle.msr_making.specs.declared.looks.Sight.TheVariants.{Found, Nothing, Unknown}
 use Rattle.msr_making.specs.declared.parts.Parts.{Parts}
-use Rattle.msr_stamp.proofs.Begun.{taken_is}
+use Rattle.msr_naming.proofs.Begun.{taken_is}
 use Rattle.msr_making.proofs.Days.{unwritten_of}
 use Rattle.msr_making.proofs.Sights.{found_length, tells_changes, tells_failed}
 

@@ -18,12 +18,12 @@ use Rattle.msr_tool.specs.Settings.{settings_of}
 use Rattle.msr_options.specs.Choice.{Choice, as_strict, record_size}
 use Rattle.msr_options.specs.declared.days.DayOptions.{DayOptions}
 use Rattle.msr_options.specs.declared.names.DayName.{DayName}
-use Rattle.msr_belonging.specs.Belonging.{IsFoundAsAsked, told_segments}
+use Rattle.msr_folders.specs.Belonging.{IsFoundAsAsked, told_segments}
 use Rattle.msr_tool.specs.Tasks.{IsReported, ReportAnswers}
 use Rattle.msr_tool.specs.declared.fault.ToolFault.{ToolFault}
 use Rattle.msr_tool.specs.declared.fault.ToolFault.TheVariants.{Memory, Read}
 use Rattle.msr_verdict.specs.Packed.{ShowsLeast}
-use Rattle.msr_kinds.specs.Lengths.{bytes_of}
+use Rattle.msr_base.specs.Lengths.{bytes_of}
 use Rattle.msr_folders.specs.Totals.{saturated}
 use Rattle.msr_making.specs.declared.answer.DayOutcome.{DayOutcome}
 use Rattle.msr_making.specs.declared.answer.DayOutcome.TheVariants as outcomes

@@ -4,8 +4,8 @@ use Rattle.std.specs.declared.alloc.AllocError.{AllocError}
 use Rattle.msr_options.specs.declared.days.DayOptions.{DayOptions}
 use Rattle.msr_tree.specs.Steps.{Path, Step, seen}
 use Rattle.msr_tree.specs.declared.facts.Kind.TheVariants.{Regular}
-use Rattle.msr_stamp.specs.declared.stamp.StampOf.{StampOf}
-use Rattle.msr_stamp.specs.declared.stamp.StampOf.TheVariants.{Input, Records}
+use Rattle.msr_naming.specs.declared.stamp.StampOf.{StampOf}
+use Rattle.msr_naming.specs.declared.stamp.StampOf.TheVariants.{Input, Records}
 use Rattle.msr_making.specs.Day.{GotSmaller, IsReportKept}
 use Rattle.msr_making.specs.Looking.{Asks, IsDayLook}
 use Rattle.msr_making.specs.Places.{DayPaths}

@@ -14,8 +14,8 @@ use Rattle.msr_naming.specs.Promise.{HasOwn, HasReport, HaveDayNames, ShowsDay}
 use Rattle.msr_naming.specs.declared.files.DayFiles.{DayFiles}
 use Rattle.msr_making.specs.Clearing.{SeesNoneBeside}
 use Rattle.msr_making.specs.Places.{AreFileNames, DayPaths, ShowsAllLeft, paths_of}
-use Rattle.msr_stamp.specs.Stamp.{stamp_of, stamp_text}
-use Rattle.msr_stamp.specs.declared.stamp.StampOf.TheVariants.{Input}
+use Rattle.msr_naming.specs.Stamp.{stamp_of, stamp_text}
+use Rattle.msr_naming.specs.declared.stamp.StampOf.TheVariants.{Input}
 use Rattle.msr_making.specs.Told.{IsOutcomeThere, IsSameThere}
 use Rattle.msr_making.specs.declared.answer.DayEnd.{DayEnd}
 use Rattle.msr_making.specs.declared.answer.DayOutcome.{DayOutcome}

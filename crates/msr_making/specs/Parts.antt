@@ -4,7 +4,7 @@ use Rattle.msr_devices.specs.Device.{Device}
 use Rattle.msr_tree.specs.Steps.{Path, Step}
 use Rattle.msr_tree.specs.declared.tree.TreeFault.{TreeFault}
 use Rattle.msr_tree.specs.declared.tree.TreeFault.TheVariants as fault
-use Rattle.msr_stamp.specs.Making.{IsBegun, LeadsToTaken}
+use Rattle.msr_naming.specs.Making.{IsBegun, LeadsToTaken}
 use Rattle.msr_naming.specs.declared.files.DayFiles.{DayFiles}
 use Rattle.msr_options.specs.declared.hint.Side.{Side}
 use Rattle.msr_options.specs.declared.hint.Side.TheVariants.{Records, Report as OfReport}

@@ -4,8 +4,8 @@ use Rattle.msr_tree.specs.Folders.{ChangesFiles}
 use Rattle.msr_tree.specs.Steps.{IsReady, Step}
 use Rattle.msr_tree.specs.declared.facts.Facts.{Facts}
 use Rattle.msr_naming.specs.declared.files.DayFiles.{DayFiles}
-use Rattle.msr_stamp.specs.Stamp.{stamp_of, stamp_text}
-use Rattle.msr_stamp.specs.declared.stamp.StampOf.TheVariants.{Input}
+use Rattle.msr_naming.specs.Stamp.{stamp_of, stamp_text}
+use Rattle.msr_naming.specs.declared.stamp.StampOf.TheVariants.{Input}
 use Rattle.msr_making.specs.declared.answer.Left.{Left}
 use Rattle.msr_making.specs.declared.answer.Left.TheVariants as left
 use Rattle.msr_making.specs.declared.looks.Sight.{Sight}

@@ -5,16 +5,16 @@ use Rattle.msr_folders.specs.Totals.{saturated}
 use Rattle.msr_options.specs.declared.days.DayOptions.{DayOptions}
 use Rattle.msr_options.specs.declared.hint.Side.{Side}
 use Rattle.msr_options.specs.declared.names.DayName.{DayName}
-use Rattle.msr_belonging.specs.Belonging.{IsFoundAsAsked, told_segments}
+use Rattle.msr_folders.specs.Belonging.{IsFoundAsAsked, told_segments}
 use Rattle.msr_options.specs.declared.hint.Side.TheVariants.{Records, Report as OfReport}
 use Rattle.msr_report.specs.declared.report.Report.{Report}
 use Rattle.msr_report_reader.specs.Reading.{IsReadFrom}
 use Rattle.msr_tool.specs.declared.fault.ToolFault.{ToolFault}
 use Rattle.msr_making.specs.Day.{AsksForAge, CountAnswers, GotSmaller, IsKept, IsKeptInPlace, IsMisplaced, IsOtherData, IsVerifiedBy, ShowsWritten, samples_of_lines}
 use Rattle.msr_making.specs.Places.{DayPaths, IsOneOfMade, IsUnseen}
-use Rattle.msr_stamp.specs.Stamp.{stamp_text}
-use Rattle.msr_stamp.specs.declared.stamp.Stamp.{Stamp}
-use Rattle.msr_stamp.specs.declared.stamp.StampOf.TheVariants as stamped
+use Rattle.msr_naming.specs.Stamp.{stamp_text}
+use Rattle.msr_naming.specs.declared.stamp.Stamp.{Stamp}
+use Rattle.msr_naming.specs.declared.stamp.StampOf.TheVariants as stamped
 use Rattle.msr_making.specs.declared.answer.DayFault.{DayFault}
 use Rattle.msr_making.specs.declared.answer.DayFault.TheVariants.{CannotOpen, Changed, ClaimedByAnother, Differs, Gone, Larger, Listing, Misplaced, NotShown, Shrunk, Tool}
 use Rattle.msr_making.specs.declared.answer.DayOutcome.{DayOutcome}

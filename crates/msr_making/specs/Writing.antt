@@ -8,7 +8,7 @@ use Rattle.msr_tree.specs.Folders.{ChangesFiles}
 use Rattle.msr_tree.specs.Steps.{Path, Step, failures, seen}
 use Rattle.msr_naming.specs.Promise.{AreReady}
 use Rattle.msr_naming.specs.declared.files.DayFiles.{DayFiles}
-use Rattle.msr_belonging.specs.Belonging.{IsFoundAsAsked, told_segments}
+use Rattle.msr_folders.specs.Belonging.{IsFoundAsAsked, told_segments}
 use Rattle.msr_making.specs.Day.{CountAnswers, GotSmaller, HasAnswer, IsLarger, IsMisplaced, WasMisplaced}
 use Rattle.msr_making.specs.Looking.{IsSightAt}
 use Rattle.msr_making.specs.Parts.{ArePartsApart, IsMadeSide, part_paths}

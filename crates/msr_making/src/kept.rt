@@ -1,7 +1,7 @@
 //! What an earlier walk left of a day.
 ghost use Rattle.std.specs.Prelude.{◌≡◌, IfOk, IfSome, true};
 ghost use Rattle.msr_tree.specs.Calls.{Goes};
-ghost use Rattle.msr_stamp.specs.Stamp.{stamp_text};
+ghost use Rattle.msr_naming.specs.Stamp.{stamp_text};
 ghost use Rattle.msr_making.specs.Day.{IsKeptEither, IsReportKept, IsSame};
 ghost use Rattle.msr_making.specs.Keeping.{AsksForKept, AsksForReport, AsksForText, IsKeptBy, stamped_by};
 ghost use Rattle.msr_making.specs.Making.{LooksForSame};
@@ -12,8 +12,8 @@ use crate::hold::Hold;
 use crate::looks::{DayLook, Sight, is_shared, look_at, look_beside};
 use crate::places::Places;
 use crate::repacking::counts_kept;
+use msr_naming::{Stamp, StampOf, gives_text};
 use msr_options::DayOptions;
-use msr_stamp::{Stamp, StampOf, gives_text};
 use msr_tree::{Facts, Kind, Tree, TreeFault};
 use std::alloc::{AllocError, Global};
 

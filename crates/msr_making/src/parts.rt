@@ -3,7 +3,7 @@ ghost use Rattle.std.specs.Prelude.{◌≡◌, ◌∷◌, [], IfErr, IfOk};
 ghost use Rattle.msr_devices.specs.Device.{CanCountCall};
 ghost use Rattle.msr_tree.specs.Folders.{ActsOnFiles};
 ghost use Rattle.msr_tree.specs.Calls.{Goes};
-ghost use Rattle.msr_stamp.specs.Making.{IsBegun};
+ghost use Rattle.msr_naming.specs.Making.{IsBegun};
 ghost use Rattle.msr_making.specs.Parts.{AreBegun, AreFinished, IsUnmade, IsUnopened, called_told, part_paths};
 
 use crate::answer::{DayFault, Stop};

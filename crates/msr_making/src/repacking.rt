@@ -10,12 +10,12 @@ ghost use Rattle.msr_folders.specs.Totals.{saturated};
 ghost use Rattle.msr_making.specs.Day.{HasBytesWritten, IsReportLeft, RepacksDay, RepacksPlaced, samples_of_lines, VerifiesRepack, told_of_report, told_of};
 
 use crate::answer::{DayFault, Repacked};
-use msr_belonging::misplaced;
+use msr_base::Length;
 use msr_compare::{CompareFault, Comparison};
 use msr_devices::{DeviceFault, ReadBuffer, Sink, Source};
+use msr_folders::misplaced;
 use msr_header::{read_header, record_length};
 use msr_input::ReadFault;
-use msr_kinds::Length;
 use msr_options::{DayOptions, Options};
 use msr_report::Report;
 use msr_report_reader::{ReportFault, read_report};

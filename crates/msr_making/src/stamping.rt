@@ -6,9 +6,8 @@ ghost use Rattle.msr_making.specs.Stamping.{StampsAsked};
 
 use crate::answer::Left;
 use crate::looks::{Sight, look_at};
-use msr_naming::DayFiles;
+use msr_naming::{DayFiles, Stamp, StampOf, write_stamp};
 use msr_options::DayOptions;
-use msr_stamp::{Stamp, StampOf, write_stamp};
 use msr_tree::Tree;
 use std::alloc::Global;
 

@@ -10,9 +10,8 @@ use crate::answer::{DayFault, Stop};
 use crate::looks::{Sight, look_at};
 use crate::parts::called;
 use crate::repacking::require_verified;
-use msr_naming::DayFiles;
+use msr_naming::{DayFiles, Stamp};
 use msr_options::{DayOptions, Options, Side};
-use msr_stamp::Stamp;
 use msr_tree::Tree;
 use std::alloc::{AllocError, Global};
 

@@ -6,3 +6,5 @@ pub mod Order
 pub mod Plan
 pub mod Promises
 pub mod Stamps
+pub mod Begun
+pub mod Stamped

@@ -3,3 +3,5 @@ pub mod Following
 pub mod Files
 pub mod Naming
 pub mod Promise
+pub mod Making
+pub mod Stamp

@@ -1,9 +1,9 @@
 -- How an input is repacked.
 use Rattle.std.specs.Prelude.{ℕ, Bool}
-use Rattle.msr_kinds.specs.declared.forms.Form.{Form}
-use Rattle.msr_kinds.specs.declared.kinds.Kinds.{Kinds}
-use Rattle.msr_kinds.specs.declared.lengths.Length.{Length}
-use Rattle.msr_kinds.specs.Lengths.{bytes_of}
+use Rattle.msr_base.specs.declared.forms.Form.{Form}
+use Rattle.msr_base.specs.declared.kinds.Kinds.{Kinds}
+use Rattle.msr_base.specs.declared.lengths.Length.{Length}
+use Rattle.msr_base.specs.Lengths.{bytes_of}
 
 -- the length and the kinds of the records that are written, the tolerance in microseconds, and whether a record is
 -- refused whose reverse constant does not agree

@@ -1,5 +1,5 @@
 -- What is asked of the days of an archive.
-use Rattle.msr_kinds.specs.declared.lengths.Length.{Length}
+use Rattle.msr_base.specs.declared.lengths.Length.{Length}
 use Rattle.msr_options.specs.Choice.{Choice}
 use Rattle.msr_options.specs.declared.days.DayOptions.{DayOptions}
 use Rattle.msr_options.specs.declared.names.DayName.{DayName}

@@ -1,7 +1,7 @@
 -- What the words of a command line ask for.
 use Rattle.std.specs.Prelude.{◌≡◌, ◌≢◌, ◌⊎◌, ◌≤◌, ℕ, ⊤, Bool, true, false, List, ◌++◌, AllPairs, None, IfSome, codes}
-use Rattle.msr_kinds.specs.declared.kinds.Kinds.{Kinds}
-use Rattle.msr_kinds.specs.declared.kinds.Kinds.TheVariants.{All}
+use Rattle.msr_base.specs.declared.kinds.Kinds.{Kinds}
+use Rattle.msr_base.specs.declared.kinds.Kinds.TheVariants.{All}
 use Rattle.msr_options.specs.Choice.{Choice, record_size}
 use Rattle.msr_options.specs.declared.task.Folders.{Folders}
 use Rattle.msr_options.specs.declared.task.Replacing.{Replacing}

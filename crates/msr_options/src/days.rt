@@ -4,7 +4,7 @@ ghost use Rattle.std.specs.Prelude.{◌≡◌};
 use crate::names::{DayName, Names};
 use crate::options::Options;
 use crate::telling::Telling;
-use msr_kinds::Length;
+use msr_base::Length;
 
 /// How the days of an archive are repacked, which of them are kept, and what is told of them.
 #[derive(Clone, Copy, Debug, PartialEq, Eq)]

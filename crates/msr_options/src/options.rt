@@ -2,7 +2,7 @@
 //! whether reading is strict.
 ghost use Rattle.std.specs.Prelude.{◌≡◌, ◌↔◌, ◌≤◌, false, IsSome, IfSome};
 
-use msr_kinds::{Form, Kinds, Length};
+use msr_base::{Form, Kinds, Length};
 use std::marker::Model;
 
 const LEAST_TOLERANCE: u32 = 1;

@@ -5,7 +5,7 @@ use Rattle.std.specs.Option.{option_or}
 use Rattle.msr_sds.specs.SdsPath.{SdsPath, ReadsAsDay}
 use Rattle.msr_folders.specs.Totals.{Add, saturated, totals_of}
 use Rattle.msr_folders.specs.declared.totals.Total.{Total}
-use Rattle.msr_belonging.specs.Names.{day_name}
+use Rattle.msr_folders.specs.Names.{day_name}
 use Rattle.msr_options.specs.Days.{with_name}
 use Rattle.msr_options.specs.declared.days.DayOptions.{DayOptions}
 use Rattle.msr_options.specs.declared.hint.Unopened.{Unopened}

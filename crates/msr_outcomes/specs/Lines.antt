@@ -8,7 +8,7 @@ use Rattle.msr_input.specs.declared.fault.ReadFault.TheVariants as stop
 use Rattle.msr_making.specs.declared.answer.DayFault.{DayFault}
 use Rattle.msr_making.specs.declared.answer.DayFault.TheVariants.{CannotOpen, Changed, ClaimedByAnother, Differs, Gone, Larger, Listing, Misplaced, NotShown, Shrunk, Tool}
 use Rattle.msr_making.specs.declared.answer.Repacked.{Repacked}
-use Rattle.msr_belonging.specs.Names.{found_json, found_words}
+use Rattle.msr_folders.specs.Names.{found_json, found_words}
 use Rattle.msr_options.specs.declared.days.DayOptions.{DayOptions}
 use Rattle.msr_options.specs.declared.task.Archiving.{Archiving}
 use Rattle.msr_options.specs.declared.hint.Side.{Side}

@@ -2,7 +2,7 @@
 use Rattle.std.specs.Prelude.{◌≡◌, false}
 use Rattle.msr_options.specs.Days.{in_length}
 use Rattle.msr_options.specs.declared.days.DayOptions.{DayOptions}
-use Rattle.msr_kinds.specs.declared.lengths.Length.{Length}
+use Rattle.msr_base.specs.declared.lengths.Length.{Length}
 use Rattle.msr_making.specs.Day.{IsDayOutcome}
 use Rattle.msr_making.specs.declared.answer.DayOutcome.{DayOutcome}
 use Rattle.msr_making.specs.declared.answer.DayOutcome.TheVariants as outcomes

@@ -5,8 +5,9 @@ ghost use Rattle.msr_outcomes.specs.Lines.{IsOutcomeJson, IsOutcomeLine, IsLineB
 ghost use Rattle.msr_outcomes.specs.Known.{is_plain, known_as, refusal_line};
 ghost use Rattle.msr_outcomes.specs.Outcomes.{of_day};
 
-use msr_belonging::{found_json, found_words};
-use msr_folders::{JsonText, Shown, ToldFault, fault_json, reason_json, skip_text};
+use msr_folders::{
+    JsonText, Shown, ToldFault, fault_json, found_json, found_words, reason_json, skip_text,
+};
 use msr_input::ReadFault;
 use msr_making::{DayFault, DayOutcome, Repacked, Shrinkage};
 use msr_options::{DayOptions, Known, ListForm, Side};

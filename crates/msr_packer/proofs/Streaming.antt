@@ -2,7 +2,7 @@
 use Rattle.std.proofs.Common.{◌≡◌, ℕ, ◌+◌, ◌-◌, ◌<◌, ◌≤◌, ◌⊎◌, ℤ, List, [], ◌++◌, length, drop, Option, Some, None, ap, ◌∙◌, arith, inl, inr, length-drop}
 use Rattle.std.proofs.lemmas.Bool.{cases_lt}
 use Rattle.msr_words.specs.Fit.{Records, FitsAny, IsRun}
-use Rattle.msr_kinds.specs.Kinds.{IsChosen}
+use Rattle.msr_base.specs.Kinds.{IsChosen}
 use Rattle.msr_words.specs.Segment.{run_points}
 use Rattle.msr_words.specs.Laws.{most_any}
 use Rattle.msr_words.specs.Lemmas.KindLaws.{empty_kind}

@@ -1,7 +1,7 @@
 -- Steps of samples that more follow, and of the last samples of a segment.
 use Rattle.std.proofs.Common.{◌≡◌, ℕ, suc, ◌+◌, ◌-◌, ◌<◌, ◌≤◌, ◌⊎◌, ℤ, List, [], ◌∷◌, ◌++◌, length, drop, sym, subst, arith, inl, inr, length-append, length-drop}
 use Rattle.std.proofs.lemmas.Bool.{cases_lt}
-use Rattle.msr_kinds.specs.declared.kinds.Kind.{Kind}
+use Rattle.msr_base.specs.declared.kinds.Kind.{Kind}
 use Rattle.msr_words.specs.declared.kinds.Run.{Run}
 use Rattle.msr_words.specs.Fit.{Records, FitsIn, FitsAny, IsFirstKind}
 use Rattle.msr_words.specs.Laws.{PrefixLaw, BackStepLaw}

@@ -1,9 +1,9 @@
 -- What is known of a step that is not decided yet.
 use Rattle.std.specs.Prelude.{ℕ, ◌+◌, ◌<◌, ◌≤◌, ℤ, List, length, map}
 use Rattle.msr_words.specs.Fit.{Records, FitsIn}
-use Rattle.msr_kinds.specs.declared.kinds.Kind.{Kind}
-use Rattle.msr_kinds.specs.declared.kinds.Kind.TheVariants as kinds
-use Rattle.msr_kinds.specs.RecordLength.{words_of}
+use Rattle.msr_base.specs.declared.kinds.Kind.{Kind}
+use Rattle.msr_base.specs.declared.kinds.Kind.TheVariants as kinds
+use Rattle.msr_base.specs.RecordLength.{words_of}
 use Rattle.msr_words.specs.Segment.{run_points}
 use Rattle.msr_words.specs.Trackers.{FollowsIntegers, FollowsSteim1, FollowsSteim2}
 use Rattle.msr_packer.specs.Steps.{IsFound}

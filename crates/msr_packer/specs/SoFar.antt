@@ -1,7 +1,7 @@
 -- The first runs of a packing, with the step after them.
 use Rattle.std.specs.Prelude.{ℕ, ◌<◌, ℤ, List, length}
 use Rattle.msr_words.specs.Fit.{Records, FitsAny, FitsIn, IsRun}
-use Rattle.msr_kinds.specs.declared.kinds.Kind.{Kind}
+use Rattle.msr_base.specs.declared.kinds.Kind.{Kind}
 use Rattle.msr_words.specs.declared.kinds.Run.{Run}
 use Rattle.msr_words.specs.Packing.{CanonicalTo, IsStep, Joins}
 

@@ -10,7 +10,7 @@ ghost use Rattle.msr_filling.specs.GroupWords.{AreGroupWords};
 ghost use Rattle.msr_packer.specs.Blocks.{BlocksBeginAll, BlocksEnd, BlocksLeaveFew, GivesNext, HoldsFew, LastBlocksBegin, Packs, PacksLast, pushed, steps_left};
 
 use crate::held::{HeldSamples, Piece};
-use msr_kinds::Form;
+use msr_base::Form;
 use msr_words::longest_run;
 use std::alloc::{AllocError, Global};
 use std::marker::Model;

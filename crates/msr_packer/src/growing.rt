@@ -2,13 +2,13 @@
 //! is not decided, and need not be looked for.
 
 ghost use Rattle.std.specs.Prelude.{◌≡◌, ℕ, ◌+◌, ◌≤◌, [], length, IfSome, IsNone, MatchOption};
-ghost use Rattle.msr_kinds.specs.Lengths.{bytes_of};
+ghost use Rattle.msr_base.specs.Lengths.{bytes_of};
 ghost use Rattle.msr_words.specs.Fit.{Fits, FitsIn, IsRun, Records, records_of};
 ghost use Rattle.msr_words.specs.Segment.{run_points};
 ghost use Rattle.msr_packer.specs.Growing.{FollowsRun, IsDecided, IsGrowing, IsTracked, kind_of_tracker};
 
 use crate::step::{StepWithEnds, next_step, tried_first};
-use msr_kinds::{Form, Kind, Length};
+use msr_base::{Form, Kind, Length};
 use msr_words::{Codec, Int16, Int24, Int32, Steim1, Steim2, difference};
 
 /// A tracker of one of the kinds.

@@ -11,7 +11,7 @@ ghost use Rattle.msr_packer.specs.Steps.{HaveSizes, IsFound};
 use crate::kind_of;
 use crate::sizes::StepSizes;
 use crate::step::{StepWithEnds, next_step};
-use msr_kinds::{Form, Kind};
+use msr_base::{Form, Kind};
 use msr_words::Run;
 use std::alloc::{AllocError, Global};
 

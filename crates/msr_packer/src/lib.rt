@@ -9,8 +9,8 @@ mod step;
 mod stream;
 
 ghost use Rattle.std.specs.Prelude.{◌≡◌, ◌↔◌, IsTrue, ℕ, ◌+◌, ◌≤◌, length, ◌++◌, IfOk, List, OnOk, ℤ};
-ghost use Rattle.msr_kinds.specs.Forms.{all_kinds};
-ghost use Rattle.msr_kinds.specs.Kinds.{IsChosen};
+ghost use Rattle.msr_base.specs.Forms.{all_kinds};
+ghost use Rattle.msr_base.specs.Kinds.{IsChosen};
 ghost use Rattle.msr_words.specs.declared.kinds.Run.{Run};
 ghost use Rattle.msr_words.specs.Segment.{run_points};
 ghost use Rattle.msr_words.specs.Fit.{FitsIn, IsRun, IsFirstKind, Records, records_of};
@@ -22,7 +22,7 @@ ghost use Rattle.msr_words.specs.Packing.{IsPacking, IsSeparating, IsLeast, IsCa
 pub use blocks::{BlockPacker, blocks_begin_all, blocks_end, blocks_leave_few, last_blocks_begin};
 pub use held::Piece;
 use held::{RunToCut, frontier_of, piece_of};
-use msr_kinds::{Form, Kind, Length};
+use msr_base::{Form, Kind, Length};
 pub use msr_words::Run;
 use msr_words::first_kind;
 use std::alloc::{AllocError, Global};

@@ -1,16 +1,16 @@
 //! One record more: how far a record reaches that starts at or before a frontier.
 
 ghost use Rattle.std.specs.Prelude.{◌≡◌, ℕ, ◌+◌, ◌<◌, ◌≤◌, ◌⊎◌, ◌∷◌, [], length, IsTrue, IsFalse, IfSome};
-ghost use Rattle.msr_kinds.specs.declared.kinds.Kind.TheVariants.{Int32 as Integers32, Steim1 as FirstSteim, Steim2 as SecondSteim};
+ghost use Rattle.msr_base.specs.declared.kinds.Kind.TheVariants.{Int32 as Integers32, Steim1 as FirstSteim, Steim2 as SecondSteim};
 ghost use Rattle.msr_words.specs.Bounds.{AreIntegers, AreNarrowThrough, IsEnd};
-ghost use Rattle.msr_kinds.specs.Kinds.{IsChosen};
-ghost use Rattle.msr_kinds.specs.Lengths.{bytes_of};
+ghost use Rattle.msr_base.specs.Kinds.{IsChosen};
+ghost use Rattle.msr_base.specs.Lengths.{bytes_of};
 ghost use Rattle.msr_words.specs.Fit.{Fits, FitsIn, IsRun, records_of};
 ghost use Rattle.msr_words.specs.Laws.{look_back_of};
 ghost use Rattle.msr_packer.specs.Steps.{AreEndsAmong, HaveSizes, IsBetter, IsEndIn, IsFound, IsSteim1Step, IsStepAmong, NonePast, NotLess, longer_kinds};
 
+use msr_base::{Form, Kind, Length};
 use msr_filling::steim2_words;
-use msr_kinds::{Form, Kind, Length};
 use msr_words::{
     Fitting, Steim2Reach, begins_with_four, count_halves, count_wide, leading_of_bits, steim1_reach,
 };

@@ -2,7 +2,7 @@
 
 ghost use Rattle.std.specs.Prelude.{◌≡◌, ℕ, ℤ, List, [], ◌∷◌, ◌++◌, ◌+◌, ◌<◌, ◌≤◌, ◌^◌, length, MatchResult};
 ghost use Rattle.msr_words.specs.Fit.{Records, records_of};
-ghost use Rattle.msr_kinds.specs.Forms.{all_kinds};
+ghost use Rattle.msr_base.specs.Forms.{all_kinds};
 ghost use Rattle.msr_words.specs.declared.kinds.Run.{Run};
 ghost use Rattle.msr_words.specs.Laws.{most_any};
 ghost use Rattle.msr_packer.specs.Blocks.{pushed};
@@ -12,7 +12,7 @@ ghost use Rattle.msr_packer.specs.Stream.{AreLastPieces, IsStreaming, PiecesBegi
 use crate::growing::GrowingRun;
 use crate::held::{HeldSamples, Piece, RunToCut, frontier_of, likely_of, remove_front, start_of};
 use arrayvec::ArrayVec;
-use msr_kinds::{Form, Length};
+use msr_base::{Form, Length};
 use std::alloc::{AllocError, Global};
 use std::marker::Model;
 

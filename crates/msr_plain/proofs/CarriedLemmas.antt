@@ -13,10 +13,10 @@ use Rattle.byteorder.specs.Endian.{low_bytes, twos_complement}
 use Rattle.byteorder.specs.Numbers.{big_number-reads_back, length-bytes_high_first}
 use Rattle.msr_base.specs.declared.order.Order.{Order}
 use Rattle.msr_base.specs.declared.order.Order.TheVariants.{Big}
-use Rattle.msr_kinds.specs.Storage.{size_of}
+use Rattle.msr_base.specs.Storage.{size_of}
 use Rattle.msr_plain.specs.Plain.{CarriesPlain, FitsThreeBytes, FitsWidth, bytes_of_all, number_in, sample_bytes}
-use Rattle.msr_kinds.specs.declared.storage.Width.{Width}
-use Rattle.msr_kinds.specs.declared.storage.Width.TheVariants.{Two, Three, Four}
+use Rattle.msr_base.specs.declared.storage.Width.{Width}
+use Rattle.msr_base.specs.declared.storage.Width.TheVariants.{Two, Three, Four}
 
 below_16 : (x : ℤ) → FitsSigned w16 x → cast_unsigned w16 x < 256 ^ 2
 below_16 x f = omega (arith, ints, f)

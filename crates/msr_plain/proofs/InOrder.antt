@@ -2,9 +2,9 @@
 use Rattle.std.proofs.Common.{◌≡◌, ℕ, zero, suc, ◌+◌, ◌-◌, ◌*◌, ◌<◌, ◌≤◌, pos, List, ◌∷◌, length, take, drop, get_or, refl, sym, ap, ◌∙◌, subst, arith}
 use Rattle.std.proofs.lemmas.List.{length-drop, take_all, drop-drop}
 use Rattle.msr_base.specs.declared.order.Order.{Order}
-use Rattle.msr_kinds.specs.Storage.{size_of}
+use Rattle.msr_base.specs.Storage.{size_of}
 use Rattle.msr_plain.specs.Plain.{CarriesPlain, number_in, numbers_in_area}
-use Rattle.msr_kinds.specs.declared.storage.Width.{Width}
+use Rattle.msr_base.specs.declared.storage.Width.{Width}
 
 pub length-numbers_in : (width : Width) (order : Order) (area : List ℕ) (count : ℕ)
     → length (numbers_in_area width order area count) ≡ count

@@ -2,7 +2,7 @@
 
 ghost use Rattle.std.specs.Prelude.{◌≡◌, ◌<◌, ◌*◌, ◌↔◌, ℤ, List, IfSome, IsNone, length};
 ghost use Rattle.std.specs.Iterator.{YieldsFirst, item_count};
-ghost use Rattle.msr_kinds.specs.Storage.{size_of};
+ghost use Rattle.msr_base.specs.Storage.{size_of};
 ghost use Rattle.msr_plain.specs.Plain.{CarriesPlain};
 
 use crate::{Width, read_number};
@@ -22,7 +22,7 @@ pub struct PlainSamples<'a> {
 
 impl<'a> Model for PlainSamples<'a> {
     ghost use Rattle.std.specs.Prelude.{◌≤◌, ◌*◌, List, ℤ, length};
-    ghost use Rattle.msr_kinds.specs.Storage.{size_of};
+    ghost use Rattle.msr_base.specs.Storage.{size_of};
     ghost use Rattle.msr_plain.specs.Plain.{numbers_in_area};
 
     ghost Value = { List ℤ };

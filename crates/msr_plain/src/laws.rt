@@ -2,8 +2,8 @@
 
 ghost use Rattle.std.specs.Prelude.{◌≡◌, ◌<◌, ◌*◌, ◌++◌, ℕ, ℤ, All, List, length};
 ghost use Rattle.msr_base.specs.declared.order.Order.{Order};
-ghost use Rattle.msr_kinds.specs.declared.storage.Width.{Width};
-ghost use Rattle.msr_kinds.specs.Storage.{size_of};
+ghost use Rattle.msr_base.specs.declared.storage.Width.{Width};
+ghost use Rattle.msr_base.specs.Storage.{size_of};
 ghost use Rattle.msr_plain.specs.Plain.{CarriesPlain, FitsWidth, bytes_of_all};
 
 use msr_base::Order;

@@ -2,7 +2,7 @@
 #![tactic(auto)]
 
 ghost use Rattle.std.specs.Prelude.{◌≡◌, ◌<◌, ◌≤◌, ◌↔◌, ◌++◌, ◌-◌, ◌*◌, All, replicate, IfOk, IsErrOf, OnErr, OnOk, drop, length};
-ghost use Rattle.msr_kinds.specs.Storage.{size_of};
+ghost use Rattle.msr_base.specs.Storage.{size_of};
 ghost use Rattle.msr_plain.specs.Plain.{CarriesPlain, FitsWidth, bytes_of_all, number_in, sample_bytes};
 
 mod borrowed;
@@ -12,8 +12,7 @@ pub use borrowed::{PlainSamples, plain_samples};
 use byteorder::{BigEndian, ByteOrder, LittleEndian};
 pub use laws::{filled_area_carries, one_outcome};
 use msr_base::Order;
-pub use msr_base::SampleVec;
-pub use msr_kinds::Width;
+pub use msr_base::{SampleVec, Width};
 use std::alloc::{AllocError, Global};
 use thiserror::Error;
 

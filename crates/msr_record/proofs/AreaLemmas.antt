@@ -12,14 +12,14 @@ use Rattle.msr_steim.specs.Frames.{differences_after, frame_bytes}
 use Rattle.msr_steim.proofs.Filled.{filled_carries, filled_reverse}
 use Rattle.msr_plain.specs.Plain.{FitsWidth}
 use Rattle.msr_steim.specs.Word.{AreGroups}
-use Rattle.msr_kinds.specs.Storage.{size_of}
-use Rattle.msr_kinds.specs.declared.storage.Width.{Width}
-use Rattle.msr_kinds.specs.declared.storage.Width.TheVariants.{Two as TwoBytes, Three as ThreeBytes, Four as FourBytes}
-use Rattle.msr_kinds.specs.declared.storage.Version.{Version}
+use Rattle.msr_base.specs.Storage.{size_of}
+use Rattle.msr_base.specs.declared.storage.Width.{Width}
+use Rattle.msr_base.specs.declared.storage.Width.TheVariants.{Two as TwoBytes, Three as ThreeBytes, Four as FourBytes}
+use Rattle.msr_base.specs.declared.storage.Version.{Version}
 use Rattle.msr_words.specs.Fit.{Fits, IsInteger}
-use Rattle.msr_kinds.specs.RecordLength.{least_exponent, most_exponent, words_of}
+use Rattle.msr_base.specs.RecordLength.{least_exponent, most_exponent, words_of}
 use Rattle.msr_words.specs.Segment.{differences, points, points_after}
-use Rattle.msr_kinds.specs.declared.kinds.Kind.{Kind}
+use Rattle.msr_base.specs.declared.kinds.Kind.{Kind}
 use Rattle.msr_words.proofs.Runs.{integers_points, length-points_before}
 
 fits_width : (width : Width) (z : ℤ) → FitsSigned w32 z → IsInteger width z → FitsWidth width z

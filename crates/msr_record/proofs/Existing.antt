@@ -1,178 +1,305 @@
--- Each run that fits has a written record.
-use Rattle.std.proofs.Common.{◌≡◌, ℕ, ◌-◌, ◌*◌, ◌/◌, ◌%◌, ◌^◌, ◌<◌, ◌≤◌, false, ℤ, pos, List, ◌++◌, length, refl, arith, Option, IsTrue, length-append, FitsSigned}
-use Rattle.std.specs.Prelude.{All, replicate, slice_index_or}
+-- Segments have an output, and the records of some first runs are a prefix of one.
+use Rattle.std.proofs.Common.{◌≡◌, ℕ, zero, suc, ◌+◌, ◌-◌, ◌*◌, ◌/◌, ◌<◌, ◌≤◌, List, [], ◌∷◌, ◌++◌, ◌∙◌, length, map, take, drop, arith, refl, sym, ap, subst, append_assoc, length-take, length-drop, ℤ, pos, ◌+ℤ◌, FitsSigned}
+use Rattle.std.specs.Prelude.{All, slice_range, slice_get}
 use Rattle.std.specs.Int.{w32}
-use Rattle.std.proofs.lemmas.Int.{ints}
-use Rattle.std.proofs.lemmas.List.{length-replicate}
-use Rattle.std.proofs.lemmas.List.Elements.{All-get_or}
-use Rattle.msr_time.specs.declared.btime.BTime.{BTime}
-use Rattle.msr_time.specs.Instant.{IsInstant}
-use Rattle.msr_time.proofs.Existing.{has_split}
-use Rattle.msr_header.specs.Reading.{is_quality}
-use Rattle.msr_header.specs.Writing.{header_bytes}
-use Rattle.msr_header.specs.declared.header.Header.{Header}
-use Rattle.msr_base.specs.declared.order.Order.TheVariants.{Big}
-use Rattle.msr_header.proofs.WrittenLemmas.{HasLengths, HasRanges, header_length, reads_back}
-use Rattle.msr_kinds.specs.declared.storage.Width.{Width}
-use Rattle.msr_kinds.specs.Storage.{size_of, storage_of}
-use Rattle.msr_plain.specs.Plain.{CarriesPlain, FitsWidth, bytes_of_all}
-use Rattle.msr_plain.proofs.CarriedLemmas.{carried, length-bytes_of_all}
-use Rattle.msr_kinds.specs.declared.storage.Version.{Version}
-use Rattle.msr_steim.specs.Area.{CarriesSteim, ReverseAgrees as FramesAgree}
-use Rattle.msr_steim.specs.Frames.{frame_bytes}
-use Rattle.msr_steim.proofs.Filled.{length-frame_bytes}
-use Rattle.msr_words.specs.Canonical.{IsCanonicalDivision}
-use Rattle.msr_words.specs.Division.{CanDivide}
-use Rattle.msr_words.specs.Fit.{Fits, HasRoom}
-use Rattle.msr_kinds.specs.RecordLength.{IsRecordLength, words_of}
-use Rattle.msr_words.specs.Segment.{differences, points}
-use Rattle.msr_kinds.specs.declared.kinds.Kind.{Kind}
-use Rattle.msr_kinds.specs.declared.storage.Storage.{Storage}
-use Rattle.msr_kinds.specs.declared.storage.Storage.TheVariants.{Integers, Frames}
-use Rattle.msr_words.proofs.DivisionsExist.{has_division}
-use Rattle.msr_rows.specs.Area.{Carries, ReverseAgreesIfAny}
-use Rattle.msr_rows.specs.Correction.{is_pending}
-use Rattle.msr_record.specs.Written.{AppendsRecord, AreFrames, AreNumbers, IsKey, IsWrittenArea, frame_count, header_for}
-use Rattle.msr_rows.specs.declared.row.Key.{Key}
-use Rattle.msr_record.proofs.AreaLemmas.{few_samples, frames_carry, frames_end, room_for, room_left, samples_fit, whole_frames}
-use Rattle.msr_record.proofs.WritingLemmas.{appends_record}
+use Rattle.std.specs.List.{flat_map}
+use Rattle.std.proofs.lemmas.List.{map-append, take-append-le, drop-append-le}
+use Rattle.std.proofs.lemmas.List.Elements.{All-nil, All-cons, All-head, All-tail, All-push, All-take, All-drop}
+use Rattle.msr_time.specs.SampleRate.{SampleRate, period_of, IsRoundedNominal}
+use Rattle.msr_time.proofs.RateLemmas.{nominal_is, quotient_bounds}
+use Rattle.msr_words.specs.declared.kinds.Run.{Run}
+use Rattle.msr_words.specs.Fit.{Fits, records_of}
+use Rattle.msr_words.specs.Packing.{IsCanonical}
+use Rattle.msr_base.specs.declared.forms.Form.{Form}
+use Rattle.msr_base.specs.Lengths.{bytes_of}
+use Rattle.msr_base.specs.RecordLength.{IsRecordLength}
+use Rattle.msr_words.specs.Segment.{points}
+use Rattle.msr_packer.proofs.PackingsExist.{has_packing}
+use Rattle.msr_packer.proofs.Least.{found}
+use Rattle.msr_rows.specs.declared.row.Row.{Row}
+use Rattle.msr_record.proofs.ExistingRecord.{has_record}
+use Rattle.msr_segments.specs.declared.joiner.Segment.{Segment}
+use Rattle.msr_record.specs.Output.{Packed, IsPacked, Cut, IsRecordOfRun, IsWritableSegment, AreWritten, IsOutput, IsPrefixOfOutput, next_number, number_after, cuts_at, cuts_of, segment_of_packed}
+use Rattle.msr_record.proofs.Appending.{written_append, cuts_further}
+use Rattle.msr_record.proofs.CutRows.{IsFitting}
+use Rattle.msr_record.proofs.Runs.{points_of_run, record_of_run}
+use Rattle.msr_record.proofs.Times.{nominal_between}
+use Rattle.msr_time.proofs.NominalLemmas.{rounded_parts}
+use Rattle.msr_packer.specs.HeldSamples.{before_place}
 
--- ---- the data area
+-- if one sample has a rounded instant, each has
+nominal_exists : (rate : SampleRate) (t0 last : ℤ) (n m : ℕ) → IsRoundedNominal rate t0 m last
+    → (q : ℤ) × IsRoundedNominal rate t0 n q
+nominal_exists rate t0 last n m h =
+    let num = (period_of rate).0 in
+    let den = (period_of rate).1 in
+    let a = rounded_parts rate t0 m last h in
+    let some : 0 < den = omega arith in
+    let twice : 0 < 2 * den = omega arith in
+    let q = (2 * (n * num) + den) / (2 * den) in
+    let bounds = quotient_bounds (2 * (n * num) + den) (2 * den) twice in
+    (t0 +ℤ pos q, nominal_is rate t0 n q bounds.0 bounds.1)
 
-record HasNumbers (width : Width) (samples : List ℤ) (size : ℕ) : Type 0 where
-  area : List ℕ
-  are : AreNumbers width samples size 0 area
-  long : length area ≡ size
-  carries : CarriesPlain width Big area samples
+-- the length of a form is one that records have
+form_length : (form : Form) → IsRecordLength (bytes_of form.length)
+form_length form =
+    let own = form.length in
+    record { exponent = own.exponent; least = own.from; most = own.to; power = own.power }
 
-numbers_of : (width : Width) (samples : List ℤ) (size : ℕ) → All (FitsWidth width) samples
-    → size_of width * length samples ≤ size → HasNumbers width samples size
-numbers_of width samples size fit room =
-    let rest = replicate (size - size_of width * length samples) 0 in
+-- ---- the records of runs
+
+record HasRecords (size n : ℕ) (cuts : List Cut) : Type 0 where
+  rows : List Row
+  bytes : List ℕ
+  written : AreWritten size n cuts rows bytes
+
+no_records : (size n : ℕ) → HasRecords size n []
+no_records size n = record { rows = []; bytes = []; written = (refl, refl) }
+
+more_records : (size n : ℕ) (xs ys : List Cut) → HasRecords size n xs → HasRecords size (number_after n xs) ys
+    → HasRecords size n (xs ++ ys)
+more_records size n xs ys first second = record {
+  rows = first.rows ++ second.rows;
+  bytes = first.bytes ++ second.bytes;
+  written = written_append size n xs ys first.rows second.rows first.bytes second.bytes first.written second.written;
+}
+
+abbrev IsSome : Run → Type 0
+IsSome run = run.start < run.end
+
+record HasOne (size n : ℕ) (segment : Segment) (run : Run) : Type 0 where
+  row : Row
+  bytes : List ℕ
+  is_record : IsRecordOfRun size n segment run row bytes
+
+one_record : (form : Form) (n : ℕ) (segment : Segment) (run : Run) → IsWritableSegment segment
+    → IsSome run → IsFitting form segment.samples run → HasOne (bytes_of form.length) n segment run
+one_record form n segment run writable some fits =
+    let size = bytes_of form.length in
+    let in_time = writable.in_time in
+    let rate = segment.key.rate in
+    let count = length segment.samples in
+    let nominal = nominal_exists rate segment.start in_time.last run.start (count - 1) in_time.nominal in
+    let within : run.end ≤ count = fits.1 in
+    let earlier : run.start ≤ count - 1 = omega arith in
+    let instant = nominal_between rate segment.start nominal.0 in_time.last run.start
+    (count - 1) earlier nominal.1 in_time.nominal in_time.first_in in_time.last_in in
+    let samples = slice_range segment.samples run.start run.end in
+    let before = before_place segment.samples run.start in
+    let left : length (drop run.start segment.samples) ≡ count - run.start = length-drop run.start segment.samples in
+    let long : 1 ≤ length samples = omega (arith, length-take (run.end - run.start) (drop run.start segment.samples)) in
+    let fit : All (FitsSigned w32) samples = All-take (FitsSigned w32) (run.end - run.start)
+    (drop run.start segment.samples) (All-drop (FitsSigned w32) run.start segment.samples writable.samples) in
+    let fits_points : Fits run.kind size (points before samples) =
+    subst (Fits run.kind size) (sym (points_of_run segment.samples run.start run.end (omega arith))) fits.2.1 in
+    let r = has_record [] segment.key nominal.0 n before samples run.kind size (form_length form) writable.key.is_key
+    writable.key.quality writable.key.normal instant long fit fits_points in
+    let a = record_of_run size n segment run nominal.0 [] ([] ++ r.bytes) nominal.1 r.appended in
+    record { row = a.row; bytes = a.bytes; is_record = a.is_record }
+
+run_records : (form : Form) (n : ℕ) (segment : Segment) (runs : List Run) → IsWritableSegment segment
+    → All IsSome runs → All (IsFitting form segment.samples) runs
+    → HasRecords (bytes_of form.length) n (cuts_at segment runs)
+run_records form n segment [] writable some fits = no_records (bytes_of form.length) n
+run_records form n segment (run ∷ runs) writable some fits =
+    let one = one_record form n segment run writable (All-head IsSome run runs some)
+    (All-head (IsFitting form segment.samples) run runs fits) in
+    let rest = run_records form (next_number n) segment runs writable (All-tail IsSome run runs some)
+    (All-tail (IsFitting form segment.samples) run runs fits) in
     record {
-      area = bytes_of_all width samples ++ rest;
-      are = record { bytes_are = refl; frames_are = refl };
-      long = omega (
-        arith,
-        length-append
-            (bytes_of_all width samples) rest,
-        length-bytes_of_all width samples,
-        length-replicate {A = ℕ}
-            (size - size_of width * length samples) 0,
+      rows = one.row ∷ rest.rows;
+      bytes = one.bytes ++ rest.bytes;
+      written = (
+        rest.rows,
+        rest.bytes,
+        record {
+          row = one.row;
+          first = one.bytes;
+          is_record = one.is_record;
+          all_rows = refl;
+          all_bytes = refl;
+        },
+        rest.written,
       );
-      carries = carried width (bytes_of_all width samples ++ rest) samples rest fit refl;
     }
 
--- the groups of the canonical division are no more than the words that can hold the differences
-chosen_few : (version : Version) (words : ℕ) (ds : List ℤ) (groups : List (List ℤ))
-    → IsCanonicalDivision version groups ds → CanDivide version words ds → length groups ≤ words
-chosen_few version words ds groups chosen can = omega (arith, chosen.fewest can.groups can.are_groups can.join, can.few)
+-- ---- the output of segments
 
-record HasFrames (version : Version) (before : Option ℤ) (samples : List ℤ) (size : ℕ) : Type 0 where
-  frames : ℕ
-  area : List ℕ
-  are : AreFrames version before samples size frames area
-  long : length area ≡ size
-  carries : CarriesSteim version Big area samples
-  agrees : FramesAgree Big area samples
+record HasPacked (form : Form) (segment : Segment) : Type 0 where
+  packed : Packed
+  same : packed.segment ≡ segment
+  is_packed : IsPacked form packed
 
-frames_of : (version : Version) (before : Option ℤ) (samples : List ℤ) (size : ℕ) → IsRecordLength size
-    → 1 ≤ length samples → All (FitsSigned w32) samples
-    → CanDivide version (words_of size) (differences before samples) → HasFrames version before samples (size - 64)
-frames_of version before samples size power some fit can =
-    let ds = differences before samples in
-    let d = has_division version (words_of size) ds can in
-    let whole = whole_frames power.exponent power.least power.most in
-    let few = chosen_few version (words_of size) ds d.groups d.canonical can in
-    let room = room_for size power.exponent size (length d.groups) power.power refl power.least power.most few in
-    let count = (size - 64) / 64 in
-    let first_fits : FitsSigned w32 (slice_index_or samples 0 (pos 0)) =
-    All-get_or (FitsSigned w32) samples 0 (pos 0) (omega arith) fit in
-    let last_fits : FitsSigned w32 (slice_index_or samples (length samples - 1) (pos 0)) =
-    All-get_or (FitsSigned w32) samples (length samples - 1) (pos 0) (omega arith) fit in
-    let area = frame_bytes version (slice_index_or samples 0 (pos 0))
-    (slice_index_or samples (length samples - 1) (pos 0)) d.groups count in
-    let long : length area ≡ 64 * count = length-frame_bytes version (slice_index_or samples 0 (pos 0))
-    (slice_index_or samples (length samples - 1) (pos 0)) d.groups count in
-    let even : (size - 64) % 64 ≡ 0 = rw power.power whole.0 in
+pub is_packed_by : (form : Form) (segment : Segment) (runs : List Run) (separators : List ℕ)
+    → IsCanonical (records_of form) segment.samples runs separators
+    → IsPacked form (record { segment = segment; runs = runs; separators = separators })
+is_packed_by form segment runs separators canonical =
+    let f = found (records_of form) segment.samples form.length.least runs separators canonical in
     record {
-      frames = frame_count (length d.groups);
-      area = area;
-      are = record { groups = d.groups; canonical = d.canonical; bytes_are = refl; frames_are = refl };
-      long = omega (arith, long, even);
-      carries = frames_carry version before samples d.groups count area d.canonical.are_groups d.canonical.join
-          room fit last_fits refl;
-      agrees = frames_end version samples d.groups count area some d.canonical.are_groups
-          (omega (arith, room)) first_fits last_fits refl;
+      packing = f.packing;
+      least = f.least;
+      separating = f.separating;
+      as_many = f.as_many;
+      canonical = f.canonical;
     }
 
-record HasArea (storage : Storage) (before : Option ℤ) (samples : List ℤ) (size : ℕ) : Type 0 where
-  frames : ℕ
-  area : List ℕ
-  is_area : IsWrittenArea storage before samples size frames area
-  long : length area ≡ size
-  carries : Carries storage Big area samples
-  agrees : ReverseAgreesIfAny storage Big area samples
+packed_of : (form : Form) (segment : Segment) → HasPacked form segment
+packed_of form segment =
+    let p = has_packing (records_of form) segment.samples form.length.least in
+    record {
+      packed = record { segment = segment; runs = p.others; separators = p.places };
+      same = refl;
+      is_packed = is_packed_by form segment p.others p.places p.canonical;
+    }
 
-area_of : (storage : Storage) (before : Option ℤ) (samples : List ℤ) (size : ℕ) → IsRecordLength size
-    → 1 ≤ length samples → All (FitsSigned w32) samples → HasRoom storage size (points before samples)
-    → HasArea storage before samples (size - 64)
-area_of (Integers width) before samples size power some fit room =
-    let n = numbers_of width samples (size - 64) (samples_fit width before samples fit room.0)
-    (room_left width size before samples room.1) in
-    record { frames = 0; area = n.area; is_area = n.are; long = n.long; carries = n.carries; agrees = tt }
-area_of (Frames version) before samples size power some fit room =
-    let f = frames_of version before samples size power some fit room in
-    record { frames = f.frames; area = f.area; is_area = f.are; long = f.long; carries = f.carries; agrees = f.agrees }
+record HasOutputFrom (form : Form) (n : ℕ) (segments : List Segment) : Type 0 where
+  packed : List Packed
+  same : map segment_of_packed packed ≡ segments
+  packings : All (IsPacked form) packed
+  records : HasRecords (bytes_of form.length) n (flat_map cuts_of packed)
 
--- ---- the header
+output_from : (form : Form) (n : ℕ) (segments : List Segment) → All IsWritableSegment segments
+    → HasOutputFrom form n segments
+output_from form n [] writable = record {
+  packed = [];
+  same = refl;
+  packings = All-nil (IsPacked form);
+  records = no_records (bytes_of form.length) n;
+}
+output_from form n (segment ∷ segments) writable =
+    let p = packed_of form segment in
+    let is = p.is_packed in
+    let packing = is.packing in
+    let here : IsWritableSegment p.packed.segment =
+    subst IsWritableSegment (sym p.same) (All-head IsWritableSegment segment segments writable) in
+    let rest = output_from form (number_after n (cuts_of p.packed)) segments
+    (All-tail IsWritableSegment segment segments writable) in
+    record {
+      packed = p.packed ∷ rest.packed;
+      same = ap (λ (s : Segment). s ∷ map segment_of_packed rest.packed) p.same
+          ∙ ap (λ (l : List Segment). segment ∷ l) rest.same;
+      packings = All-cons (IsPacked form) p.packed rest.packed is rest.packings;
+      records = more_records (bytes_of form.length) n (cuts_of p.packed) (flat_map cuts_of rest.packed)
+          (run_records form n p.packed.segment p.packed.runs here packing.none_empty packing.each_fits)
+          rest.records;
+    }
 
-module _ (key : Key) (time : BTime) (micros sequence count : ℕ) (kind : Kind) (exponent frames : ℕ)
-    (is_key : IsKey key) where
-  lengths : HasLengths (header_for key time micros sequence count kind exponent frames)
-  lengths = record {
-    sequence = refl;
-    station = is_key.station;
-    location = is_key.location;
-    channel = is_key.channel;
-    network = is_key.network;
-  }
-
-  ranges : count < 2 ^ 16 → micros < 100 → HasRanges (header_for key time micros sequence count kind exponent frames)
-  ranges few below = record {
-    samples = few;
-    factor = is_key.factor;
-    multiplier = is_key.multiplier;
-    correction = is_key.correction;
-    micros = omega (arith, ints, below);
-  }
-
--- ---- the record
-
-pub record HasRecord (old : List ℕ) (key : Key) (start : ℤ) (sequence : ℕ) (before : Option ℤ) (samples : List ℤ)
-    (kind : Kind) (size : ℕ) : Type 0 where
+pub record HasOutput (form : Form) (segments : List Segment) : Type 0 where
+  pub packed : List Packed
+  pub rows : List Row
   pub bytes : List ℕ
-  pub appended : AppendsRecord old (old ++ bytes) key start sequence before samples kind size
+  pub same : map segment_of_packed packed ≡ segments
+  pub output : IsOutput form packed rows bytes
 
-pub has_record : (old : List ℕ) (key : Key) (start : ℤ) (sequence : ℕ) (before : Option ℤ) (samples : List ℤ)
-    (kind : Kind) (size : ℕ) → IsRecordLength size → IsKey key
-    → IsTrue (is_quality key.quality) → is_pending key.activity key.correction ≡ false → IsInstant start
-    → 1 ≤ length samples → All (FitsSigned w32) samples
-    → Fits kind size (points before samples) → HasRecord old key start sequence before samples kind size
-has_record old key start sequence before samples kind size power is_key quality normal instant some fit fits =
-    let s = has_split start instant in
-    let a = area_of (storage_of kind) before samples size power some fit fits.1 in
-    let few = few_samples kind size before samples fits in
-    let h : Header = header_for key s.time s.micros sequence (length samples) kind power.exponent a.frames in
+pub has_output : (form : Form) (segments : List Segment) → All IsWritableSegment segments → HasOutput form segments
+has_output form segments writable =
+    let o = output_from form 1 segments writable in
     record {
-      bytes = header_bytes h ++ a.area;
-      appended = appends_record old (old ++ (header_bytes h ++ a.area))
-          (header_bytes h) a.area key start sequence before samples kind size power.exponent a.frames s.time
-          s.micros (length samples)
-          refl refl refl (header_length h (lengths key s.time s.micros sequence
-          (length samples) kind power.exponent a.frames is_key)) a.is_area a.long
-          (λ rest w room. reads_back h rest (lengths key s.time s.micros sequence
-          (length samples) kind power.exponent a.frames is_key) (ranges key s.time s.micros sequence
-          (length samples) kind power.exponent a.frames is_key few s.split.below) w room)
-          a.carries a.agrees s.split power.power power.least power.most quality normal some is_key.rate;
+      packed = o.packed;
+      rows = o.records.rows;
+      bytes = o.records.bytes;
+      same = o.same;
+      output = record { packings = o.packings; records = o.records.written };
     }
+
+-- ---- the prefix of an output
+
+pub all_left : {X : Type 0} (P : X → Type 0) (xs ys : List X) → All P (xs ++ ys) → All P xs
+all_left P [] ys all = All-nil P
+all_left P (x ∷ xs) ys all = All-cons P x xs (All-head P x (xs ++ ys) all)
+    (all_left P xs ys (All-tail P x (xs ++ ys) all))
+
+pub all_right : {X : Type 0} (P : X → Type 0) (xs ys : List X) → All P (xs ++ ys) → All P ys
+all_right P [] ys all = all
+all_right P (x ∷ xs) ys all = all_right P xs ys (All-tail P x (xs ++ ys) all)
+
+pub prefix_of_output : (form : Form) (packed : List Packed) (segment : Segment) (runs others : List Run)
+    (separators : List ℕ) (more : List Segment) (rows : List Row) (bytes : List ℕ)
+    → All (IsPacked form) packed → IsWritableSegment segment
+    → IsCanonical (records_of form) segment.samples (runs ++ others) separators
+    → AreWritten (bytes_of form.length) 1 (flat_map cuts_of packed ++ cuts_at segment runs) rows bytes
+    → IsPrefixOfOutput form (map segment_of_packed packed ++ segment ∷ more) bytes
+prefix_of_output form packed segment runs others separators more rows bytes packings writable canonical written =
+    let one : Packed = record { segment = segment; runs = runs ++ others; separators = separators } in
+    let is : IsPacked form one = is_packed_by form segment (runs ++ others) separators canonical in
+    let packing = is.packing in
+    let so_far = flat_map cuts_of packed ++ cuts_at segment runs in
+    let rest = run_records form (number_after 1 so_far) segment others writable
+    (all_right IsSome runs others packing.none_empty)
+    (all_right (IsFitting form segment.samples) runs others packing.each_fits) in
+    let both = written_append (bytes_of form.length) 1 so_far
+    (cuts_at segment others) rows rest.rows bytes rest.bytes written rest.written in
+    let cuts : flat_map cuts_of (packed ++ one ∷ []) ≡ so_far ++ cuts_at segment others =
+    cuts_further packed one
+    ∙ ap (λ (l : List Cut). flat_map cuts_of packed ++ l)
+    (map-append (λ (r : Run). record { segment = segment; run = r }) runs others)
+    ∙ sym (append_assoc (flat_map cuts_of packed) (cuts_at segment runs) (cuts_at segment others)) in
+    record {
+      packed = packed ++ one ∷ [];
+      others = more;
+      rows = rows ++ rest.rows;
+      tail = rest.bytes;
+      some_first = sym (ap (λ (l : List Segment). l ++ more) (map-append segment_of_packed packed (one ∷ []))
+          ∙ append_assoc (map segment_of_packed packed) (segment ∷ []) more);
+      output = record {
+        packings = All-push (IsPacked form) packed one packings is;
+        records = rw cuts both;
+      };
+    }
+
+-- ---- a segment that grows
+
+range_longer : (xs ys : List ℤ) (a b : ℕ) → a ≤ b → b ≤ length xs → slice_range (xs ++ ys) a b ≡ slice_range xs a b
+range_longer xs ys a b order within =
+    let left : length (drop a xs) ≡ length xs - a = length-drop a xs in
+    ap (take (b - a)) (drop-append-le a xs ys (omega arith)) ∙ take-append-le (b - a) (drop a xs) ys (omega arith)
+
+get_longer : (xs ys : List ℤ) (i : ℕ) → i < length xs → slice_get (xs ++ ys) i ≡ slice_get xs i
+get_longer [] ys i lt = absurd (omega arith)
+get_longer (x ∷ xs) ys zero lt = refl
+get_longer (x ∷ xs) ys (suc i) lt = get_longer xs ys i (omega arith)
+
+before_longer : (xs ys : List ℤ) (a : ℕ) → a ≤ length xs → before_place (xs ++ ys) a ≡ before_place xs a
+before_longer xs ys zero le = refl
+before_longer xs ys (suc i) le = get_longer xs ys i (omega arith)
+
+-- the records of runs of a segment stay those of its runs when it grows
+pub written_longer : (size n : ℕ) (segment : Segment) (more : List ℤ) (runs : List Run) (rows : List Row)
+    (bytes : List ℕ) → All (λ run. (run.start ≤ run.end) × (run.end ≤ length segment.samples)) runs
+    → AreWritten size n (cuts_at segment runs) rows bytes
+    → AreWritten size n (cuts_at (record {
+      key = segment.key;
+      start = segment.start;
+      samples = segment.samples ++ more;
+    }) runs) rows bytes
+written_longer size n segment more [] rows bytes within are = are
+written_longer size n segment more (run ∷ runs) rows bytes within are =
+    let w = are.2 in
+    let r = w.is_record in
+    let row = r.of_run in
+    let inside = All-head (λ run. (run.start ≤ run.end) × (run.end ≤ length segment.samples)) run runs within in
+    let before = before_longer segment.samples more run.start (omega (arith, inside.0, inside.1)) in (
+      are.0,
+      are.1,
+      record {
+        row = w.row;
+        first = w.first;
+        is_record = record {
+          of_run = record {
+            key = row.key;
+            start = row.start;
+            kind = row.kind;
+            samples = row.samples
+                ∙ sym (range_longer segment.samples more run.start run.end inside.0 inside.1);
+          };
+          size_is = r.size_is;
+          written = rw before r.written;
+          decodes = r.decodes;
+          reads = r.reads;
+        };
+        all_rows = w.all_rows;
+        all_bytes = w.all_bytes;
+      },
+      written_longer size (next_number n) segment more runs are.0 are.1
+          (All-tail (λ run. (run.start ≤ run.end) × (run.end ≤ length segment.samples)) run runs within) are.3,
+    )

@@ -5,12 +5,12 @@ use Rattle.std.proofs.lemmas.List.Elements.{All-get_or}
 use Rattle.msr_base.specs.declared.order.Order.TheVariants.{Big}
 use Rattle.msr_steim.specs.Area.{CarriesSteim, ReverseAgrees as FramesAgree}
 use Rattle.msr_steim.specs.Frames.{frame_bytes}
-use Rattle.msr_kinds.specs.declared.storage.Version.{Version}
-use Rattle.msr_kinds.specs.declared.lengths.Length.{Length}
+use Rattle.msr_base.specs.declared.storage.Version.{Version}
+use Rattle.msr_base.specs.declared.lengths.Length.{Length}
 use Rattle.msr_words.specs.Division.{CanDivide}
 use Rattle.msr_filling.specs.Filled.{IsFilledArea}
-use Rattle.msr_kinds.specs.Lengths.{bytes_of}
-use Rattle.msr_kinds.specs.RecordLength.{words_of}
+use Rattle.msr_base.specs.Lengths.{bytes_of}
+use Rattle.msr_base.specs.RecordLength.{words_of}
 use Rattle.msr_words.specs.Segment.{differences}
 use Rattle.msr_words.proofs.DivisionsExist.{can_more}
 use Rattle.msr_record.specs.Written.{AreFrames, frame_count}

@@ -2,4 +2,14 @@ pub mod AreaLemmas
 pub mod FilledFrames
 pub mod WritingLemmas
 pub mod OneWritten
+pub mod ExistingRecord
+pub mod Times
+pub mod Runs
+pub mod Appending
+pub mod BetweenSegments
+pub mod Sizes
+pub mod OneOutput
+pub mod CutRows
 pub mod Existing
+pub mod OpenSegments
+pub mod DecidedRecords

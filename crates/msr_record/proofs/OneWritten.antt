@@ -5,14 +5,14 @@ use Rattle.std.proofs.Math.Pow.{pow-lt}
 use Rattle.msr_time.specs.declared.btime.BTime.{BTime}
 use Rattle.msr_time.proofs.TimeLemmas.{split_one}
 use Rattle.msr_header.specs.Writing.{header_bytes}
-use Rattle.msr_kinds.specs.declared.storage.Width.{Width}
-use Rattle.msr_kinds.specs.declared.storage.Version.{Version}
+use Rattle.msr_base.specs.declared.storage.Width.{Width}
+use Rattle.msr_base.specs.declared.storage.Version.{Version}
 use Rattle.msr_words.proofs.WrittenDivision.{one_chosen}
 use Rattle.msr_words.specs.Segment.{differences}
-use Rattle.msr_kinds.specs.declared.kinds.Kind.{Kind}
-use Rattle.msr_kinds.specs.declared.storage.Storage.{Storage}
-use Rattle.msr_kinds.specs.declared.storage.Storage.TheVariants.{Integers, Frames}
-use Rattle.msr_kinds.specs.Storage.{storage_of}
+use Rattle.msr_base.specs.declared.kinds.Kind.{Kind}
+use Rattle.msr_base.specs.declared.storage.Storage.{Storage}
+use Rattle.msr_base.specs.declared.storage.Storage.TheVariants.{Integers, Frames}
+use Rattle.msr_base.specs.Storage.{storage_of}
 use Rattle.msr_record.specs.Written.{AreFrames, AreNumbers, IsWrittenRecord, IsWrittenArea, frame_count, header_for}
 use Rattle.msr_rows.specs.declared.row.Key.{Key}
 

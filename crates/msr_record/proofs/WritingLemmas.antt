@@ -14,11 +14,11 @@ use Rattle.msr_header.specs.Reading.{header_of, is_sequence_byte, is_quality}
 use Rattle.msr_header.specs.Writing.{IsWritableHeader, header_as_read, header_bytes}
 use Rattle.msr_base.specs.declared.order.Order.TheVariants.{Big}
 use Rattle.msr_header.specs.declared.header.Header.{Header}
-use Rattle.msr_kinds.specs.RecordLength.{least_exponent, most_exponent}
-use Rattle.msr_kinds.specs.Kinds.{code_of}
-use Rattle.msr_kinds.specs.Storage.{storage_of}
-use Rattle.msr_kinds.specs.declared.kinds.Kind.{Kind}
-use Rattle.msr_kinds.specs.declared.kinds.Kind.TheVariants.{Int16, Int24, Int32, Steim1, Steim2}
+use Rattle.msr_base.specs.RecordLength.{least_exponent, most_exponent}
+use Rattle.msr_base.specs.Kinds.{code_of}
+use Rattle.msr_base.specs.Storage.{storage_of}
+use Rattle.msr_base.specs.declared.kinds.Kind.{Kind}
+use Rattle.msr_base.specs.declared.kinds.Kind.TheVariants.{Int16, Int24, Int32, Steim1, Steim2}
 use Rattle.msr_rows.specs.Records.{kind_of_code}
 use Rattle.msr_rows.specs.Correction.{key_of, start_of, is_pending, correction_micros}
 use Rattle.msr_rows.specs.Area.{Carries, ReverseAgreesIfAny}

@@ -1,1 +1,5 @@
 pub mod Written
+pub mod Decided
+pub mod Opened
+pub mod Output
+pub mod Writing

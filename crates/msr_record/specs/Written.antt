@@ -6,21 +6,21 @@ use Rattle.msr_time.specs.Instant.{IsInstant, IsSplit}
 use Rattle.msr_base.specs.declared.order.Order.TheVariants.{Big}
 use Rattle.msr_header.specs.declared.header.Header.{Header}
 use Rattle.msr_header.specs.Writing.{header_bytes}
-use Rattle.msr_kinds.specs.Storage.{size_of, storage_of}
+use Rattle.msr_base.specs.Storage.{size_of, storage_of}
 use Rattle.msr_plain.specs.Plain.{bytes_of_all}
-use Rattle.msr_kinds.specs.declared.storage.Width.{Width}
+use Rattle.msr_base.specs.declared.storage.Width.{Width}
 use Rattle.msr_steim.specs.Frames.{frame_bytes}
-use Rattle.msr_kinds.specs.declared.storage.Version.{Version}
-use Rattle.msr_kinds.specs.declared.storage.Storage.{Storage}
-use Rattle.msr_kinds.specs.declared.storage.Storage.TheVariants.{Integers, Frames}
+use Rattle.msr_base.specs.declared.storage.Version.{Version}
+use Rattle.msr_base.specs.declared.storage.Storage.{Storage}
+use Rattle.msr_base.specs.declared.storage.Storage.TheVariants.{Integers, Frames}
 use Rattle.msr_filling.specs.GroupWords.{AreGroupWordsIfKnown}
 use Rattle.msr_words.specs.Canonical.{IsCanonicalDivision}
 use Rattle.msr_words.specs.Groups.{AreGroupSizesIfKnown}
 use Rattle.msr_words.specs.Fit.{Fits}
-use Rattle.msr_kinds.specs.Kinds.{code_of}
-use Rattle.msr_kinds.specs.RecordLength.{IsRecordLength}
+use Rattle.msr_base.specs.Kinds.{code_of}
+use Rattle.msr_base.specs.RecordLength.{IsRecordLength}
 use Rattle.msr_words.specs.Segment.{differences, points}
-use Rattle.msr_kinds.specs.declared.kinds.Kind.{Kind}
+use Rattle.msr_base.specs.declared.kinds.Kind.{Kind}
 use Rattle.msr_header.specs.Reading.{is_quality}
 use Rattle.msr_rows.specs.Correction.{is_pending}
 use Rattle.msr_rows.specs.Records.{IsRowOf, IsRecordOf, IsInTime}

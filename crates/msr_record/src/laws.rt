@@ -1,19 +1,25 @@
-//! What holds of written records.
-ghost use Rattle.std.specs.Prelude.{◌≡◌, ℕ, ℤ, List, Option};
-ghost use Rattle.msr_kinds.specs.declared.kinds.Kind.{Kind};
-ghost use Rattle.msr_record.specs.Written.{IsWrittenRecord, RunHasRecord};
-ghost use Rattle.msr_rows.specs.declared.row.Key.{Key};
+//! Laws of outputs, each the contract of a function that does nothing.
+ghost use Rattle.msr_record.specs.Output.{OneOutput, OutputKeepsSegments, OutputHasSize, SegmentsHaveOutput, FirstRecordsArePrefix, RecordsStay};
 
-/// What is written is determined: one text of bytes for a key, a start, a sequence number, a run with
-/// the sample before it, a kind and a length.
-pub fn one_written()
-    ensures { (bytes others : List ℕ) (key : Key) (start : ℤ) (sequence : ℕ) (before : Option ℤ) (samples : List ℤ)
-        (kind : Kind) (size : ℕ)
-        → IsWrittenRecord bytes key start sequence before samples kind size
-        → IsWrittenRecord others key start sequence before samples kind size → bytes ≡ others }
+/// Segments have at most one output in records of one form.
+pub fn one_output()
+    ensures { OneOutput }
 {}
 
-/// Each run that fits a record of a kind has one written record of it.
-pub fn run_has_record()
-    ensures { RunHasRecord }
+/// What was written has the same segments when it is read.
+pub fn output_keeps_segments()
+    ensures { OutputKeepsSegments }
+{}
+
+/// An output has as many bytes as its records have in all.
+pub fn output_has_size()
+    ensures { OutputHasSize }
+{}
+
+/// Segments that can be written have an output, and the records of some first runs are a prefix of one; these stay
+/// when their segment grows.
+pub fn segments_have_output()
+    ensures whole { SegmentsHaveOutput }
+    ensures prefix { FirstRecordsArePrefix }
+    ensures stay { RecordsStay }
 {}

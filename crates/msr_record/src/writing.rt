@@ -3,15 +3,14 @@ ghost use Rattle.std.specs.Prelude.{◌≡◌, ◌≢◌, pos, ◌+◌, ◌-◌,
 ghost use Rattle.msr_time.specs.Instant.{IsInstant};
 ghost use Rattle.msr_header.specs.Reading.{is_quality};
 ghost use Rattle.msr_words.specs.Fit.{Fits};
-ghost use Rattle.msr_kinds.specs.Lengths.{bytes_of};
+ghost use Rattle.msr_base.specs.Lengths.{bytes_of};
 ghost use Rattle.msr_words.specs.Segment.{points};
 ghost use Rattle.msr_rows.specs.Correction.{is_pending};
 ghost use Rattle.msr_record.specs.Written.{sequence_digits, header_for, AppendsRecord, CanWrite, KnowsGroups};
 
 use crate::written_area::{WrittenRun, fill_area};
-use msr_base::Order;
+use msr_base::{Kind, Length, Order};
 use msr_header::{Header, Timing, write_header};
-use msr_kinds::{Kind, Length};
 use msr_rows::Key;
 use msr_time::{BTime, split};
 use std::alloc::{AllocError, Global};

@@ -2,19 +2,18 @@
 ghost use Rattle.std.specs.Prelude.{◌≡◌, ◌-◌, ◌*◌, ◌/◌, ◌%◌, ◌^◌, ◌<◌, ◌≤◌, All, FitsSigned, IfOk, OnOk, length};
 ghost use Rattle.std.specs.Int.{w32};
 ghost use Rattle.msr_steim.specs.Area.{CarriesSteim, ReverseAgrees as FramesAgree};
-ghost use Rattle.msr_kinds.specs.declared.storage.Version.TheVariants.{Two};
+ghost use Rattle.msr_base.specs.declared.storage.Version.TheVariants.{Two};
 ghost use Rattle.msr_words.specs.Division.{CanDivide};
 ghost use Rattle.msr_filling.specs.Filled.{IsFilledArea};
 ghost use Rattle.msr_words.specs.Fit.{HasRoom};
-ghost use Rattle.msr_kinds.specs.RecordLength.{words_of};
-ghost use Rattle.msr_kinds.specs.Lengths.{bytes_of};
+ghost use Rattle.msr_base.specs.RecordLength.{words_of};
+ghost use Rattle.msr_base.specs.Lengths.{bytes_of};
 ghost use Rattle.msr_words.specs.Segment.{differences, points};
 ghost use Rattle.msr_rows.specs.Area.{Carries, ReverseAgreesIfAny};
 ghost use Rattle.msr_record.specs.Written.{AreFrames, IsWrittenArea, KnowsGroups, frame_count};
 
-use msr_base::Order;
+use msr_base::{Kind, Length, Order, Storage, Version};
 use msr_filling::{fill_steim1, fill_steim2, fill_steim2_told};
-use msr_kinds::{Kind, Length, Storage, Version};
 use msr_plain::fill_plain;
 use msr_rows::Key;
 use std::alloc::{AllocError, Global};

@@ -9,7 +9,7 @@ use Rattle.msr_tree.specs.declared.tree.TreeFault.TheVariants as fault
 use Rattle.msr_tree.proofs.Acting.{acts_does, giving, goes_as, stopping}
 use Rattle.msr_tree.proofs.Changes.{changes_more, changes_none, changes_then}
 use Rattle.msr_tree.proofs.Deeds.{without}
-use Rattle.msr_stamp.proofs.Begun.{goes_both}
+use Rattle.msr_naming.proofs.Begun.{goes_both}
 use Rattle.msr_exchange.specs.Moves.{Clears}
 use Rattle.msr_exchange.specs.Stamped.{all_parts_in, stamp_part_in}
 use Rattle.msr_exchange.specs.Work.{parts_in}

@@ -8,8 +8,8 @@ use Rattle.msr_tree.specs.declared.tree.TreeFault.TheVariants as fault
 use Rattle.msr_tree.proofs.Acting.{giving, goes_as, no_fewer, stopping}
 use Rattle.msr_tree.proofs.Changes.{changes_more, changes_none, changes_then, each_by_changes, leaves_kept, may_kept, seen_kept}
 use Rattle.msr_tree.proofs.Moments.{at_end, joined}
-use Rattle.msr_stamp.specs.declared.stamp.StampOf.TheVariants as stamped
-use Rattle.msr_stamp.proofs.Begun.{goes_both}
+use Rattle.msr_naming.specs.declared.stamp.StampOf.TheVariants as stamped
+use Rattle.msr_naming.proofs.Begun.{goes_both}
 use Rattle.msr_exchange.specs.Names.{AreStampNames, Names, StampPlaces, all, path_at}
 use Rattle.msr_exchange.specs.Promise.{IsUnderEither, KeepsBoth, LeavesAlone}
 use Rattle.msr_exchange.specs.declared.names.Place.{Place}

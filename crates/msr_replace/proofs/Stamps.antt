@@ -4,7 +4,7 @@ use Rattle.msr_tree.specs.Calls.{Goes}
 use Rattle.msr_tree.specs.Steps.{Step}
 use Rattle.msr_tree.proofs.Acting.{goes_as}
 use Rattle.msr_tree.proofs.Changes.{changes_none}
-use Rattle.msr_stamp.specs.declared.stamp.StampOf.TheVariants as stamped
+use Rattle.msr_naming.specs.declared.stamp.StampOf.TheVariants as stamped
 use Rattle.msr_exchange.specs.Names.{Names, StampPlaces}
 use Rattle.msr_exchange.specs.Stamped.{StampsDay, stamp_names}
 use Rattle.msr_replace.specs.Stamping.{StampsRestored}

@@ -5,7 +5,7 @@ use Rattle.msr_input.specs.Input.{BeginsWith}
 use Rattle.msr_input.specs.Rows.{row_told}
 use Rattle.msr_input.specs.declared.fault.ReadFault.{ReadFault}
 use Rattle.msr_input.specs.declared.row_reader.NextRecord.{NextRecord}
-use Rattle.msr_kinds.specs.declared.kinds.Kind.TheVariants.{Int24}
+use Rattle.msr_base.specs.declared.kinds.Kind.TheVariants.{Int24}
 use Rattle.msr_rows.specs.declared.row.Record.{Record}
 use Rattle.msr_rows.specs.declared.row.Row.{Row}
 

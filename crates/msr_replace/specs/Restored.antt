@@ -3,7 +3,7 @@ use Rattle.std.specs.Prelude.{◌<◌, ◌≡◌, ℕ, List, None, Some, Result,
 use Rattle.msr_tree.specs.Steps.{AtEachMoment, ChangesOnly, Leaves, Step, failures, now}
 use Rattle.msr_tree.specs.declared.tree.TreeFault.{TreeFault}
 use Rattle.msr_tree.specs.declared.tree.TreeFault.TheVariants.{Failed}
-use Rattle.msr_stamp.specs.declared.stamp.StampOf.TheVariants as stamped
+use Rattle.msr_naming.specs.declared.stamp.StampOf.TheVariants as stamped
 use Rattle.msr_exchange.specs.Names.{Names, StampPlaces, all}
 use Rattle.msr_exchange.specs.Promise.{AreKept, IsUnderEither, KeepsBoth, LeavesAlone}
 use Rattle.msr_exchange.specs.Stamped.{LeavesStamp, all_and_stamp}

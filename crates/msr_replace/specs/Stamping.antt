@@ -1,7 +1,7 @@
 -- What is done with the stamp of a day whose original was to get its place again.
 use Rattle.std.specs.Prelude.{◌≡◌, ◌≢◌, ℕ, List, Some}
 use Rattle.msr_tree.specs.Steps.{AtEachMoment, ChangesOnly, Leaves, Step}
-use Rattle.msr_stamp.specs.declared.stamp.StampOf.TheVariants as stamped
+use Rattle.msr_naming.specs.declared.stamp.StampOf.TheVariants as stamped
 use Rattle.msr_exchange.specs.Names.{AreStampNames, Names, StampPlaces}
 use Rattle.msr_exchange.specs.Stamped.{LeavesStamp, stamp_names}
 use Rattle.msr_replace.specs.declared.answers.DayRestored.{DayRestored}

@@ -2,9 +2,9 @@
 ghost use Rattle.msr_devices.specs.Device.{CanCountCall};
 ghost use Rattle.msr_replace.specs.Kinds.{TellsInt24, TellsOfRow};
 
+use msr_base::Kind;
 use msr_devices::Source;
 use msr_input::{NextRecord, ReadFault, RowReader, Settings};
-use msr_kinds::Kind;
 use std::alloc::Global;
 
 fn is_int24(next: &NextRecord) -> bool

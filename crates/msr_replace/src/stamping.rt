@@ -6,7 +6,7 @@ ghost use Rattle.msr_replace.specs.Stamping.{StampsRestored};
 
 use crate::answers::{DayAnswer, DayRestored};
 use msr_exchange::{DayNames, StampNames, stamp_day, stamp_records};
-use msr_stamp::StampOf;
+use msr_naming::StampOf;
 use msr_tree::Tree;
 use std::alloc::Global;
 

@@ -6,12 +6,12 @@ use Rattle.std.specs.Fmt.{decimal, signed_decimal, digit_glyph}
 use Rattle.msr_time.specs.Instant.{IsSplit}
 use Rattle.msr_time.specs.SampleRate.{SampleRate}
 use Rattle.msr_time.specs.declared.btime.BTime.{BTime}
-use Rattle.msr_kinds.specs.Lengths.{bytes_of}
-use Rattle.msr_kinds.specs.Kinds.{contains}
-use Rattle.msr_kinds.specs.declared.kinds.Kind.{Kind}
-use Rattle.msr_kinds.specs.declared.kinds.Kind.TheVariants.{Int16, Int24, Int32, Steim1, Steim2}
-use Rattle.msr_kinds.specs.declared.kinds.Kinds.{Kinds}
-use Rattle.msr_kinds.specs.declared.kinds.Kinds.TheVariants.{All}
+use Rattle.msr_base.specs.Lengths.{bytes_of}
+use Rattle.msr_base.specs.Kinds.{contains}
+use Rattle.msr_base.specs.declared.kinds.Kind.{Kind}
+use Rattle.msr_base.specs.declared.kinds.Kind.TheVariants.{Int16, Int24, Int32, Steim1, Steim2}
+use Rattle.msr_base.specs.declared.kinds.Kinds.{Kinds}
+use Rattle.msr_base.specs.declared.kinds.Kinds.TheVariants.{All}
 use Rattle.msr_rows.specs.declared.row.Key.{Key}
 use Rattle.msr_report.specs.Proper.{records_in}
 use Rattle.msr_base.specs.declared.counts.Counts.{Counts}

@@ -6,8 +6,7 @@ ghost use Rattle.msr_report.specs.Text.{words_after_quality, segment_words, IsLi
 use crate::fields::{name_string, push_decimal, push_settings, time_string};
 use crate::report::{Report, SegmentLine};
 use itoa::Buffer;
-use msr_base::Counts;
-use msr_kinds::Kinds;
+use msr_base::{Counts, Kinds};
 use msr_rows::Key;
 use std::alloc::{AllocError, Global};
 

@@ -1,6 +1,5 @@
 //! What a report says.
-use msr_base::Counts;
-use msr_kinds::{Kinds, Length};
+use msr_base::{Counts, Kinds, Length};
 use msr_rows::Key;
 
 /// A segment, and in how many records it was written.

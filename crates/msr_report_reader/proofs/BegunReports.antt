@@ -1,8 +1,8 @@
 -- The lines that were read begin a report.
 use Rattle.std.proofs.Common.{◌≡◌, ◌∙◌, ap, sym, refl, rules, arith, subst, ℕ, zero, suc, ◌+◌, ◌*◌, ◌<◌, ◌^◌, List, [], ◌∷◌, ◌++◌, append_assoc, length, decimal, codes, All, map}
 use Rattle.std.proofs.lemmas.List.{append-nil}
-use Rattle.msr_kinds.specs.declared.kinds.Kinds.{Kinds}
-use Rattle.msr_kinds.specs.declared.kinds.Kinds.TheVariants.{All as AllKinds, WithoutInt24}
+use Rattle.msr_base.specs.declared.kinds.Kinds.{Kinds}
+use Rattle.msr_base.specs.declared.kinds.Kinds.TheVariants.{All as AllKinds, WithoutInt24}
 use Rattle.msr_report.specs.Proper.{records_in}
 use Rattle.msr_report.specs.Text.{segment_words, separators_line, end_line, kinds_words, kinds_line, counts_line}
 use Rattle.msr_base.specs.declared.counts.Counts.{Counts}

@@ -1,8 +1,8 @@
 -- The faults of the lines before the segments.
 use Rattle.std.proofs.Common.{◌≡◌, ◌≢◌, ◌∙◌, ap, sym, refl, subst, rules, arith, ℕ, zero, suc, ◌<◌, ◌≤◌, ◌^◌, Bool, true, List, ◌∷◌, ◌++◌, append_assoc, codes, decimal, length}
-use Rattle.msr_kinds.specs.RecordLength.{IsRecordLength}
-use Rattle.msr_kinds.specs.declared.kinds.Kinds.{Kinds}
-use Rattle.msr_kinds.specs.declared.kinds.Kinds.TheVariants.{All as AllKinds, WithoutInt24}
+use Rattle.msr_base.specs.RecordLength.{IsRecordLength}
+use Rattle.msr_base.specs.declared.kinds.Kinds.{Kinds}
+use Rattle.msr_base.specs.declared.kinds.Kinds.TheVariants.{All as AllKinds, WithoutInt24}
 use Rattle.msr_report.specs.Text.{kinds_words, kinds_line}
 use Rattle.msr_report_reader.specs.Content.{lines_before}
 use Rattle.msr_report_reader.specs.Fault.{IsFaultLine}

@@ -1,8 +1,8 @@
 -- From each of the lines before the segments to the next, or to a fault there.
 use Rattle.std.proofs.Common.{◌≡◌, ◌≢◌, ◌∙◌, ap, sym, ℕ, zero, suc, ◌≤◌, List, ◌∷◌, ◌++◌, codes, decimal}
-use Rattle.msr_kinds.specs.RecordLength.{IsRecordLength}
-use Rattle.msr_kinds.specs.declared.kinds.Kinds.{Kinds}
-use Rattle.msr_kinds.specs.declared.kinds.Kinds.TheVariants.{All as AllKinds}
+use Rattle.msr_base.specs.RecordLength.{IsRecordLength}
+use Rattle.msr_base.specs.declared.kinds.Kinds.{Kinds}
+use Rattle.msr_base.specs.declared.kinds.Kinds.TheVariants.{All as AllKinds}
 use Rattle.msr_report.specs.Text.{kinds_words, kinds_line}
 use Rattle.msr_report_reader.specs.Content.{Content, IsContent}
 use Rattle.msr_report_reader.specs.Fault.{BeginsReport, IsFaultLine}

@@ -1,8 +1,8 @@
 -- The fields of a report are in the ranges of their types.
 use Rattle.std.proofs.Common.{arith, ℕ, zero, suc, ◌<◌, List, [], ◌∷◌, length, get_or, All, map}
-use Rattle.msr_kinds.specs.declared.lengths.Length.{Length}
-use Rattle.msr_kinds.specs.Lengths.{bytes_of}
-use Rattle.msr_kinds.specs.RecordLength.{IsRecordLength}
+use Rattle.msr_base.specs.declared.lengths.Length.{Length}
+use Rattle.msr_base.specs.Lengths.{bytes_of}
+use Rattle.msr_base.specs.RecordLength.{IsRecordLength}
 use Rattle.msr_report.specs.declared.report.SegmentLine.{SegmentLine}
 use Rattle.msr_report_reader.specs.Content.{IsContentLine, content_line}
 

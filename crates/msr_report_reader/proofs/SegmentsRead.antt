@@ -1,8 +1,8 @@
 -- Some segments were read, and the rest of the text may go on.
 use Rattle.std.proofs.Common.{◌≡◌, ◌∙◌, ap, sym, refl, arith, ℕ, zero, suc, ◌+◌, ◌*◌, ◌<◌, ◌≤◌, ◌^◌, List, [], ◌∷◌, ◌++◌, append_assoc, length, All, map, length-append}
 use Rattle.std.proofs.lemmas.List.{append-nil}
-use Rattle.msr_kinds.specs.Lengths.{bytes_of}
-use Rattle.msr_kinds.specs.declared.kinds.Kinds.{Kinds}
+use Rattle.msr_base.specs.Lengths.{bytes_of}
+use Rattle.msr_base.specs.declared.kinds.Kinds.{Kinds}
 use Rattle.msr_report.specs.Proper.{IsProperLine, records_in}
 use Rattle.msr_report.specs.Text.{separators_line, end_line, first_lines, AreSegmentTexts}
 use Rattle.msr_base.specs.declared.counts.Counts.{Counts}

@@ -6,15 +6,15 @@ use Rattle.std.specs.Int.{w16, w32}
 use Rattle.std.specs.Int.RustNames.{FitsSigned}
 use Rattle.msr_time.specs.Instant.{IsInstant}
 use Rattle.msr_header.specs.Reading.{is_quality}
-use Rattle.msr_kinds.specs.RecordLength.{IsRecordLength}
+use Rattle.msr_base.specs.RecordLength.{IsRecordLength}
 use Rattle.msr_rows.specs.declared.row.Key.{Key}
-use Rattle.msr_kinds.specs.declared.kinds.Kinds.{Kinds}
-use Rattle.msr_kinds.specs.declared.kinds.Kinds.TheVariants.{All as AllKinds, WithoutInt24}
+use Rattle.msr_base.specs.declared.kinds.Kinds.{Kinds}
+use Rattle.msr_base.specs.declared.kinds.Kinds.TheVariants.{All as AllKinds, WithoutInt24}
 use Rattle.msr_report.specs.Text.{IsTimeText, segment_words, separators_line, kinds_line, counts_line, end_line}
 use Rattle.msr_base.specs.declared.counts.Counts.{Counts}
 use Rattle.msr_report.specs.declared.report.SegmentLine.{SegmentLine}
 use Rattle.msr_report.specs.declared.report.Report.{Report}
-use Rattle.msr_kinds.specs.Lengths.{bytes_of}
+use Rattle.msr_base.specs.Lengths.{bytes_of}
 use Rattle.msr_report_reader.specs.Fields.{AreBytes, name_then, rate_then, flags_then}
 
 -- the fields of a key are in the ranges of their types, with a quality and a rate that a record can have

@@ -2,7 +2,7 @@
 use Rattle.std.specs.Prelude.{◌≡◌, ℕ, ◌<◌, ◌≤◌, ◌^◌, ◌⊎◌, Bool, true, false, cond, List, [], ◌∷◌, ◌++◌, length, map, codes, flat_map, All, Result, Ok, Err}
 use Rattle.std.specs.Fmt.{decimal}
 use Rattle.msr_time.specs.Instant.{IsInstant}
-use Rattle.msr_kinds.specs.Lengths.{bytes_of}
+use Rattle.msr_base.specs.Lengths.{bytes_of}
 use Rattle.msr_report.specs.Proper.{records_in}
 use Rattle.msr_report.specs.Text.{end_line}
 use Rattle.msr_report.specs.declared.report.SegmentLine.{SegmentLine}

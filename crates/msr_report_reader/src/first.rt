@@ -1,14 +1,13 @@
 //! The lines before the segments.
 ghost use Rattle.std.specs.Prelude.{◌≡◌, ◌++◌, ℕ, List, IfOk, IfErr};
-ghost use Rattle.msr_kinds.specs.Lengths.{bytes_of};
+ghost use Rattle.msr_base.specs.Lengths.{bytes_of};
 ghost use Rattle.msr_report_reader.specs.Content.{IsFirst, first_then, lines_before};
 ghost use Rattle.msr_report_reader.specs.Fault.{IsFaultLine};
 ghost use Rattle.msr_report_reader.specs.Draft.{IsEnough};
 
 use crate::fields::{after, may_begin};
 use crate::lines::{counts, kinds, record_length, tolerance};
-use msr_base::Counts;
-use msr_kinds::{Kinds, Length};
+use msr_base::{Counts, Kinds, Length};
 
 /// What the lines before the segments say.
 #[derive(Clone, Copy)]

@@ -2,9 +2,9 @@
 ghost use Rattle.std.specs.Prelude.{◌≡◌, ◌≢◌, ◌<◌, ◌≤◌, ◌^◌, ◌++◌, ◌∷◌, ℕ, ℤ, List, IfSome, IsSomeAnd, codes};
 ghost use Rattle.std.specs.Fmt.{decimal};
 ghost use Rattle.msr_time.specs.Instant.{IsInstant};
-ghost use Rattle.msr_kinds.specs.Lengths.{bytes_of};
-ghost use Rattle.msr_kinds.specs.RecordLength.{IsRecordLength};
-ghost use Rattle.msr_kinds.specs.declared.kinds.Kinds.{Kinds as AChoice};
+ghost use Rattle.msr_base.specs.Lengths.{bytes_of};
+ghost use Rattle.msr_base.specs.RecordLength.{IsRecordLength};
+ghost use Rattle.msr_base.specs.declared.kinds.Kinds.{Kinds as AChoice};
 ghost use Rattle.msr_report.specs.Text.{kinds_line};
 ghost use Rattle.msr_rows.specs.declared.row.Key.{Key as ChannelKey};
 ghost use Rattle.msr_report_reader.specs.Content.{IsOpening, IsReportKey};
@@ -12,8 +12,7 @@ ghost use Rattle.msr_report_reader.specs.Content.{IsOpening, IsReportKey};
 use crate::fields::{after, counted};
 use crate::keys::channel_key;
 use crate::times::instant;
-use msr_base::Counts;
-use msr_kinds::{Kinds, Length};
+use msr_base::{Counts, Kinds, Length};
 use msr_report::kinds_line;
 use msr_rows::Key;
 

@@ -7,9 +7,9 @@ use Rattle.msr_header.specs.declared.header.Header.{Header}
 use Rattle.msr_rows.specs.Records.{kind_of_code}
 use Rattle.msr_rows.specs.Records.{has_rate, has_area, field_faults}
 use Rattle.msr_base.specs.Faults.{first_fault}
-use Rattle.msr_kinds.specs.Kinds.{code_of}
-use Rattle.msr_kinds.specs.declared.kinds.Kind.{Kind}
-use Rattle.msr_kinds.specs.declared.kinds.Kind.TheVariants.{Int16, Int24, Int32, Steim1, Steim2}
+use Rattle.msr_base.specs.Kinds.{code_of}
+use Rattle.msr_base.specs.declared.kinds.Kind.{Kind}
+use Rattle.msr_base.specs.declared.kinds.Kind.TheVariants.{Int16, Int24, Int32, Steim1, Steim2}
 use Rattle.msr_rows.specs.declared.fault.FaultKind.TheVariants.{NoRate, OtherEncoding, BadDataOffset}
 
 -- the test of a number against 0

@@ -5,20 +5,20 @@ use Rattle.msr_header.specs.Reading.{header_of}
 use Rattle.msr_header.specs.declared.header.Header.{Header}
 use Rattle.msr_base.specs.declared.order.Order.{Order}
 use Rattle.msr_header.specs.declared.fault.HeaderFault.{HeaderFault}
-use Rattle.msr_kinds.specs.Storage.{size_of, storage_of}
+use Rattle.msr_base.specs.Storage.{size_of, storage_of}
 use Rattle.msr_plain.specs.Plain.{CarriesPlain}
-use Rattle.msr_kinds.specs.declared.storage.Width.{Width}
+use Rattle.msr_base.specs.declared.storage.Width.{Width}
 use Rattle.msr_steim.specs.Area.{CarriesSteim, EndsBefore, IsUndefinedBefore}
-use Rattle.msr_kinds.specs.declared.storage.Version.{Version}
+use Rattle.msr_base.specs.declared.storage.Version.{Version}
 use Rattle.msr_plain.proofs.CarriedLemmas.{carries_one as integers_one}
 use Rattle.msr_steim.proofs.OneOutcome.{carries_one, not_short, not_undefined, one_undefined, short_or_undefined}
 use Rattle.msr_rows.specs.Records.{kind_of_code, HasReverse, IsRefusedBeforeTime}
 use Rattle.msr_rows.specs.Correction.{key_of, start_of}
 use Rattle.msr_rows.specs.Area.{Carries, AreaHasFault}
 use Rattle.msr_rows.specs.Records.{data_area, HasSamples, HasArea, IsRowOf, RowIsInTime, FieldsAreRefused, AreaIsRefused, IsOutOfTime, IsRefused, IsRecordOf, AgreesAtEnd}
-use Rattle.msr_kinds.specs.declared.kinds.Kind.{Kind}
-use Rattle.msr_kinds.specs.declared.storage.Storage.{Storage}
-use Rattle.msr_kinds.specs.declared.storage.Storage.TheVariants.{Integers, Frames}
+use Rattle.msr_base.specs.declared.kinds.Kind.{Kind}
+use Rattle.msr_base.specs.declared.storage.Storage.{Storage}
+use Rattle.msr_base.specs.declared.storage.Storage.TheVariants.{Integers, Frames}
 use Rattle.msr_rows.specs.declared.row.Key.{Key}
 use Rattle.msr_rows.specs.declared.row.Row.{Row}
 use Rattle.msr_rows.specs.declared.row.Record.{Record}

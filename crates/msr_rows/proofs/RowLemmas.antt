@@ -8,11 +8,11 @@ use Rattle.msr_header.specs.Reading.{header_of}
 use Rattle.msr_header.specs.declared.header.Header.{Header}
 use Rattle.msr_rows.specs.Records.{kind_of_code}
 use Rattle.msr_rows.specs.Correction.{key_of, start_of}
-use Rattle.msr_kinds.specs.Storage.{storage_of}
+use Rattle.msr_base.specs.Storage.{storage_of}
 use Rattle.msr_rows.specs.Area.{Carries, ReverseAgreesIfAny}
 use Rattle.msr_rows.specs.Records.{has_rate, has_area, field_faults, data_area, HasSamples, HasArea, IsOutOfTime, AgreesAtEnd, IsInTime, IsRefused}
 use Rattle.msr_base.specs.Faults.{first_fault, unless}
-use Rattle.msr_kinds.specs.declared.kinds.Kind.{Kind}
+use Rattle.msr_base.specs.declared.kinds.Kind.{Kind}
 use Rattle.msr_rows.specs.declared.row.Key.{Key}
 use Rattle.msr_rows.specs.declared.row.Row.{Row}
 use Rattle.msr_rows.proofs.HeaderFacts.{one_header}

@@ -1,11 +1,11 @@
 -- What the data area of a record carries, by how it stores its samples.
 use Rattle.std.specs.Prelude.{◌<◌, ℕ, ◌*◌, ℤ, List, length}
 use Rattle.msr_base.specs.declared.order.Order.{Order}
-use Rattle.msr_kinds.specs.Storage.{size_of}
+use Rattle.msr_base.specs.Storage.{size_of}
 use Rattle.msr_plain.specs.Plain.{CarriesPlain}
 use Rattle.msr_steim.specs.Area.{CarriesSteim, ReverseAgrees as FramesAgree, EndsBefore, IsUndefinedBefore}
-use Rattle.msr_kinds.specs.declared.storage.Storage.{Storage}
-use Rattle.msr_kinds.specs.declared.storage.Storage.TheVariants.{Integers, Frames}
+use Rattle.msr_base.specs.declared.storage.Storage.{Storage}
+use Rattle.msr_base.specs.declared.storage.Storage.TheVariants.{Integers, Frames}
 use Rattle.msr_rows.specs.declared.fault.FaultKind.{FaultKind}
 use Rattle.msr_rows.specs.declared.fault.FaultKind.TheVariants.{DataShort, BadCode}
 

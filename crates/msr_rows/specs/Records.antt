@@ -8,9 +8,9 @@ use Rattle.msr_header.specs.Reading.{header_of}
 use Rattle.msr_header.specs.declared.header.Header.{Header}
 use Rattle.msr_rows.specs.Correction.{key_of, start_of}
 use Rattle.msr_rows.specs.Area.{Carries, AreaHasFault, ReverseAgreesIfAny}
-use Rattle.msr_kinds.specs.declared.kinds.Kind.{Kind}
-use Rattle.msr_kinds.specs.declared.kinds.Kind.TheVariants.{Int16, Int24, Int32, Steim1, Steim2}
-use Rattle.msr_kinds.specs.Storage.{storage_of}
+use Rattle.msr_base.specs.declared.kinds.Kind.{Kind}
+use Rattle.msr_base.specs.declared.kinds.Kind.TheVariants.{Int16, Int24, Int32, Steim1, Steim2}
+use Rattle.msr_base.specs.Storage.{storage_of}
 use Rattle.msr_rows.specs.declared.reading.Opened.{Opened}
 use Rattle.msr_rows.specs.declared.row.Row.{Row}
 use Rattle.msr_rows.specs.declared.row.Record.{Record}

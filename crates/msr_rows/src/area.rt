@@ -3,8 +3,7 @@ ghost use Rattle.std.specs.Prelude.{◌≡◌, ◌≢◌, ◌≤◌, ◌-◌, �
 ghost use Rattle.msr_rows.specs.Area.{Carries, AreaHasFault, ReverseAgreesIfAny};
 
 use crate::fault::FaultKind;
-use msr_base::{Order, SampleVec};
-use msr_kinds::Storage;
+use msr_base::{Order, SampleVec, Storage};
 use msr_plain::{PlainFault, decode_plain_into};
 use msr_steim::{Decoded, SteimFault, decode_steim_into};
 

@@ -10,9 +10,8 @@ ghost use Rattle.msr_base.specs.Faults.{first_fault};
 use crate::area::decode_area;
 use crate::fault::FaultKind;
 use crate::row::{Key, Record, Row};
-use msr_base::SampleVec;
+use msr_base::{Kind, SampleVec};
 use msr_header::{Header, read_header, record_length};
-use msr_kinds::Kind;
 use msr_time::{Rate, is_instant};
 use std::alloc::Global;
 

@@ -1,6 +1,5 @@
 //! What a record says: its key, where it begins, and its samples.
-use msr_base::SampleVec;
-use msr_kinds::Kind;
+use msr_base::{Kind, SampleVec};
 use msr_time::Rate;
 
 /// What a record says of its channel and of all its samples, apart from their times and values

@@ -6,8 +6,7 @@ ghost use Rattle.msr_steim.specs.Area.{CarriesSteim, ReverseAgrees as FramesAgre
 ghost use Rattle.msr_rows.specs.Area.{Carries, AreaHasFault, ReverseAgreesIfAny};
 
 use crate::fault::FaultKind;
-use msr_base::Order;
-use msr_kinds::{Storage, Version};
+use msr_base::{Order, Storage, Version};
 use msr_plain::{PlainSamples, plain_samples};
 use msr_steim::{SteimFault, SteimSamples, steim_samples};
 use std::marker::Model;

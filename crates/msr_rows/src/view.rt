@@ -8,8 +8,8 @@ use crate::fault::FaultKind;
 use crate::reading::{area_of, open_record, place_in_time};
 use crate::row::Key;
 use crate::samples::{Samples, view_area};
+use msr_base::Kind;
 use msr_header::Header;
-use msr_kinds::Kind;
 use std::marker::Model;
 
 /// The row of a record, whose samples are still in its bytes.

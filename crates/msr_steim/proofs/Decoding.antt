@@ -7,7 +7,7 @@ use Rattle.std.proofs.Math.Seq.{get_or-append_seam}
 use Rattle.std.proofs.lemmas.Bool.{cases_lt}
 use Rattle.std.proofs.lemmas.Grind.{flat_map-append}
 use Rattle.msr_base.specs.declared.order.Order.{Order}
-use Rattle.msr_kinds.specs.declared.storage.Version.{Version}
+use Rattle.msr_base.specs.declared.storage.Version.{Version}
 use Rattle.msr_steim.specs.Area.{CarriesSteim, FirstWordsHold, WordHolds, constant, joined_groups, samples_of, sums_after, word_count}
 
 pub sums_after_push : (x : ℤ) (es : List ℤ) (d : ℤ) → sums_after x (es ++ d ∷ []) ≡ sums_after x es

@@ -19,8 +19,8 @@ use Rattle.std.proofs.lemmas.Grind.{flat_map-append}
 use Rattle.byteorder.specs.Endian.{big_bytes, big_number}
 use Rattle.byteorder.specs.Numbers.{big_number-reads_back}
 use Rattle.msr_base.specs.declared.order.Order.TheVariants.{Big}
-use Rattle.msr_kinds.specs.declared.storage.Version.{Version}
-use Rattle.msr_kinds.specs.declared.storage.Version.TheVariants.{One, Two}
+use Rattle.msr_base.specs.declared.storage.Version.{Version}
+use Rattle.msr_base.specs.declared.storage.Version.TheVariants.{One, Two}
 use Rattle.msr_steim.specs.Word.{AreGroups, FitsBits, Holds, IsGroup, IsInnerGroup, IsWordOf, as_read, layout_of, group_code, group_width, group_word, joined_fields, padding_of}
 use Rattle.msr_steim.specs.Area.{CarriesSteim, FirstWordsHold, ReverseAgrees, WordHolds, arranged_word, constant, joined_groups, samples_of, sums_after, whole_word, word_code}
 use Rattle.msr_steim.specs.Frames.{code_in, codes_word, differences_after, frame_bytes, frame_word, frame_words, group_in}

@@ -11,8 +11,8 @@ use Rattle.std.proofs.lemmas.Simd.{length-chunk}
 use Rattle.byteorder.specs.Endian.{big_number}
 use Rattle.msr_base.specs.declared.order.Order.{Order}
 use Rattle.msr_base.specs.declared.order.Order.TheVariants.{Big, Little}
-use Rattle.msr_kinds.specs.declared.storage.Version.{Version}
-use Rattle.msr_kinds.specs.declared.storage.Version.TheVariants.{One, Two}
+use Rattle.msr_base.specs.declared.storage.Version.{Version}
+use Rattle.msr_base.specs.declared.storage.Version.TheVariants.{One, Two}
 use Rattle.msr_steim.specs.declared.sums.Progress.{Progress}
 use Rattle.msr_steim.specs.Area.{FirstWordsHold, WordHolds, constant, joined_groups, samples_of, sums_after, whole_word, word_code, word_count}
 use Rattle.msr_steim.specs.InOrder.{BeginsAfter, differences_from}

@@ -10,7 +10,7 @@ use Rattle.std.proofs.lemmas.Simd.{swz_l, length-swz_l}
 use lib.Lanes.{Each1, zip2, number_l, digits_l}
 use lib.Signed.{shr_z}
 use mir.Val.{zeroes}
-use Rattle.msr_kinds.specs.declared.storage.Version.TheVariants.{Two}
+use Rattle.msr_base.specs.declared.storage.Version.TheVariants.{Two}
 use Rattle.msr_steim.specs.Word.{FitsBits, layout_of, numbers_in, signed_of}
 use Rattle.msr_steim.proofs.Shifts.{lifted, lowered, signed_fits}
 

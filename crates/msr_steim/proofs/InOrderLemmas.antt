@@ -4,7 +4,7 @@ use Rattle.std.specs.Int.{int_wrap}
 use Rattle.std.proofs.Math.Nat.{pow-zero, mod-lt}
 use Rattle.msr_base.specs.declared.order.Order.{Order}
 use Rattle.msr_steim.specs.declared.borrowed.Fields.{Fields}
-use Rattle.msr_kinds.specs.declared.storage.Version.{Version}
+use Rattle.msr_base.specs.declared.storage.Version.{Version}
 use Rattle.msr_steim.specs.Area.{IsUndefined, arranged_word, samples_of, sums_after, word_code, word_count}
 use Rattle.msr_steim.specs.InOrder.{HasFields, differences_from, differences_of, numbers_of, word_differences}
 use Rattle.msr_steim.specs.Word.{AreFields, numbers_in, signed_of}

@@ -14,7 +14,7 @@ use Rattle.msr_steim.specs.Area.{sums_after}
 use Rattle.msr_steim.specs.Sums.{IsGroupWritten, sums_from}
 use Rattle.msr_steim.specs.Word.{FitsBits, layout_of, numbers_in}
 use Rattle.msr_steim.specs.declared.sums.Progress.{Progress}
-use Rattle.msr_kinds.specs.declared.storage.Version.TheVariants.{Two}
+use Rattle.msr_base.specs.declared.storage.Version.TheVariants.{Two}
 use Rattle.msr_steim.proofs.Decoding.{length-sums_after}
 use Rattle.msr_steim.proofs.InLanes.{HasThree, by_key}
 use Rattle.msr_steim.proofs.Shifts.{length-numbers_in, numbers_fit}

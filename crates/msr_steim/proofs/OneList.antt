@@ -6,8 +6,8 @@ use Rattle.std.specs.Int.Digits.{number_from_digits_after}
 use Rattle.std.proofs.lemmas.List.{length-map}
 use Rattle.std.proofs.lemmas.Nat.{same_from_place}
 use Rattle.msr_steim.specs.declared.word.WordLayout.{WordLayout}
-use Rattle.msr_kinds.specs.declared.storage.Version.{Version}
-use Rattle.msr_kinds.specs.declared.storage.Version.TheVariants.{One, Two}
+use Rattle.msr_base.specs.declared.storage.Version.{Version}
+use Rattle.msr_base.specs.declared.storage.Version.TheVariants.{One, Two}
 use Rattle.msr_steim.specs.Word.{AreFields, FitsBits, Holds, IsUndefinedWord, layout_of, joined_fields, twos_complement}
 use Rattle.std.proofs.Math.Nat.{pow-zero, pow-suc}
 use Rattle.msr_steim.proofs.Fields.{power_is_half, joined_fields_lt, pow_pow}

@@ -6,7 +6,7 @@ use Rattle.std.proofs.lemmas.Bool.{cases_lt}
 use Rattle.std.proofs.lemmas.Grind.{flat_map-append}
 use Rattle.std.proofs.lemmas.List.{take-append-drop, take-append-le, length-take, get_or-take}
 use Rattle.msr_base.specs.declared.order.Order.{Order}
-use Rattle.msr_kinds.specs.declared.storage.Version.{Version}
+use Rattle.msr_base.specs.declared.storage.Version.{Version}
 use Rattle.msr_steim.specs.Area.{CarriesSteim, EndsBefore, FirstWordsHold, IsUndefined, IsUndefinedBefore, arranged_word, constant, joined_groups, samples_of, sums_after, word_code}
 use Rattle.msr_steim.proofs.OneList.{holds_one, undefined_holds_none}
 use Rattle.msr_steim.proofs.Decoding.{length-samples_of}

@@ -7,8 +7,8 @@ use Rattle.std.proofs.Math.Nat.{pow-zero, mod-lt}
 use Rattle.std.proofs.lemmas.Bool.{cases_lt}
 use Rattle.std.proofs.lemmas.List.{take_more, take_all, length-take, append-nil}
 use Rattle.msr_steim.specs.declared.sums.Progress.{Progress}
-use Rattle.msr_kinds.specs.declared.storage.Version.{Version}
-use Rattle.msr_kinds.specs.declared.storage.Version.TheVariants.{Two}
+use Rattle.msr_base.specs.declared.storage.Version.{Version}
+use Rattle.msr_base.specs.declared.storage.Version.TheVariants.{Two}
 use Rattle.msr_steim.specs.Area.{sums_after}
 use Rattle.msr_steim.specs.Sums.{IsGroupWritten, IsInnerWritten, IsWritten, ReachesEnd}
 use Rattle.msr_steim.specs.Word.{AreFields, FitsBits, Holds, layout_of, numbers_in}

@@ -5,7 +5,7 @@ use Rattle.std.specs.List.{AllByRecursion}
 use Rattle.std.proofs.lemmas.List.{length-replicate}
 use Rattle.msr_steim.specs.declared.word.GroupLayout.{GroupLayout}
 use Rattle.msr_steim.specs.declared.word.WordLayout.{WordLayout}
-use Rattle.msr_kinds.specs.declared.storage.Version.{Version}
+use Rattle.msr_base.specs.declared.storage.Version.{Version}
 use Rattle.msr_steim.specs.Word.{AreFields, FitsBits, HasNoOtherBits, Holds, IsLayoutFor, IsWordOf, as_read, layout_of, group_top, group_width, group_word, joined_fields}
 use Rattle.msr_steim.proofs.Fields.{joined_fields_lt, joined_fields_zeros, all_fit_zeros}
 

@@ -4,8 +4,8 @@ use Rattle.std.specs.Int.{int_wrap, cast_signed, w32}
 use Rattle.byteorder.specs.Endian.{big_number, little_number}
 use Rattle.msr_base.specs.declared.order.Order.{Order}
 use Rattle.msr_base.specs.declared.order.Order.TheVariants.{Big, Little}
-use Rattle.msr_kinds.specs.declared.storage.Version.{Version}
-use Rattle.msr_kinds.specs.declared.storage.Version.TheVariants.{One, Two}
+use Rattle.msr_base.specs.declared.storage.Version.{Version}
+use Rattle.msr_base.specs.declared.storage.Version.TheVariants.{One, Two}
 use Rattle.msr_steim.specs.Word.{Holds, IsUndefinedWord}
 use Rattle.msr_steim.specs.declared.area.SteimFault.{SteimFault}
 use Rattle.msr_steim.specs.declared.area.SteimFault.TheVariants.{DataShort, BadCode, Memory}

@@ -4,7 +4,7 @@ use Rattle.std.specs.Iterator.{YieldsFirst}
 use Rattle.msr_base.specs.declared.order.Order.{Order}
 use Rattle.msr_steim.specs.declared.borrowed.Fields.{Fields}
 use Rattle.msr_steim.specs.declared.word.WordLayout.{WordLayout}
-use Rattle.msr_kinds.specs.declared.storage.Version.{Version}
+use Rattle.msr_base.specs.declared.storage.Version.{Version}
 use Rattle.msr_steim.specs.Area.{CarriesSteim, ReverseAgrees, arranged_word, constant, samples_of, sums_after, word_code, word_count}
 use Rattle.msr_steim.specs.Word.{layout_of, numbers_in}
 

@@ -1,7 +1,7 @@
 -- The samples that one word gives, and the sums of a few numbers.
 use Rattle.std.specs.Prelude.{◌≡◌, ◌<◌, ◌≤◌, ◌⊎◌, ℕ, ◌+◌, ◌-◌, ℤ, pos, ◌+ℤ◌, List, [], ◌∷◌, ◌++◌, length, take, slice_index_or}
 use Rattle.msr_steim.specs.declared.sums.Progress.{Progress}
-use Rattle.msr_kinds.specs.declared.storage.Version.{Version}
+use Rattle.msr_base.specs.declared.storage.Version.{Version}
 use Rattle.msr_steim.specs.Area.{sums_after}
 use Rattle.msr_steim.specs.Word.{Holds, numbers_in}
 

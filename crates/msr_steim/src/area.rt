@@ -2,15 +2,14 @@
 
 ghost use Rattle.std.specs.Prelude.{◌≡◌, ◌≢◌, ◌<◌, ◌≤◌, ◌↔◌, ℕ, ℤ, List, ◌+◌, ◌-◌, ◌*◌, IfErr, IfOk, IsTrue, OnOk, Some, length, slice_get};
 ghost use Rattle.msr_base.specs.declared.order.Order.{Order};
-ghost use Rattle.msr_kinds.specs.declared.storage.Version.{Version};
+ghost use Rattle.msr_base.specs.declared.storage.Version.{Version};
 ghost use Rattle.msr_steim.specs.Area.{CarriesSteim, EndsBefore, HasFault, IsUndefinedBefore, ReverseAgrees, arranged_word, constant, whole_word};
 
 use crate::borrowed::before_first;
 use crate::fours::write_sixteen;
 use crate::sums::{Progress, write_last_word, write_next_word};
 use byteorder::{BigEndian, ByteOrder, LittleEndian};
-use msr_base::{Order, SampleVec};
-use msr_kinds::Version;
+use msr_base::{Order, SampleVec, Version};
 use std::alloc::{AllocError, Global};
 use thiserror::Error;
 

@@ -9,8 +9,7 @@ ghost use Rattle.msr_steim.specs.Word.{numbers_in};
 use crate::area::{SteimFault, arranged_word_at, constant_at, whole_word_at};
 use crate::carried::check_area;
 use crate::word::{difference_at, layout_for};
-use msr_base::Order;
-use msr_kinds::Version;
+use msr_base::{Order, Version};
 use std::alloc::AllocError;
 use std::marker::Model;
 

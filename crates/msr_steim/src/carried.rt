@@ -12,8 +12,7 @@ use crate::area::{
 use crate::borrowed::before_first;
 use crate::fours::write_sixteen;
 use crate::sums::{Progress, write_next_word};
-use msr_base::Order;
-use msr_kinds::Version;
+use msr_base::{Order, Version};
 
 /// Reads word after word until it has seen `count` samples; it keeps the samples of one word at a time. `MIXED` and
 /// `FOURS` are as of `decode_words`. Inlined with literals for version and order, each word is read without a test of them.

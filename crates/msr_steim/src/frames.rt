@@ -3,14 +3,14 @@
 ghost use Rattle.std.specs.Prelude.{◌≡◌, ◌<◌, ◌≤◌, ℕ, ℤ, List, ◌+◌, ◌-◌, ◌*◌, ◌/◌, ◌%◌, ◌^◌, [], All, FitsSigned, MatchOption, Some, length, map, pos, slice_get, slice_index_or};
 ghost use Rattle.std.specs.Int.{w32};
 ghost use Rattle.msr_base.specs.declared.order.Order.{Order};
-ghost use Rattle.msr_kinds.specs.declared.storage.Version.{Version};
+ghost use Rattle.msr_base.specs.declared.storage.Version.{Version};
 ghost use Rattle.msr_steim.specs.Area.{CarriesSteim, ReverseAgrees, constant, joined_groups};
 ghost use Rattle.msr_steim.specs.Word.{AreGroups, group_word};
 ghost use Rattle.msr_steim.specs.Frames.{code_in, codes_word, differences_after, frame_bytes, frame_word, group_in};
 
 use crate::word::{Group, write_word};
 use byteorder::{BigEndian, ByteOrder};
-use msr_kinds::Version;
+use msr_base::Version;
 
 /// The group in the word with this number, if it has one.
 fn group_in(groups: &[Group], number: usize) -> Option<&Group>

@@ -5,7 +5,7 @@ ghost use Rattle.std.specs.List.{AllByRecursion};
 ghost use Rattle.msr_steim.specs.Word.{FitsBits, IsGroupAt, group_width};
 
 use crate::word::layout_of_group;
-use msr_kinds::Version;
+use msr_base::Version;
 
 /// How many bits each difference of a group of `count` differences has; `None` if there is no such group.
 pub fn group_width(version: Version, count: usize) -> Option<u32>

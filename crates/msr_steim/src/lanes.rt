@@ -7,7 +7,7 @@ ghost use Rattle.std.specs.Prelude.{◌≡◌, ◌<◌, ◌≤◌, ◌+◌, ◌/
 ghost use Rattle.std.specs.List.{AllByRecursion};
 ghost use Rattle.msr_steim.specs.Sums.{IsGroupWritten, sums_from};
 ghost use Rattle.msr_steim.specs.Word.{FitsBits, layout_of, numbers_in};
-ghost use Rattle.msr_kinds.specs.declared.storage.Version.TheVariants.{Two};
+ghost use Rattle.msr_base.specs.declared.storage.Version.TheVariants.{Two};
 
 use crate::sums::Progress;
 use std::simd::prelude::*;

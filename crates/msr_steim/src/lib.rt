@@ -16,5 +16,5 @@ pub use area::{Decoded, SteimFault, decode_steim, decode_steim_into, one_outcome
 pub use borrowed::{SteimSamples, steim_samples};
 pub use frames::{fill_steim, filled_area_carries};
 pub use group::{all_fit_bits, fits_bits, group_width, is_group};
-pub use msr_kinds::Version;
+pub use msr_base::Version;
 pub use word::{BadCode, Group, holds_one_list, read_word, write_word};

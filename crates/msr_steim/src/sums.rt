@@ -7,7 +7,7 @@ ghost use Rattle.msr_steim.specs.Word.{IsUndefinedWord, numbers_in, signed_of};
 
 use crate::lanes::{has_lanes, write_lanes};
 use crate::word::{difference_at, layout_for};
-use msr_kinds::Version;
+use msr_base::Version;
 
 /// How far the samples are written.
 #[derive(Clone, Copy)]

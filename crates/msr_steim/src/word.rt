@@ -2,11 +2,11 @@
 
 ghost use Rattle.std.specs.Prelude.{◌≡◌, ◌<◌, ◌≤◌, ℕ, ◌+◌, ◌*◌, ◌/◌, ◌%◌, ◌^◌, ◌↔◌, ℤ, List, IfOk, IsErr, IsSome, IfSome, MatchOption, Some, None, length};
 ghost use Rattle.msr_steim.specs.Word.{AreFields, FitsBits, HasNoOtherBits, Holds, IsGroup, IsLayoutFor, IsUndefinedWord, as_read, layout_of, group_code, group_top, group_width, group_word, joined_fields, signed_of, twos_complement};
-ghost use Rattle.msr_kinds.specs.declared.storage.Version.{Version};
+ghost use Rattle.msr_base.specs.declared.storage.Version.{Version};
 ghost use Rattle.std.specs.List.{AllByRecursion};
 
 use arrayvec::ArrayVec;
-use msr_kinds::Version;
+use msr_base::Version;
 use thiserror::Error;
 
 /// The differences of one word.

@@ -5,7 +5,7 @@ use Rattle.msr_base.specs.declared.counts.Counts.{Counts}
 use Rattle.msr_report.specs.declared.report.Report.{Report}
 use Rattle.msr_input.specs.declared.fault.Fault.{Fault}
 use Rattle.msr_input.specs.Input.{AllAgree, OneListOfRecords, OneFirstFault, ReadableHasNoFault, counts_of}
-use Rattle.msr_output.specs.Output.{OneOutput}
+use Rattle.msr_record.specs.Output.{OneOutput}
 use Rattle.msr_tool.specs.Answer.{Answers, IsRepacked}
 use Rattle.msr_tool.specs.Listing.{ListAnswers}
 use Rattle.msr_tool.specs.declared.fault.ToolFault.{ToolFault}

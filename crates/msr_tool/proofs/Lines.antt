@@ -4,7 +4,7 @@ use Rattle.std.specs.Prelude.{option_map}
 use Rattle.std.specs.Option.{option_to_list}
 use Rattle.std.proofs.lemmas.List.{map-append, append-nil}
 use Rattle.std.proofs.lemmas.List.Elements.{All-push}
-use Rattle.msr_kinds.specs.declared.forms.Form.{Form}
+use Rattle.msr_base.specs.declared.forms.Form.{Form}
 use Rattle.msr_rows.specs.declared.row.Row.{Row}
 use Rattle.msr_segments.specs.declared.joiner.Segment.{Segment}
 use Rattle.msr_segments.specs.declared.span.Span.{Span}
@@ -18,15 +18,15 @@ use Rattle.msr_input.specs.Rows.{StepsTo}
 use Rattle.msr_input.specs.Steps.{CanJoin}
 use Rattle.msr_input.specs.declared.row_reader.NextRow.{NextRow}
 use Rattle.msr_report_reader.specs.Content.{IsContentLine, content_line}
-use Rattle.msr_output.specs.Opened.{Opened, CanGoOn, HasBegun, count_of}
-use Rattle.msr_output.specs.Output.{Packed, segment_of_packed, count_of_runs}
-use Rattle.msr_output.specs.Writing.{Writing, IsLineOf, HasWritten, HasWrittenAll, HasWrittenPrefix, WritesSegment, StopsWriting}
+use Rattle.msr_record.specs.Opened.{Opened, CanGoOn, HasBegun, count_of}
+use Rattle.msr_record.specs.Output.{Packed, segment_of_packed, count_of_runs}
+use Rattle.msr_record.specs.Writing.{Writing, IsLineOf, HasWritten, HasWrittenAll, HasWrittenPrefix, WritesSegment, StopsWriting}
 use Rattle.msr_devices.specs.declared.fault.DeviceFault.{DeviceFault}
 use Rattle.msr_devices.specs.declared.fault.DeviceFault.TheVariants as write
 use Rattle.msr_tool.specs.Fault.{fault_of_writing}
-use Rattle.msr_output.specs.Decided.{IsEncoded}
-use Rattle.msr_output.proofs.OpenSegments.{packs_count, refused_now, writable_now}
-use Rattle.msr_output.proofs.DecidedRecords.{HasWrittenDecided, begun_decided, written_decided}
+use Rattle.msr_record.specs.Decided.{IsEncoded}
+use Rattle.msr_record.proofs.OpenSegments.{packs_count, refused_now, writable_now}
+use Rattle.msr_record.proofs.DecidedRecords.{HasWrittenDecided, begun_decided, written_decided}
 use Rattle.msr_tool.specs.Writing.{Lined, HasLined, LinesMore, StandsWritten, GoesOn, CanGrow, CanTakeRow, StopsLining, StopsSink}
 use Rattle.msr_tool.specs.Answer.{AreLinesOf}
 use Rattle.msr_tool.specs.declared.fault.ToolFault.{ToolFault}

@@ -3,7 +3,7 @@ use Rattle.std.proofs.Common.{◌≡◌, ◌⊎◌, inl, inr, ℕ, ◌*◌, ◌^
 use Rattle.std.proofs.Math.Nat.{mul-le-mul_right}
 use Rattle.std.proofs.lemmas.List.Elements.{All-cons, All-head, All-nil, All-tail}
 use Rattle.std.specs.Option.{option_to_list}
-use Rattle.msr_kinds.specs.Lengths.{bytes_of}
+use Rattle.msr_base.specs.Lengths.{bytes_of}
 use Rattle.msr_segments.specs.declared.joiner.Segment.{Segment}
 use Rattle.msr_segments.specs.Joining.{Joining}
 use Rattle.msr_devices.specs.Device.{Device, IsCalm}
@@ -19,8 +19,8 @@ use Rattle.msr_input.specs.Records.{HaveComeShort}
 use Rattle.msr_input.specs.Rows.{RowReading}
 use Rattle.msr_input.specs.declared.fault.ReadFault.{ReadFault}
 use Rattle.msr_input.specs.declared.fault.ReadFault.TheVariants as read
-use Rattle.msr_output.specs.Output.{Packed, OutputKeepsSegments, OutputHasSize, segment_of_packed, count_of_runs}
-use Rattle.msr_output.specs.Decided.{IsEncoded}
+use Rattle.msr_record.specs.Output.{Packed, OutputKeepsSegments, OutputHasSize, segment_of_packed, count_of_runs}
+use Rattle.msr_record.specs.Decided.{IsEncoded}
 use Rattle.msr_options.specs.Choice.{Choice, form_chosen, record_size}
 use Rattle.msr_tool.specs.Settings.{settings_of}
 use Rattle.msr_tool.specs.Writing.{Lined, GoesOn, HasLined, LinesAll}

@@ -1,7 +1,7 @@
 -- What was repacked is shown by each report that its report's text is that of.
 use Rattle.std.proofs.Common.{◌≡◌, ◌∙◌, refl, sym, ap, ◌≢◌, ℕ, List, [], ◌∷◌, map, length, Result, Ok, Err}
-use Rattle.msr_kinds.specs.Lengths.{bytes_of}
-use Rattle.msr_kinds.specs.declared.forms.Form.{Form}
+use Rattle.msr_base.specs.Lengths.{bytes_of}
+use Rattle.msr_base.specs.declared.forms.Form.{Form}
 use Rattle.msr_words.specs.Fit.{records_of}
 use Rattle.msr_segments.specs.Segments.{Part}
 use Rattle.msr_report.specs.declared.report.SegmentLine.{SegmentLine}

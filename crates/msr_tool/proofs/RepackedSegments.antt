@@ -3,8 +3,8 @@ use Rattle.std.proofs.Common.{◌≡◌, ◌∙◌, ℕ, ◌^◌, ◌≤◌, lit
 use Rattle.std.proofs.Math.Nat.{pow-le-pow_right}
 use Rattle.std.proofs.lemmas.List.{drop_at}
 use Rattle.std.specs.List.{flat_map}
-use Rattle.msr_kinds.specs.Lengths.{bytes_of}
-use Rattle.msr_kinds.specs.RecordLength.{IsRecordLength}
+use Rattle.msr_base.specs.Lengths.{bytes_of}
+use Rattle.msr_base.specs.RecordLength.{IsRecordLength}
 use Rattle.msr_header.specs.Reading.{header_of}
 use Rattle.msr_header.specs.declared.header.Header.{Header}
 use Rattle.msr_rows.specs.Records.{IsRecordOf, IsRowOf, RowIsInTime}
@@ -15,7 +15,7 @@ use Rattle.msr_rows.proofs.OneAnswer.{one_record, one_row}
 use Rattle.msr_segments.proofs.DivisionLaws.{one_list}
 use Rattle.msr_input.specs.Input.{BeginsWith, OneListOfRecords, rows_of_records}
 use Rattle.msr_input.proofs.Records.{nothing_begins}
-use Rattle.msr_output.specs.Output.{AreWritten, Cut, cuts_of, next_number, segment_of_packed}
+use Rattle.msr_record.specs.Output.{AreWritten, Cut, cuts_of, next_number, segment_of_packed}
 use Rattle.msr_tool.specs.Repacked.{ReadableHasSegments, RepackedHasSegments}
 use Rattle.msr_options.specs.Choice.{form_chosen}
 use Rattle.msr_tool.proofs.ShownRows.{record_of, records_rows}

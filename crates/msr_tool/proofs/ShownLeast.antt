@@ -6,7 +6,7 @@ use Rattle.std.proofs.lemmas.List.Elements.{All-head}
 use Rattle.std.specs.Prelude.{All}
 use Rattle.std.specs.Option.{option_to_list}
 use Rattle.msr_time.specs.SampleRate.{IsRoundedNominal}
-use Rattle.msr_kinds.specs.Lengths.{bytes_of}
+use Rattle.msr_base.specs.Lengths.{bytes_of}
 use Rattle.msr_rows.specs.declared.row.Row.{Row}
 use Rattle.msr_rows.specs.declared.row.Record.{Record}
 use Rattle.msr_segments.specs.Spans.{EndsOutOfRange}
@@ -14,9 +14,9 @@ use Rattle.msr_segments.specs.Segments.{Part, segment_of, segment_span, IsDivisi
 use Rattle.msr_segments.specs.declared.joiner.Segment.{Segment}
 use Rattle.msr_segments.proofs.Histories.{no_segments}
 use Rattle.msr_input.specs.Input.{AreRead, IsReadable, NoneOverruns, OneListOfRecords, mismatch_count, rows_of_records}
-use Rattle.msr_output.specs.Output.{cuts_of, segment_of_packed}
-use Rattle.msr_output.proofs.Existing.{all_right}
-use Rattle.msr_output.proofs.Times.{nominal_within}
+use Rattle.msr_record.specs.Output.{cuts_of, segment_of_packed}
+use Rattle.msr_record.proofs.Existing.{all_right}
+use Rattle.msr_record.proofs.Times.{nominal_within}
 use Rattle.msr_options.specs.Choice.{Choice, form_chosen}
 use Rattle.msr_tool.specs.Settings.{settings_of}
 use Rattle.msr_report.specs.declared.report.Report.{Report}

@@ -3,8 +3,8 @@ use Rattle.std.proofs.Common.{◌≡◌, ℕ, ◌+◌, ◌-◌, List, [], ◌∷
 use Rattle.std.specs.List.{flat_map}
 use Rattle.std.specs.Prelude.{All}
 use Rattle.std.proofs.lemmas.List.Elements.{All-head, All-tail}
-use Rattle.msr_kinds.specs.declared.forms.Form.{Form}
-use Rattle.msr_kinds.specs.Lengths.{bytes_of}
+use Rattle.msr_base.specs.declared.forms.Form.{Form}
+use Rattle.msr_base.specs.Lengths.{bytes_of}
 use Rattle.msr_words.proofs.Runs.{same_run}
 use Rattle.msr_words.specs.declared.kinds.Run.{Run}
 use Rattle.msr_words.specs.Packing.{Joins}
@@ -12,10 +12,10 @@ use Rattle.msr_rows.specs.declared.row.Row.{Row}
 use Rattle.msr_segments.specs.declared.joiner.Segment.{Segment}
 use Rattle.msr_segments.specs.Segments.{Part, rows_of, segment_of}
 use Rattle.msr_report.specs.declared.report.SegmentLine.{SegmentLine}
-use Rattle.msr_output.specs.Output.{Packed, IsPacked, AreWritten, next_number, number_after, cuts_at, cuts_of, segment_of_packed}
-use Rattle.msr_output.specs.Writing.{IsLineOf}
-use Rattle.msr_output.proofs.CutRows.{IsFitting, written_split}
-use Rattle.msr_output.proofs.Existing.{all_left, all_right}
+use Rattle.msr_record.specs.Output.{Packed, IsPacked, AreWritten, next_number, number_after, cuts_at, cuts_of, segment_of_packed}
+use Rattle.msr_record.specs.Writing.{IsLineOf}
+use Rattle.msr_record.proofs.CutRows.{IsFitting, written_split}
+use Rattle.msr_record.proofs.Existing.{all_left, all_right}
 use Rattle.msr_verdict.specs.Packed.{runs_of_rows, IsShownAs, IsShownBy, AreShownBy}
 use Rattle.msr_verdict.specs.Agreements.{samples_of_rows}
 use Rattle.msr_verdict.proofs.Runs.{segment_samples}

@@ -5,7 +5,7 @@ use Rattle.std.specs.Prelude.{All, slice_range}
 use Rattle.std.proofs.lemmas.List.{drop_at}
 use Rattle.std.proofs.lemmas.List.Elements.{All-append, All-cons, All-head, All-map, All-nil, All-tail}
 use Rattle.msr_time.specs.Instant.{IsInstant}
-use Rattle.msr_kinds.specs.declared.forms.Form.{Form}
+use Rattle.msr_base.specs.declared.forms.Form.{Form}
 use Rattle.msr_rows.specs.Records.{IsInTime, RowIsInTime}
 use Rattle.msr_rows.specs.declared.row.Row.{Row}
 use Rattle.msr_rows.specs.declared.row.Record.{Record}
@@ -13,8 +13,8 @@ use Rattle.msr_segments.specs.declared.joiner.Segment.{Segment}
 use Rattle.msr_report.specs.Proper.{IsProperLine}
 use Rattle.msr_report.specs.declared.report.SegmentLine.{SegmentLine}
 use Rattle.msr_input.specs.Input.{BeginsWith, rows_of_records}
-use Rattle.msr_output.specs.Output.{Packed, IsPacked, IsRowOfRun, Cut, AreWritten, next_number, cuts_of, segment_of_packed}
-use Rattle.msr_output.proofs.Times.{nominal_within}
+use Rattle.msr_record.specs.Output.{Packed, IsPacked, IsRowOfRun, Cut, AreWritten, next_number, cuts_of, segment_of_packed}
+use Rattle.msr_record.proofs.Times.{nominal_within}
 use Rattle.msr_verdict.specs.Packed.{IsFull}
 use Rattle.msr_tool.specs.Answer.{AreLinesOf}
 use Rattle.msr_tool.specs.Shown.{EndsBeforeTheLast}

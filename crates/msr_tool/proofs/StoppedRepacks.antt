@@ -7,7 +7,7 @@ use Rattle.msr_input.specs.Reading.{StopsAfter, StopsReading}
 use Rattle.msr_input.specs.declared.settings.Settings.{Settings}
 use Rattle.msr_input.specs.declared.fault.ReadFault.{ReadFault}
 use Rattle.msr_input.specs.declared.fault.ReadFault.TheVariants as read
-use Rattle.msr_output.specs.Writing.{HasWrittenPrefix}
+use Rattle.msr_record.specs.Writing.{HasWrittenPrefix}
 use Rattle.msr_options.specs.Choice.{Choice, form_chosen}
 use Rattle.msr_tool.specs.Settings.{settings_of}
 use Rattle.msr_tool.specs.Fault.{ReadsAndWrites, fault_of_reading}

@@ -10,8 +10,8 @@ use Rattle.msr_report.specs.declared.report.Report.{Report}
 use Rattle.msr_report_reader.specs.Content.{IsContent, content_of}
 use Rattle.msr_input.specs.declared.fault.Fault.{Fault}
 use Rattle.msr_input.specs.Input.{AreRead, IsReadable, IsFirstFault, rows_of_records, counts_of}
-use Rattle.msr_output.specs.Writing.{IsLineOf}
-use Rattle.msr_output.specs.Output.{Packed, IsOutput, IsPrefixOfOutput, segment_of_packed}
+use Rattle.msr_record.specs.Writing.{IsLineOf}
+use Rattle.msr_record.specs.Output.{Packed, IsOutput, IsPrefixOfOutput, segment_of_packed}
 use Rattle.msr_options.specs.Choice.{Choice, form_chosen}
 use Rattle.msr_tool.specs.Settings.{settings_of}
 use Rattle.msr_tool.specs.declared.fault.ToolFault.{ToolFault}

@@ -6,7 +6,7 @@ use Rattle.msr_segments.specs.Segments.{AreSegments}
 use Rattle.msr_segments.specs.declared.joiner.Segment.{Segment}
 use Rattle.msr_input.specs.Input.{AreRead, bytes_of_records, rows_of_records}
 use Rattle.msr_input.specs.Reading.{HoldsRecord}
-use Rattle.msr_output.specs.Decided.{IsDecidedOutput}
+use Rattle.msr_record.specs.Decided.{IsDecidedOutput}
 use Rattle.msr_options.specs.Choice.{Choice, form_chosen}
 use Rattle.msr_tool.specs.Settings.{settings_of}
 

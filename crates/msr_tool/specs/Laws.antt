@@ -8,7 +8,7 @@ use Rattle.msr_report.specs.declared.report.Report.{Report}
 use Rattle.msr_input.specs.Input.{IsReadable}
 use Rattle.msr_input.specs.declared.settings.Settings.{Settings}
 use Rattle.msr_input.specs.declared.fault.Fault.{Fault}
-use Rattle.msr_output.specs.Output.{Packed}
+use Rattle.msr_record.specs.Output.{Packed}
 use Rattle.msr_options.specs.Choice.{Choice, as_strict}
 use Rattle.msr_options.specs.declared.task.ListForm.{ListForm}
 use Rattle.msr_tool.specs.Settings.{settings_of}

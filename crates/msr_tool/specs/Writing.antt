@@ -1,7 +1,7 @@
 -- What writing the rows as segments with their lines does.
 use Rattle.std.specs.Prelude.{◌≡◌, ℕ, ◌+◌, ◌<◌, ◌≤◌, ◌^◌, false, ℤ, List, ◌++◌, length, map, All, Option, None, Some, IfSome}
 use Rattle.std.specs.Option.{option_to_list}
-use Rattle.msr_kinds.specs.declared.forms.Form.{Form}
+use Rattle.msr_base.specs.declared.forms.Form.{Form}
 use Rattle.msr_devices.specs.Device.{Device, HasFailed, IsSteady}
 use Rattle.msr_rows.specs.declared.row.Row.{Row}
 use Rattle.msr_segments.specs.Spans.{SpanIsInTime, span_of}
@@ -13,9 +13,9 @@ use Rattle.msr_input.specs.Reading.{IsWritable}
 use Rattle.msr_input.specs.declared.row_reader.NextRow.{NextRow}
 use Rattle.msr_report.specs.declared.report.SegmentLine.{SegmentLine}
 use Rattle.msr_report_reader.specs.Content.{IsContentLine, content_line}
-use Rattle.msr_output.specs.Opened.{Opened, CanGoOn, HasBegun, count_of, longer_by}
-use Rattle.msr_output.specs.Output.{Packed, segment_of_packed}
-use Rattle.msr_output.specs.Writing.{Writing, HasWritten, HasWrittenAll, HasWrittenPrefix}
+use Rattle.msr_record.specs.Opened.{Opened, CanGoOn, HasBegun, count_of, longer_by}
+use Rattle.msr_record.specs.Output.{Packed, segment_of_packed}
+use Rattle.msr_record.specs.Writing.{Writing, HasWritten, HasWrittenAll, HasWrittenPrefix}
 use Rattle.msr_tool.specs.Answer.{AreLinesOf}
 use Rattle.msr_tool.specs.declared.fault.ToolFault.{ToolFault}
 use Rattle.msr_tool.specs.declared.fault.ToolFault.TheVariants.{Input, Report, Read, Write, Memory}

@@ -4,7 +4,7 @@ ghost use Rattle.msr_tool.specs.Repacked.{ReadableHasSegments, RepackedHasSegmen
 ghost use Rattle.msr_tool.specs.Shown.{RepackedIsLeast, RepackedIsShown};
 
 use msr_input::{one_first_fault, one_list_of_records, readable_has_no_fault};
-use msr_output::one_output;
+use msr_record::one_output;
 use msr_report_reader::{one_report, text_is_read_back};
 use msr_verdict::shown_is_fewest;
 

@@ -18,12 +18,11 @@ pub use laws::{
     repacked_is_least, repacked_is_shown, strict_writes_the_same,
 };
 pub use list::list_segments;
-pub use msr_base::Counts;
+pub use msr_base::{Counts, Kinds, Length};
 pub use msr_devices::{
     Behavior, DeviceFault, FromRead, FromWrite, Sink, Source, TestSink, TestSource,
 };
 pub use msr_input::Fault;
-pub use msr_kinds::{Kinds, Length};
 pub use msr_options::{ListForm, Options};
 pub use msr_report::{Report, SegmentLine};
 pub use msr_report_reader::{ReportFault, read_report};

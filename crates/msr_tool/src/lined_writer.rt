@@ -1,9 +1,9 @@
 //! A writer of segments with their lines, which takes the rows.
 use crate::fault::ToolFault;
+use msr_base::Form;
 use msr_devices::Sink;
 use msr_input::NextRecord;
-use msr_kinds::Form;
-use msr_output::{OpenSegment, SegmentWriter};
+use msr_record::{OpenSegment, SegmentWriter};
 use msr_report::SegmentLine;
 use msr_report_reader::line_in_range;
 use msr_rows::Row;
@@ -35,9 +35,9 @@ impl LinedWriter {
     ghost use Rattle.msr_segments.specs.Segments.{row_segment};
     ghost use Rattle.msr_segments.specs.declared.joiner.Segment.{Segment};
     ghost use Rattle.msr_input.specs.Reading.{IsWritable};
-    ghost use Rattle.msr_output.specs.Decided.{IsEncoded};
-    ghost use Rattle.msr_output.specs.Opened.{empty_segment};
-    ghost use Rattle.msr_output.specs.Output.{Packed, segment_of_packed};
+    ghost use Rattle.msr_record.specs.Decided.{IsEncoded};
+    ghost use Rattle.msr_record.specs.Opened.{empty_segment};
+    ghost use Rattle.msr_record.specs.Output.{Packed, segment_of_packed};
     ghost use Rattle.msr_tool.specs.Writing.{CanGrow, CanTakeRow, GoesOn, HasLined, LinesAll, LinesMore, StopsLining, all_with, current_with, ended_with, longer_current};
 
     /// A writer before the first row.

@@ -15,7 +15,7 @@ use crate::lined_writer::LinedWriter;
 use msr_devices::{Sink, Source};
 use msr_input::{RowReader, Settings};
 use msr_options::Options;
-use msr_output::{output_has_size, output_keeps_segments};
+use msr_record::{output_has_size, output_keeps_segments};
 use msr_report::Report;
 use std::alloc::Global;
 

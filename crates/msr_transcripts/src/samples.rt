@@ -1,8 +1,8 @@
 //! Samples that are made into records.
 
 use crate::stage::Stage;
+use msr_base::{Kind, Length};
 use msr_fixtures::{START, key_at};
-use msr_kinds::{Kind, Length};
 use msr_record::encode_record;
 use msr_time::{Rate, is_instant};
 use msr_words::Fitting;

@@ -3,7 +3,7 @@ use Rattle.std.proofs.Common.{◌≡◌, ◌<◌, ℕ, false, List, sym, ◌∙�
 use Rattle.std.specs.declared.alloc.AllocError.{AllocError}
 use Rattle.msr_devices.specs.Device.{Device}
 use Rattle.msr_folders.proofs.WalkedLemmas.{goes_so, goes_then}
-use Rattle.msr_kinds.specs.declared.lengths.Length.{Length}
+use Rattle.msr_base.specs.declared.lengths.Length.{Length}
 use Rattle.msr_making.proofs.Sights.{tells_failed}
 use Rattle.msr_making.specs.declared.answer.DayFault.TheVariants.{CannotOpen, Gone, Listing}
 use Rattle.msr_options.specs.Choice.{Choice}

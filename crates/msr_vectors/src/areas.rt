@@ -5,8 +5,7 @@ ghost use Rattle.msr_steim.specs.Word.{AreGroups};
 
 use crate::line::Line;
 use crate::lists::{Hexadecimal, gives};
-use msr_base::{Order, SampleVec};
-use msr_kinds::{Version, Width};
+use msr_base::{Order, SampleVec, Version, Width};
 use msr_plain::{PlainFault, PlainSamples, decode_plain, decode_plain_into, plain_samples};
 use msr_steim::{
     Group, SteimFault, SteimSamples, decode_steim, decode_steim_into, fill_steim, group_width,

@@ -5,8 +5,8 @@ ghost use Rattle.msr_packer.specs.HeldSamples.{before_place};
 
 use crate::line::Line;
 use crate::lists::Hexadecimal;
+use msr_base::{Kind, Length};
 use msr_filling::{fill_steim1, fill_steim2, fill_steim2_told, steim2_words};
-use msr_kinds::{Kind, Length};
 use msr_words::Fitting;
 
 /// `area1 BEFORE SAMPLES`: the area of Steim-1 of a record of 256 bytes.

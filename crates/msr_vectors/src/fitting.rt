@@ -3,7 +3,7 @@
 ghost use Rattle.std.specs.Prelude.{◌≤◌, length};
 
 use crate::line::Line;
-use msr_kinds::{Kind, Length};
+use msr_base::{Kind, Length};
 use msr_words::{
     Codec, Fitting, Int16, Int24, Int32, Steim1, Steim2, Window, difference, groups, longest_run,
     run_fits,

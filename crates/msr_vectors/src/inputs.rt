@@ -4,12 +4,11 @@ ghost use Rattle.msr_devices.specs.Device.{CanCountCall, CountsFew};
 
 use crate::line::Line;
 use crate::records::record_of;
-use msr_base::SampleVec;
+use msr_base::{Kind, SampleVec};
 use msr_compare::compare;
 use msr_devices::{Behavior, Source, TestSource};
 use msr_fixtures::key_at;
 use msr_input::{NextRecord, ReadFault, RowReader, Settings};
-use msr_kinds::Kind;
 use msr_rows::Row;
 use msr_segments::{Follow, JoinKind, Joiner, OutOfRange, Segment, Step};
 use msr_time::{Rate, is_instant};

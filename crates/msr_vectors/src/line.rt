@@ -1,7 +1,6 @@
 //! A row: its columns, one after another, and what is answered to it.
 
-use msr_base::Order;
-use msr_kinds::{Form, Kind, Kinds, Length, Version, Width};
+use msr_base::{Form, Kind, Kinds, Length, Order, Version, Width};
 use std::alloc::Global;
 use std::fmt;
 use std::fmt::Write;

@@ -4,8 +4,8 @@ ghost use Rattle.std.specs.Prelude.{◌≡◌, ◌≤◌, ◌+◌, ◌<◌, ◌^
 ghost use Rattle.msr_packer.specs.Blocks.{pushed};
 
 use crate::line::Line;
+use msr_base::{Form, Kinds};
 use msr_check::{separates, separates_in, shows_least, shows_least_in};
-use msr_kinds::{Form, Kinds};
 use msr_packer::{BlockPacker, Packing, Piece, StreamPacker, pack, pack_in};
 use msr_words::{Run, longest_run};
 use std::alloc::{AllocError, Global};

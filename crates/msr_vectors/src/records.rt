@@ -2,12 +2,11 @@
 
 use crate::line::Line;
 use crate::lists::{Hexadecimal, gives};
-use msr_base::Order;
+use msr_base::{Kind, Length, Order};
 use msr_fixtures::{
     START, edit_by_name, int32_record, key_at, little_record, record, steim_record,
 };
 use msr_header::{read_header, write_header};
-use msr_kinds::{Kind, Length};
 use msr_record::encode_record;
 use msr_rows::{FaultKind, Record, RecordView, Row, decode_record, reverse_in, view_record};
 use msr_time::{Rate, is_instant};

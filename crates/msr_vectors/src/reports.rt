@@ -5,7 +5,7 @@ ghost use Rattle.msr_report.specs.Proper.{IsProper};
 use crate::inputs::{behavior, behaviors};
 use crate::line::Line;
 use msr_devices::{Behavior, TestSink, TestSource};
-use msr_output::{one_output, output_has_size, output_keeps_segments};
+use msr_record::{one_output, output_has_size, output_keeps_segments};
 use msr_report::{Report, has_text, one_text};
 use msr_report_reader::{one_report, read_report, report_in_range, report_of, text_is_read_back};
 use msr_sds::one_reading;

@@ -2,7 +2,7 @@
 
 use crate::line::{Line, NONE};
 use crate::{areas, filling, fitting, growing, inputs, packing, records, reports, times, tools};
-use msr_kinds::Length;
+use msr_base::Length;
 use std::io;
 
 /// Answers a row of times, or another.

@@ -4,8 +4,8 @@ use Rattle.std.specs.Prelude.{slice_get, is_some, Bool, IsSome, MatchOption}
 use Rattle.std.specs.Option.{option_to_list}
 use Rattle.std.proofs.lemmas.Bool.{both_ways, cases_Bool}
 use Rattle.std.proofs.lemmas.List.{append-nil}
-use Rattle.msr_kinds.specs.declared.forms.Form.{Form}
-use Rattle.msr_kinds.specs.Lengths.{bytes_of}
+use Rattle.msr_base.specs.declared.forms.Form.{Form}
+use Rattle.msr_base.specs.Lengths.{bytes_of}
 use Rattle.msr_words.specs.Fit.{Records, records_of}
 use Rattle.msr_words.specs.declared.kinds.Run.{Run}
 use Rattle.msr_check.specs.Judged.{Judged, Judges}

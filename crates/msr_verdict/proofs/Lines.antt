@@ -3,7 +3,7 @@ use Rattle.std.proofs.Common.{◌≡◌, ◌↔◌, ℕ, suc, Bool, ℤ, sym, �
 use Rattle.std.specs.Prelude.{IsTrue, slice_get}
 use Rattle.msr_rows.proofs.OneAnswer.{some_same}
 use Rattle.msr_rows.specs.declared.row.Key.{Key}
-use Rattle.msr_kinds.specs.declared.forms.Form.{Form}
+use Rattle.msr_base.specs.declared.forms.Form.{Form}
 use Rattle.msr_words.specs.Fit.{records_of}
 use Rattle.msr_words.specs.declared.kinds.Run.{Run}
 use Rattle.msr_check.specs.Judged.{AreShown}

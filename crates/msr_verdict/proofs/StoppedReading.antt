@@ -3,8 +3,8 @@ use Rattle.std.proofs.Common.{◌≡◌, ◌↔◌, inl, inr, true, false, List,
 use Rattle.std.specs.Option.{option_to_list}
 use Rattle.std.proofs.lemmas.Bool.{cases_Bool}
 use Rattle.std.proofs.lemmas.List.{append-nil}
-use Rattle.msr_kinds.specs.declared.forms.Form.{Form}
-use Rattle.msr_kinds.specs.Lengths.{bytes_of}
+use Rattle.msr_base.specs.declared.forms.Form.{Form}
+use Rattle.msr_base.specs.Lengths.{bytes_of}
 use Rattle.msr_words.specs.Fit.{records_of}
 use Rattle.msr_words.proofs.Certificate.{least_by_separators}
 use Rattle.msr_rows.specs.declared.row.Record.{Record}

@@ -2,8 +2,8 @@
 use Rattle.std.specs.Prelude.{◌≡◌, ℕ, ⊤, true, false, ℤ, List, ◌∷◌, ◌++◌, [], length, Option, None, Some, All, is_some, option_map}
 use Rattle.std.specs.List.{flat_map}
 use Rattle.std.specs.Option.{option_to_list}
-use Rattle.msr_kinds.specs.declared.forms.Form.{Form}
-use Rattle.msr_kinds.specs.Lengths.{bytes_of}
+use Rattle.msr_base.specs.declared.forms.Form.{Form}
+use Rattle.msr_base.specs.Lengths.{bytes_of}
 use Rattle.msr_words.specs.Fit.{records_of}
 use Rattle.msr_check.specs.Judged.{Judges}
 use Rattle.msr_rows.specs.declared.row.Row.{Row}

@@ -1,6 +1,6 @@
 -- How far segments were compared with the lines of a report, and how a record more changes it.
 use Rattle.std.specs.Prelude.{◌≡◌, ◌↔◌, ℕ, ◌+◌, Bool, true, false, ℤ, List, [], ◌∷◌, ◌++◌, length, Option, None, Some, slice_get}
-use Rattle.msr_kinds.specs.declared.forms.Form.{Form}
+use Rattle.msr_base.specs.declared.forms.Form.{Form}
 use Rattle.msr_words.specs.Fit.{records_of}
 use Rattle.msr_words.specs.declared.kinds.Run.{Run}
 use Rattle.msr_check.specs.Judged.{Judged, Judges, next_run}

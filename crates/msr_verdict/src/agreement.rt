@@ -4,9 +4,9 @@ ghost use Rattle.msr_verdict.specs.Compared.{IsLineAt, separators_at};
 ghost use Rattle.msr_verdict.specs.Packed.{form_by};
 
 use crate::verdict::Verdict;
+use msr_base::Form;
 use msr_check::Judge;
 use msr_input::NextRow;
-use msr_kinds::Form;
 use msr_report::Report;
 use msr_rows::Row;
 use msr_segments::Step;

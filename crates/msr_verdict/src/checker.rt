@@ -1,6 +1,6 @@
 //! What judges records one after another by a report.
 ghost use Rattle.std.specs.Prelude.{◌≡◌, ℕ, List, [], Ok, MatchOption, option_copied};
-ghost use Rattle.msr_kinds.specs.Lengths.{bytes_of};
+ghost use Rattle.msr_base.specs.Lengths.{bytes_of};
 ghost use Rattle.msr_report.specs.declared.report.Report.{Report as Lines};
 ghost use Rattle.msr_input.specs.declared.row_reader.NextRow.{NextRow as Told};
 ghost use Rattle.msr_compare.specs.Seen.{AllSeen, first_following};
@@ -10,9 +10,9 @@ ghost use Rattle.msr_verdict.specs.Packed.{VerifyAnswers, settings_by};
 
 use crate::agreement::Agreement;
 use crate::verdict::Verdict;
+use msr_base::Length;
 use msr_compare::Observer;
 use msr_input::{NextRecord, NextRow};
-use msr_kinds::Length;
 use msr_report::Report;
 use std::alloc::{AllocError, Global};
 

@@ -1,6 +1,6 @@
 -- Of a day of which it may be asked that its segments belong to it.
 use Rattle.std.proofs.Common.{◌≡◌, ◌⊎◌, inl, inr, ℕ, true, false, List, None, Some, refl, sym, subst, Result, Ok, Err, IfOk}
-use Rattle.msr_belonging.specs.Belonging.{IsFoundAsAsked, told_segments}
+use Rattle.msr_folders.specs.Belonging.{IsFoundAsAsked, told_segments}
 use Rattle.msr_devices.specs.Device.{Device, HasLeft}
 use Rattle.msr_devices.specs.declared.fault.DeviceFault.{DeviceFault}
 use Rattle.msr_folders.proofs.WalkedLemmas.{goes_so, goes_then}

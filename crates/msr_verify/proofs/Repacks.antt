@@ -5,7 +5,7 @@ use Rattle.msr_report.specs.declared.report.Report.{Report}
 use Rattle.msr_input.specs.Input.{IsReadable}
 use Rattle.msr_rows.specs.declared.row.Record.{Record}
 use Rattle.msr_options.specs.Choice.{Choice, as_strict, form_chosen}
-use Rattle.msr_output.specs.Output.{OneOutput, segment_of_packed}
+use Rattle.msr_record.specs.Output.{OneOutput, segment_of_packed}
 use Rattle.msr_compare.specs.Answers.{HasSegments, SameIsExact}
 use Rattle.msr_compare.proofs.SameInputs.{one_list}
 use Rattle.msr_tool.specs.Answer.{IsRepacked}

@@ -11,7 +11,7 @@ use Rattle.msr_folders.specs.Paths.{joined}
 use Rattle.msr_folders.specs.Visits.{IsWalk}
 use Rattle.msr_folders.specs.Walks.{IsSaidBetween, IsWalked, TellsWalk}
 use Rattle.msr_folders.specs.declared.found.WalkFound.{WalkFound}
-use Rattle.msr_belonging.specs.Names.{day_name}
+use Rattle.msr_folders.specs.Names.{day_name}
 use Rattle.msr_options.specs.Days.{names_for}
 use Rattle.msr_options.specs.declared.names.DayName.{DayName}
 use Rattle.msr_options.specs.declared.names.Names.{Names}

@@ -15,7 +15,7 @@ use Rattle.msr_tree.specs.Reads.{OnlyReads}
 use Rattle.msr_tree.specs.Steps.{Path, Step}
 use Rattle.msr_tree.specs.declared.kind.FileKind.{FileKind}
 use Rattle.msr_tree.specs.declared.kind.FileKind.TheVariants.{Folder, Gone, Other}
-use Rattle.msr_belonging.specs.Names.{day_name}
+use Rattle.msr_folders.specs.Names.{day_name}
 use Rattle.msr_options.specs.Days.{names_for}
 use Rattle.msr_verify.specs.Entries.{IsJudgementOf, IsVerifyTally, JudgedEntry}
 use Rattle.msr_verify.specs.Known.{IsJudgedEntry, judged_known_as}

@@ -3,7 +3,7 @@ use Rattle.std.specs.Prelude.{◌≡◌, ℕ, ⊤, Bool, true, false, List, Resu
 use Rattle.std.specs.List.{count_by}
 use Rattle.msr_folders.specs.Totals.{saturated}
 use Rattle.msr_folders.specs.Days.{IsDay, IsNoDay}
-use Rattle.msr_belonging.specs.Belonging.{AreMisplaced, told_segments}
+use Rattle.msr_folders.specs.Belonging.{AreMisplaced, told_segments}
 use Rattle.msr_options.specs.declared.names.DayName.{DayName}
 use Rattle.msr_report.specs.declared.report.Report.{Report}
 use Rattle.msr_report_reader.specs.Reading.{IsReadFrom}

@@ -14,8 +14,8 @@ use Rattle.msr_options.specs.declared.names.Names.{Names}
 use Rattle.msr_options.specs.declared.names.Names.TheVariants.{Any, Of, Own}
 use Rattle.msr_report.specs.declared.report.Report.{Report}
 use Rattle.msr_report_reader.specs.Reading.{IsReadFrom}
-use Rattle.msr_belonging.specs.Belonging.{IsFoundAsAsked, told_segments}
-use Rattle.msr_belonging.specs.Names.{day_name}
+use Rattle.msr_folders.specs.Belonging.{IsFoundAsAsked, told_segments}
+use Rattle.msr_folders.specs.Names.{day_name}
 use Rattle.msr_sds.specs.SdsPath.{ReadsAsDay, SdsPath}
 use Rattle.msr_sds.specs.declared.SdsFault.{SdsFault}
 use Rattle.msr_folders.specs.Days.{IsDay, IsNoDay}

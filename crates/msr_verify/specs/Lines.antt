@@ -5,7 +5,7 @@ use Rattle.msr_input.specs.declared.fault.ReadFault.TheVariants as stop
 use Rattle.msr_folders.specs.Faults.{fault_json, read_fault_text}
 use Rattle.msr_folders.specs.Members.{IsReasonMember, skip_text}
 use Rattle.msr_folders.specs.Paths.{shown_path, text_json}
-use Rattle.msr_belonging.specs.Names.{found_json, found_words}
+use Rattle.msr_folders.specs.Names.{found_json, found_words}
 use Rattle.msr_options.specs.Known.{text_known}
 use Rattle.msr_options.specs.declared.known.Known.{Known as Asked}
 use Rattle.msr_options.specs.declared.task.ListForm.{ListForm}

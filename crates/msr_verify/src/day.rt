@@ -10,9 +10,8 @@ ghost use Rattle.msr_verify.specs.declared.judgement.Refusal.TheVariants.{SameFi
 
 use crate::judgement::{Judgement, Refusal, judgement_alone, judgement_of};
 use crate::judging::{report_fault, verify_alone, verify_day};
-use msr_belonging::misplaced;
 use msr_devices::{DeviceFault, Source};
-use msr_folders::{ended, join};
+use msr_folders::{ended, join, misplaced};
 use msr_options::{Folders, Names};
 use msr_report_reader::read_report;
 use msr_tree::{Tree, TreeFault};

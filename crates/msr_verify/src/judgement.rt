@@ -6,8 +6,7 @@ ghost use Rattle.msr_verify.specs.Known.{judged_known_as, judged_refusal_line};
 ghost use Rattle.msr_verify.specs.Lines.{IsJudgementJson, IsJudgementLine, IsOfSystem, IsReasonJson, IsRefusalOfSystem, IsToldLine, place_json, refusal_json, refused_before, side_json, text_missing, what_text, why_json, why_text, words_line};
 
 use crate::judging::{Finding, VerifyFault};
-use msr_belonging::{found_json, found_words};
-use msr_folders::{JsonText, Shown, fault_json, reason_json, skip_text};
+use msr_folders::{JsonText, Shown, fault_json, found_json, found_words, reason_json, skip_text};
 use msr_input::ReadFault;
 use msr_options::{DayName, Known, ListForm, Verifying};
 use msr_sds::SdsFault;

@@ -3,7 +3,7 @@ ghost use Rattle.msr_verify.specs.Exact.{VerifiedIsExact};
 ghost use Rattle.msr_verify.specs.Laws.{OneOutputHasSameInputs, ReadableIsSame, RepackedComparesAsSame, RepackedIsSame, SameInputsHaveOneOutput};
 
 use msr_compare::same_is_exact;
-use msr_output::one_output;
+use msr_record::one_output;
 use msr_tool::repacked_has_segments;
 
 /// What `repack` wrote has the segments of its input, if none of them ends in the last microsecond of the supported

@@ -4,7 +4,7 @@ use Rattle.std.proofs.lemmas.Bool.{cases_Bool}
 use Rattle.std.proofs.lemmas.Slice.Eq.{bytes_eq-Decides}
 use Rattle.std.specs.Str.{bytes_eq}
 use Rattle.msr_folders.proofs.WalkedLemmas.{goes_none, goes_so, goes_then}
-use Rattle.msr_kinds.specs.declared.lengths.Length.{Length}
+use Rattle.msr_base.specs.declared.lengths.Length.{Length}
 use Rattle.msr_making.specs.Day.{AsksForAge, IsDayOutcome}
 use Rattle.msr_making.specs.Making.{DoesDay, IsOwnOfFile, LooksForSame, WaitsForStamp}
 use Rattle.msr_tree.specs.Folders.{ChangesFiles}
@@ -26,7 +26,7 @@ use Rattle.msr_naming.specs.declared.batch.Waiting.{Waiting}
 use Rattle.msr_naming.specs.declared.files.Name.{Name}
 use Rattle.msr_naming.specs.declared.files.Name.TheVariants.{Records, Report, Stamp}
 use Rattle.msr_naming.specs.declared.files.DayFiles.{DayFiles}
-use Rattle.msr_belonging.specs.Names.{day_name}
+use Rattle.msr_folders.specs.Names.{day_name}
 use Rattle.msr_folders.specs.Days.{IsDay}
 use Rattle.msr_options.specs.Choice.{Choice}
 use Rattle.msr_options.specs.Days.{in_length, with_name}

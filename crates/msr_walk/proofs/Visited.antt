@@ -16,7 +16,7 @@ use Rattle.msr_tree.specs.Calls.{Goes}
 use Rattle.msr_tree.specs.Steps.{Path, Step}
 use Rattle.msr_tree.specs.declared.kind.FileKind.{FileKind}
 use Rattle.msr_tree.specs.declared.kind.FileKind.TheVariants.{Gone}
-use Rattle.msr_belonging.specs.Names.{day_name}
+use Rattle.msr_folders.specs.Names.{day_name}
 use Rattle.msr_options.specs.Days.{with_name}
 use Rattle.msr_walk.proofs.Days.{SaysOfDay, told_until}
 use Rattle.msr_walk.proofs.Working.{settled_works, works_none, works_then}

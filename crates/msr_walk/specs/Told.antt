@@ -15,7 +15,7 @@ use Rattle.msr_making.specs.Told.{AreUntouched, IsLeftFor, IsOutcomeThere, stays
 use Rattle.msr_making.specs.declared.answer.DayFault.TheVariants.{CannotOpen, Gone as WasGone, Listing}
 use Rattle.msr_making.specs.declared.answer.DayOutcome.{DayOutcome}
 use Rattle.msr_making.specs.declared.answer.DayOutcome.TheVariants as outcomes
-use Rattle.msr_belonging.specs.Names.{day_name}
+use Rattle.msr_folders.specs.Names.{day_name}
 use Rattle.msr_options.specs.Days.{with_name}
 use Rattle.msr_options.specs.declared.days.DayOptions.{DayOptions}
 use Rattle.msr_options.specs.declared.task.Archiving.{Archiving}

@@ -22,7 +22,7 @@ ghost use Rattle.msr_walk.specs.Laws.{days_laws, waiting_listed};
 ghost use Rattle.msr_walk.specs.Losses.{ChangesDays, KeepsDays};
 ghost use Rattle.msr_outcomes.specs.Lines.{IsEntryLine};
 ghost use Rattle.msr_outcomes.specs.Outcomes.{IsOutcomeOfDay};
-ghost use Rattle.msr_belonging.specs.Names.{day_name};
+ghost use Rattle.msr_folders.specs.Names.{day_name};
 ghost use Rattle.msr_options.specs.Days.{with_name};
 ghost use Rattle.msr_walk.specs.Told.{IsToldOfVisit, SettlesWaiting, StaysWithin, TellsDay, TellsOutcomesOf, WalksTree, WorksFor};
 ghost use Rattle.msr_walk.specs.Walk.{StopsTellingOutcomes, Walks};
@@ -31,9 +31,10 @@ use crate::batch::Batch;
 use crate::claims::Claims;
 use crate::day::{Day, Work};
 use crate::walker::Walker;
-use msr_belonging::names_for;
 use msr_devices::{DeviceFault, Sink, write_all};
-use msr_folders::{EntryVisitor, EntryWalk, WalkFound, join, told_folder, visit_entries};
+use msr_folders::{
+    EntryVisitor, EntryWalk, WalkFound, join, names_for, told_folder, visit_entries,
+};
 use msr_making::{DayFault, DayOutcome, day_length, is_young};
 use msr_naming::Waiting;
 use msr_options::{Archiving, DayOptions, Unopened};

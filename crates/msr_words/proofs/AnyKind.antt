@@ -2,13 +2,13 @@
 use Rattle.std.specs.Prelude.{◌≡◌, ℕ, ◌-◌, ◌/◌, ◌≤◌, ℤ, List, [], min, length, All}
 use Rattle.std.proofs.Common.{arith, refl}
 use Rattle.std.proofs.Math.Nat.{mul-div-le, mul-le-mul_left}
-use Rattle.msr_kinds.proofs.KindLemmas.{int32_is_chosen}
-use Rattle.msr_kinds.specs.declared.kinds.Kind.{Kind}
-use Rattle.msr_kinds.specs.declared.kinds.Kind.TheVariants.{Int16, Int24, Int32, Steim1, Steim2}
-use Rattle.msr_kinds.specs.declared.storage.Storage.TheVariants.{Integers}
-use Rattle.msr_kinds.specs.declared.storage.Width.{Width}
-use Rattle.msr_kinds.specs.declared.storage.Width.TheVariants.{Two as TwoBytes, Three as ThreeBytes}
-use Rattle.msr_kinds.specs.Storage.{size_of, storage_of}
+use Rattle.msr_base.proofs.KindLemmas.{int32_is_chosen}
+use Rattle.msr_base.specs.declared.kinds.Kind.{Kind}
+use Rattle.msr_base.specs.declared.kinds.Kind.TheVariants.{Int16, Int24, Int32, Steim1, Steim2}
+use Rattle.msr_base.specs.declared.storage.Storage.TheVariants.{Integers}
+use Rattle.msr_base.specs.declared.storage.Width.{Width}
+use Rattle.msr_base.specs.declared.storage.Width.TheVariants.{Two as TwoBytes, Three as ThreeBytes}
+use Rattle.msr_base.specs.Storage.{size_of, storage_of}
 use Rattle.msr_words.specs.Bounds.{AreIntegers}
 use Rattle.msr_words.specs.Fit.{FitsAny, FitsIn, FitsIntegers, IsInteger, Records, most_counted}
 use Rattle.msr_words.specs.Laws.{BackStepLaw, PrefixLaw, SizeLaw, look_back_of, most_any, most_in, most_of, room_of}

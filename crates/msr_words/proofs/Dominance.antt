@@ -4,13 +4,13 @@ use Rattle.std.specs.List.{AllByRecursion}
 use Rattle.std.proofs.Common.{arith, refl, sym, subst, inl, inr, length-append, lit≤}
 use Rattle.std.proofs.lemmas.List.{map-append}
 use Rattle.std.proofs.lemmas.List.Elements.{All-head, All-tail}
-use Rattle.msr_kinds.specs.declared.storage.Version.TheVariants.{One, Two}
+use Rattle.msr_base.specs.declared.storage.Version.TheVariants.{One, Two}
 use Rattle.msr_steim.specs.Word.{AreGroups, FitsBits, IsGroup}
 use Rattle.msr_words.specs.Division.{CanDivide}
 use Rattle.msr_words.specs.Fit.{Fits}
 use Rattle.msr_words.specs.Laws.{DominanceLaw, IsNarrow}
-use Rattle.msr_kinds.specs.RecordLength.{words_of}
-use Rattle.msr_kinds.specs.declared.kinds.Kind.TheVariants.{Steim1, Steim2}
+use Rattle.msr_base.specs.RecordLength.{words_of}
+use Rattle.msr_base.specs.declared.kinds.Kind.TheVariants.{Steim1, Steim2}
 use Rattle.msr_words.specs.Lemmas.SteimLaws.{all_more, group_drop, head_group, one_has_few, tail_groups}
 use Rattle.msr_words.proofs.Parts.{HasDivision, cut, more_groups, no_groups, one_group}
 use Rattle.msr_words.proofs.Steim2Groups.{IsSteim2Group, division_from, group_to}

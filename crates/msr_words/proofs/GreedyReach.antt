@@ -6,13 +6,13 @@ use Rattle.std.proofs.Math.Seq.{take-add}
 use Rattle.std.proofs.lemmas.Bool.{cases_lt}
 use Rattle.std.proofs.lemmas.List.{drop-map, get_or-drop, get_or-take, length-map, length-take, map-append, take-take, take_all, take_at}
 use Rattle.msr_steim.specs.Word.{FitsBits, IsGroup}
-use Rattle.msr_kinds.specs.declared.storage.Version.TheVariants.{Two}
-use Rattle.msr_kinds.specs.declared.kinds.Kind.TheVariants.{Steim2}
+use Rattle.msr_base.specs.declared.storage.Version.TheVariants.{Two}
+use Rattle.msr_base.specs.declared.kinds.Kind.TheVariants.{Steim2}
 use Rattle.msr_words.specs.Bounds.{GreedyLaw, IsGreedyReach, latest_end}
 use Rattle.msr_words.specs.Division.{CanDivide}
 use Rattle.msr_words.specs.Fit.{Fits, IsRun}
 use Rattle.msr_words.specs.Groups.{IsLongestGroup}
-use Rattle.msr_kinds.specs.RecordLength.{words_of}
+use Rattle.msr_base.specs.RecordLength.{words_of}
 use Rattle.msr_words.specs.Laws.{IsNarrow}
 use Rattle.msr_words.specs.Segment.{difference_at, differences, points, run_points}
 use Rattle.msr_words.specs.Lemmas.KindLaws.{back_step_kind, size_kind}

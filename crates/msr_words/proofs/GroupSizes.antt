@@ -1,7 +1,7 @@
 -- Groups of Steim-1 by the sizes of their differences.
 use Rattle.std.proofs.Common.{◌↔◌, ◌<◌, ◌≤◌, ℕ, suc, ℤ, List, [], ◌∷◌, length, take, arith, bit_or, lit≤}
 use Rattle.std.proofs.lemmas.Nat.{le_or_l, le_or_r, or_lt}
-use Rattle.msr_kinds.specs.declared.storage.Version.TheVariants.{One}
+use Rattle.msr_base.specs.declared.storage.Version.TheVariants.{One}
 use Rattle.msr_steim.specs.Word.{IsGroup}
 use Rattle.msr_words.specs.FirstGroup.{IsSizeAt}
 use Rattle.msr_words.specs.Window.{IsSize}

@@ -5,7 +5,7 @@ use Rattle.std.specs.List.{All}
 use Rattle.std.proofs.lemmas.Bool.{cases_lt, eqb-true, eq-eqb}
 use Rattle.std.proofs.lemmas.List.{length-map, length-drop, length-reverse, length-take, get_or-drop, take_more, take_at, take_all, take-append-drop, reverse-append}
 use Rattle.std.proofs.lemmas.List.Elements.{All-push, All-nil, All-take, All-contains, Contains-push}
-use Rattle.msr_kinds.specs.declared.storage.Version.TheVariants.{One, Two}
+use Rattle.msr_base.specs.declared.storage.Version.TheVariants.{One, Two}
 use Rattle.msr_words.specs.Division.{CanDivide}
 use Rattle.msr_words.specs.Counts.{EndsIn}
 use Rattle.msr_words.specs.Lemmas.Ends.{ends_is_division}

@@ -2,10 +2,10 @@
 use Rattle.std.proofs.Common.{◌≡◌, ℕ, ◌+◌, ◌-◌, ◌≤◌, ◌<◌, zero, suc, ap, pos, ◌-ℤ◌, slice_index_or, min, Bool, true, false, refl, IsTrue, ◌↔◌, ℤ, List, [], ◌∷◌, ◌++◌, length, arith, length-append}
 use Rattle.std.proofs.lemmas.List.Elements.{All-push, Contains-push, All-contains}
 use Rattle.msr_words.specs.Segment.{difference_at}
-use Rattle.msr_kinds.specs.declared.kinds.Kind.{Kind}
-use Rattle.msr_kinds.specs.declared.storage.Storage.TheVariants.{Integers}
-use Rattle.msr_kinds.specs.declared.storage.Width.{Width}
-use Rattle.msr_kinds.specs.declared.storage.Width.TheVariants.{Two as TwoBytes, Three as ThreeBytes, Four as FourBytes}
+use Rattle.msr_base.specs.declared.kinds.Kind.{Kind}
+use Rattle.msr_base.specs.declared.storage.Storage.TheVariants.{Integers}
+use Rattle.msr_base.specs.declared.storage.Width.{Width}
+use Rattle.msr_base.specs.declared.storage.Width.TheVariants.{Two as TwoBytes, Three as ThreeBytes, Four as FourBytes}
 use Rattle.msr_words.specs.Fit.{Fits, FitsIntegers, IsInteger, most_counted}
 use Rattle.msr_words.specs.Laws.{most_of, room_of}
 use Rattle.msr_words.specs.Trackers.{FollowsIntegers, integers}

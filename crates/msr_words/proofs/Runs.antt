@@ -3,11 +3,11 @@ use Rattle.std.specs.Prelude.{◌≡◌, ℕ, zero, suc, ◌+◌, ◌-◌, ◌<�
 use Rattle.std.proofs.Common.{refl, arith, sym, ◌∙◌, ap, subst}
 use Rattle.std.proofs.lemmas.List.{take-append-drop, take-append-le, take-take, drop-take, drop-drop, take_more, get_or-drop, length-take, length-drop, drop_at, drop-map, take-map, length-map}
 use Rattle.msr_words.specs.Segment.{points, points_after, run_points, difference_at, difference_from}
-use Rattle.msr_kinds.specs.declared.storage.Width.{Width}
+use Rattle.msr_base.specs.declared.storage.Width.{Width}
 use Rattle.msr_words.specs.Fit.{IsInteger, IsRun}
 use Rattle.std.proofs.lemmas.List.Elements.{All-map}
 use Rattle.msr_words.specs.Laws.{PrefixLaw, BackStepLaw}
-use Rattle.msr_kinds.specs.declared.kinds.Kind.{Kind}
+use Rattle.msr_base.specs.declared.kinds.Kind.{Kind}
 use Rattle.msr_words.specs.declared.kinds.Run.{Run}
 
 pub length-points_after : (before : ℤ) (samples : List ℤ) → length (points_after before samples) ≡ length samples

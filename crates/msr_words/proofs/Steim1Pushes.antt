@@ -2,17 +2,17 @@
 use Rattle.std.proofs.Common.{◌≡◌, ◌↔◌, ◌<◌, ◌≤◌, ◌*◌, ℕ, ℤ, Bool, true, false, IsTrue, IsFalse, List, [], ◌∷◌, ◌++◌, length, map, refl, sym, subst, arith}
 use Rattle.std.specs.Prelude.{reverse}
 use Rattle.std.proofs.lemmas.List.{map-append}
-use Rattle.msr_kinds.specs.declared.storage.Version.TheVariants.{One}
+use Rattle.msr_base.specs.declared.storage.Version.TheVariants.{One}
 use Rattle.msr_words.specs.declared.counts.LeastCounts.{LeastCounts}
 use Rattle.msr_words.specs.Division.{CanDivide}
 use Rattle.msr_words.specs.Counts.{EndsIn}
 use Rattle.msr_words.specs.AreCounts.{AreCounts}
 use Rattle.msr_words.specs.Lemmas.Ends.{ends_is_division}
 use Rattle.msr_words.specs.Fit.{Fits, FitsSteim, most_counted}
-use Rattle.msr_kinds.specs.RecordLength.{words_of}
+use Rattle.msr_base.specs.RecordLength.{words_of}
 use Rattle.msr_words.specs.Lemmas.KindLaws.{prefix_steim, size_steim}
 use Rattle.msr_words.specs.Trackers.{FollowsSteim1}
-use Rattle.msr_kinds.specs.declared.kinds.Kind.TheVariants.{Steim1}
+use Rattle.msr_base.specs.declared.kinds.Kind.TheVariants.{Steim1}
 use Rattle.msr_words.proofs.Plain.{reverse_push}
 
 never : (result : Bool) → IsFalse result → IsTrue result → ⊥

@@ -1,13 +1,13 @@
 -- A walk of Steim-1 words over a segment.
 use Rattle.std.proofs.Common.{◌≡◌, ℕ, ◌+◌, ◌-◌, ◌*◌, ◌≤◌, ℤ, false, List, length, map, take, drop, None, arith, sym, ap, ◌∙◌, subst}
 use Rattle.std.proofs.lemmas.List.{drop-drop, length-drop}
-use Rattle.msr_kinds.specs.declared.storage.Version.TheVariants.{One}
-use Rattle.msr_kinds.specs.declared.kinds.Kind.TheVariants.{Steim1}
+use Rattle.msr_base.specs.declared.storage.Version.TheVariants.{One}
+use Rattle.msr_base.specs.declared.kinds.Kind.TheVariants.{Steim1}
 use Rattle.msr_words.specs.Bounds.{IsEnd}
 use Rattle.msr_words.specs.Division.{CanDivide}
 use Rattle.msr_words.specs.Fit.{Fits, IsRun, most_counted}
 use Rattle.msr_words.specs.Lemmas.KindLaws.{size_steim}
-use Rattle.msr_kinds.specs.RecordLength.{words_of}
+use Rattle.msr_base.specs.RecordLength.{words_of}
 use Rattle.msr_words.specs.Segment.{differences, run_points}
 use Rattle.msr_words.specs.Steim1Reach.{IsSteim1End, IsSteim1Reach}
 use Rattle.msr_words.proofs.GreedyReach.{differences_from, differences_to}

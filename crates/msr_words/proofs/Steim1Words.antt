@@ -5,7 +5,7 @@ use Rattle.std.proofs.Common.{arith, lit≤, refl, sym, ap, ◌∙◌, subst, in
 use Rattle.std.proofs.Math.Seq.{take-add, take-append_seam, drop-append_seam}
 use Rattle.std.proofs.lemmas.Bool.{cases_lt}
 use Rattle.std.proofs.lemmas.List.{drop_at, get_or-drop, get_or-take, length-reverse, length-take, reverse-append, reverse-reverse, take_at}
-use Rattle.msr_kinds.specs.declared.storage.Version.TheVariants.{One}
+use Rattle.msr_base.specs.declared.storage.Version.TheVariants.{One}
 use Rattle.msr_steim.specs.Word.{FitsBits, IsGroup, IsGroupAt, IsInnerGroup}
 use Rattle.msr_words.specs.Counts.{EndsIn, Parts}
 use Rattle.msr_words.specs.Division.{CanDivide}

@@ -5,13 +5,13 @@ use Rattle.std.proofs.lemmas.List.{append-nil, nil_from_length, map-append}
 use Rattle.std.proofs.lemmas.Bool.{cases_lt}
 use Rattle.std.proofs.lemmas.List.Elements.{All-weaker, All-push, All-nil, All-cons, All-take, All-contains, Contains-push}
 use Rattle.std.proofs.lemmas.List.{take_at}
-use Rattle.msr_kinds.specs.declared.storage.Version.TheVariants.{Two}
+use Rattle.msr_base.specs.declared.storage.Version.TheVariants.{Two}
 use Rattle.msr_steim.specs.Word.{FitsBits}
-use Rattle.msr_kinds.specs.declared.kinds.Kind.TheVariants.{Steim2}
+use Rattle.msr_base.specs.declared.kinds.Kind.TheVariants.{Steim2}
 use Rattle.msr_words.specs.Division.{CanDivide}
 use Rattle.msr_words.specs.Fit.{Fits}
 use Rattle.msr_words.specs.Laws.{most_of}
-use Rattle.msr_kinds.specs.RecordLength.{words_of}
+use Rattle.msr_base.specs.RecordLength.{words_of}
 use Rattle.msr_words.specs.Lemmas.KindLaws.{prefix_kind, size_kind}
 use Rattle.msr_words.proofs.Parts.{HasDivision, division_back, division_rest, first_fits, none_left, one_group, no_groups}
 use Rattle.msr_words.specs.Groups.{IsCapacity}

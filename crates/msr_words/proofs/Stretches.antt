@@ -5,9 +5,9 @@ use Rattle.std.proofs.lemmas.Bool.{cases_lt}
 use Rattle.std.proofs.lemmas.List.{map-append}
 use Rattle.std.proofs.lemmas.List.Elements.{All-append, All-nil, All-push}
 use Rattle.std.proofs.lemmas.List.Sums.{sum_by-append, sum_by_push}
-use Rattle.msr_kinds.specs.declared.kinds.Kind.{Kind}
-use Rattle.msr_kinds.specs.declared.kinds.Kind.TheVariants.{Steim1, Steim2}
-use Rattle.msr_kinds.specs.RecordLength.{words_of}
+use Rattle.msr_base.specs.declared.kinds.Kind.{Kind}
+use Rattle.msr_base.specs.declared.kinds.Kind.TheVariants.{Steim1, Steim2}
+use Rattle.msr_base.specs.RecordLength.{words_of}
 use Rattle.msr_words.specs.Bounds.{AreNarrow, AreNarrowThrough, IsEnd, is_very_wide, is_wide}
 use Rattle.msr_words.specs.Fit.{Fits, IsRun}
 use Rattle.msr_words.specs.Laws.{IsNarrow}

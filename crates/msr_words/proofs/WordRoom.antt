@@ -5,16 +5,16 @@ use Rattle.std.proofs.Common.{arith, refl, sym, ap, ◌∙◌, subst, lit≤}
 use Rattle.std.proofs.lemmas.Bool.Decides.{nat_tests}
 use Rattle.std.proofs.lemmas.List.{get_or-drop, get_or-take, length-map}
 use Rattle.std.proofs.lemmas.List.Sums.{sum_by-append}
-use Rattle.msr_kinds.specs.declared.storage.Version.{Version}
-use Rattle.msr_kinds.specs.declared.storage.Version.TheVariants.{One, Two}
+use Rattle.msr_base.specs.declared.storage.Version.{Version}
+use Rattle.msr_base.specs.declared.storage.Version.TheVariants.{One, Two}
 use Rattle.msr_steim.specs.Word.{AreGroups, FitsBits, IsGroup}
 use Rattle.msr_words.specs.Bounds.{BeginsWithFour, EndLaw, HalvesLaw, LookBackLaw, WideLaw, is_very_wide, is_wide}
 use Rattle.msr_words.specs.Division.{CanDivide}
 use Rattle.msr_words.specs.Fit.{Fits}
 use Rattle.msr_words.specs.Groups.{IsOneBelow}
 use Rattle.msr_words.specs.Segment.{difference_at, points, run_points}
-use Rattle.msr_kinds.specs.declared.kinds.Kind.TheVariants.{Steim1, Steim2}
-use Rattle.msr_kinds.specs.RecordLength.{words_of}
+use Rattle.msr_base.specs.declared.kinds.Kind.TheVariants.{Steim1, Steim2}
+use Rattle.msr_base.specs.RecordLength.{words_of}
 use Rattle.msr_words.specs.Lemmas.KindLaws.{prefix_kind}
 use Rattle.msr_words.specs.Lemmas.LeastCounts.{a_group_has_few}
 use Rattle.msr_words.specs.Lemmas.SteimLaws.{all_more, head_group, one_has_few, tail_groups}

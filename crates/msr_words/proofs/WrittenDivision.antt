@@ -5,8 +5,8 @@ use Rattle.std.specs.List.{AllByRecursion}
 use Rattle.std.proofs.lemmas.Bool.Decides.{nat_tests}
 use Rattle.std.proofs.lemmas.List.{take-append-drop, take_all, take_at, drop_at, map-append}
 use Rattle.arrayvec.specs.ArrayVec.{ArrayVec}
-use Rattle.msr_kinds.specs.declared.storage.Version.{Version}
-use Rattle.msr_kinds.specs.declared.storage.Version.TheVariants.{One, Two}
+use Rattle.msr_base.specs.declared.storage.Version.{Version}
+use Rattle.msr_base.specs.declared.storage.Version.TheVariants.{One, Two}
 use Rattle.msr_steim.specs.Area.{joined_groups}
 use Rattle.msr_steim.specs.Word.{AreGroups, FitsBits, IsGroup, IsGroupAt, IsInnerGroup, group_width}
 use Rattle.msr_words.specs.Division.{CanDivide}

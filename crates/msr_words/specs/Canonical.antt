@@ -1,6 +1,6 @@
 -- The one division of a record's differences that is written (a choice of this profile).
 use Rattle.std.specs.Prelude.{◌≡◌, ◌≤◌, ℤ, List, [], ◌∷◌, length, ⊤}
-use Rattle.msr_kinds.specs.declared.storage.Version.{Version}
+use Rattle.msr_base.specs.declared.storage.Version.{Version}
 use Rattle.msr_steim.specs.Area.{joined_groups}
 use Rattle.msr_steim.specs.Word.{AreGroups}
 

@@ -1,6 +1,6 @@
 -- The least number of groups of a run that grows, seen from its end.
 use Rattle.std.specs.Prelude.{◌≡◌, ◌<◌, ◌≤◌, ℕ, suc, zero, ℤ, Bool, List, [], ◌++◌}
-use Rattle.msr_kinds.specs.declared.storage.Version.{Version}
+use Rattle.msr_base.specs.declared.storage.Version.{Version}
 use Rattle.msr_steim.specs.Word.{IsGroupAt, IsInnerGroup}
 
 -- These differences, the newest first, are divided into exactly the given number of groups that

@@ -1,6 +1,6 @@
 -- Which differences fit a given number of words of a Steim record (SEED 2.4, appendix B).
 use Rattle.std.specs.Prelude.{◌≡◌, ◌≤◌, ℕ, ℤ, List, length, flat_map}
-use Rattle.msr_kinds.specs.declared.storage.Version.{Version}
+use Rattle.msr_base.specs.declared.storage.Version.{Version}
 use Rattle.msr_steim.specs.Word.{AreGroups}
 
 -- the differences can be divided into at most `words` groups

@@ -1,7 +1,7 @@
 -- What there always is: an answer whether a run fits, a kind that is tried first, a canonical division.
 use Rattle.std.specs.Prelude.{ℕ, ◌⊎◌, ℤ, List}
-use Rattle.msr_kinds.specs.declared.storage.Version.{Version}
-use Rattle.msr_kinds.specs.declared.kinds.Kind.{Kind}
+use Rattle.msr_base.specs.declared.storage.Version.{Version}
+use Rattle.msr_base.specs.declared.kinds.Kind.{Kind}
 use Rattle.msr_words.specs.Fit.{Records, FitsAny, IsFirstKind}
 use Rattle.msr_words.specs.Canonical.{IsCanonicalDivision}
 use Rattle.msr_words.specs.Division.{CanDivide}

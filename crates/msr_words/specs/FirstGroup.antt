@@ -1,6 +1,6 @@
 -- The first Steim-1 group of some differences, by the least number of groups after it.
 use Rattle.std.specs.Prelude.{◌≡◌, ◌<◌, ◌≤◌, ◌==◌, ◌↔◌, ◌⊎◌, ◌-◌, ◌^◌, ℕ, ℤ, pos, List, length, take, drop, slice_index, slice_index_or}
-use Rattle.msr_kinds.specs.declared.storage.Version.TheVariants.{One}
+use Rattle.msr_base.specs.declared.storage.Version.TheVariants.{One}
 use Rattle.msr_steim.specs.Word.{FitsBits, IsGroupAt}
 use Rattle.msr_words.specs.Division.{CanDivide}
 

@@ -1,20 +1,20 @@
 -- Which runs fit a record of a kind (SEED 2.4, blockette 1000: encodings 1, 2, 3, 10 and 11; appendix B).
 use Rattle.std.specs.Prelude.{ℕ, ◌+◌, ◌*◌, ◌<◌, ◌≤◌, ⊤, ℤ, List, length, map, All}
-use Rattle.msr_kinds.specs.declared.storage.Version.{Version}
-use Rattle.msr_kinds.specs.declared.storage.Storage.{Storage}
-use Rattle.msr_kinds.specs.declared.storage.Storage.TheVariants.{Integers, Frames}
-use Rattle.msr_kinds.specs.declared.storage.Width.{Width}
-use Rattle.msr_kinds.specs.declared.storage.Width.TheVariants.{Two, Three, Four}
-use Rattle.msr_kinds.specs.Storage.{size_of, storage_of}
+use Rattle.msr_base.specs.declared.storage.Version.{Version}
+use Rattle.msr_base.specs.declared.storage.Storage.{Storage}
+use Rattle.msr_base.specs.declared.storage.Storage.TheVariants.{Integers, Frames}
+use Rattle.msr_base.specs.declared.storage.Width.{Width}
+use Rattle.msr_base.specs.declared.storage.Width.TheVariants.{Two, Three, Four}
+use Rattle.msr_base.specs.Storage.{size_of, storage_of}
 use Rattle.msr_steim.specs.Word.{FitsBits}
-use Rattle.msr_kinds.specs.declared.kinds.Kind.{Kind}
-use Rattle.msr_kinds.specs.declared.kinds.Kind.TheVariants.{Int16, Int24, Int32, Steim1, Steim2}
-use Rattle.msr_kinds.specs.declared.kinds.Kinds.{Kinds}
-use Rattle.msr_kinds.specs.declared.forms.Form.{Form}
-use Rattle.msr_kinds.specs.Kinds.{IsChosen}
-use Rattle.msr_kinds.specs.Lengths.{bytes_of}
+use Rattle.msr_base.specs.declared.kinds.Kind.{Kind}
+use Rattle.msr_base.specs.declared.kinds.Kind.TheVariants.{Int16, Int24, Int32, Steim1, Steim2}
+use Rattle.msr_base.specs.declared.kinds.Kinds.{Kinds}
+use Rattle.msr_base.specs.declared.forms.Form.{Form}
+use Rattle.msr_base.specs.Kinds.{IsChosen}
+use Rattle.msr_base.specs.Lengths.{bytes_of}
 use Rattle.msr_words.specs.Division.{CanDivide}
-use Rattle.msr_kinds.specs.RecordLength.{words_of}
+use Rattle.msr_base.specs.RecordLength.{words_of}
 use Rattle.msr_words.specs.Segment.{run_points}
 
 -- the header counts the samples of a record in 16 bits

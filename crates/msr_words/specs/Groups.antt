@@ -1,6 +1,6 @@
 -- How many differences share one Steim-2 word (SEED 2.4, appendix B).
 use Rattle.std.specs.Prelude.{◌≡◌, ℕ, ◌+◌, ◌<◌, ◌≤◌, ◌↔◌, ℤ, List, [], length, take, drop, sum, slice_index, Some}
-use Rattle.msr_kinds.specs.declared.storage.Version.TheVariants.{Two}
+use Rattle.msr_base.specs.declared.storage.Version.TheVariants.{Two}
 use Rattle.msr_steim.specs.Word.{FitsBits, IsGroup, group_width}
 
 -- of differences that are each of the size of `d`, at most `capacity` have room in one Steim-2 word

@@ -1,16 +1,16 @@
 -- The laws of a tracker. They hold for lists of any whole numbers.
 use Rattle.std.specs.Prelude.{ℕ, ◌+◌, ◌-◌, ◌*◌, ◌/◌, ◌≤◌, max, min, if◌then◌else◌, ℤ, List, [], ◌++◌, length, drop, All}
 use Rattle.msr_steim.specs.Word.{FitsBits}
-use Rattle.msr_kinds.specs.declared.kinds.Kind.{Kind}
-use Rattle.msr_kinds.specs.declared.kinds.Kind.TheVariants.{Int16, Int24, Int32, Steim1, Steim2}
+use Rattle.msr_base.specs.declared.kinds.Kind.{Kind}
+use Rattle.msr_base.specs.declared.kinds.Kind.TheVariants.{Int16, Int24, Int32, Steim1, Steim2}
 use Rattle.msr_words.specs.Fit.{Records, most_counted}
-use Rattle.msr_kinds.specs.declared.storage.Storage.{Storage}
-use Rattle.msr_kinds.specs.declared.storage.Storage.TheVariants.{Integers, Frames}
-use Rattle.msr_kinds.specs.declared.storage.Version.{Version}
-use Rattle.msr_kinds.specs.declared.storage.Version.TheVariants.{One, Two}
-use Rattle.msr_kinds.specs.Storage.{size_of, storage_of}
-use Rattle.msr_kinds.specs.Kinds.{contains}
-use Rattle.msr_kinds.specs.RecordLength.{words_of}
+use Rattle.msr_base.specs.declared.storage.Storage.{Storage}
+use Rattle.msr_base.specs.declared.storage.Storage.TheVariants.{Integers, Frames}
+use Rattle.msr_base.specs.declared.storage.Version.{Version}
+use Rattle.msr_base.specs.declared.storage.Version.TheVariants.{One, Two}
+use Rattle.msr_base.specs.Storage.{size_of, storage_of}
+use Rattle.msr_base.specs.Kinds.{contains}
+use Rattle.msr_base.specs.RecordLength.{words_of}
 
 -- what a run begins with fits if the run does
 abbrev pub PrefixLaw : (List (ℤ × ℤ) → Type 0) → Type 0

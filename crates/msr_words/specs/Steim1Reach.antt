@@ -1,6 +1,6 @@
 -- How many differences some Steim-1 words hold, from the first on, as many as can.
 use Rattle.std.specs.Prelude.{◌≡◌, ◌<◌, ◌≤◌, ◌+◌, ◌-◌, ◌⊎◌, ◌↔◌, ℕ, suc, ℤ, pos, Bool, true, IsTrue, List, length, take, drop, reverse, slice_index_or}
-use Rattle.msr_kinds.specs.declared.storage.Version.TheVariants.{One}
+use Rattle.msr_base.specs.declared.storage.Version.TheVariants.{One}
 use Rattle.msr_steim.specs.Word.{FitsBits}
 use Rattle.msr_words.specs.Counts.{AtMost}
 use Rattle.msr_words.specs.Division.{CanDivide}

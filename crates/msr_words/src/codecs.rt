@@ -1,19 +1,19 @@
 //! Trackers: whether the samples pushed so far fit one record, for each kind of record.
 
 ghost use Rattle.std.specs.Prelude.{◌≡◌, ℕ, ◌+◌, ◌^◌, ◌<◌, ◌≤◌, ◌↔◌, ◌++◌, ◌∷◌, ℤ, List, [], IsTrue, map};
-ghost use Rattle.msr_kinds.specs.declared.kinds.Kind.{Kind};
-ghost use Rattle.msr_kinds.specs.declared.kinds.Kind.TheVariants.{Steim1, Steim2};
-ghost use Rattle.msr_kinds.specs.Forms.{all_kinds};
-ghost use Rattle.msr_kinds.specs.RecordLength.{words_of};
+ghost use Rattle.msr_base.specs.declared.kinds.Kind.{Kind};
+ghost use Rattle.msr_base.specs.declared.kinds.Kind.TheVariants.{Steim1, Steim2};
+ghost use Rattle.msr_base.specs.Forms.{all_kinds};
+ghost use Rattle.msr_base.specs.RecordLength.{words_of};
 ghost use Rattle.msr_words.specs.Fit.{Fits, IsInteger, Records, records_of};
-ghost use Rattle.msr_kinds.specs.Kinds.{code_of};
+ghost use Rattle.msr_base.specs.Kinds.{code_of};
 ghost use Rattle.msr_words.specs.Trackers.{FollowsIntegers, FollowsSteim1, FollowsSteim2, integers, width_of};
 ghost use Rattle.msr_words.specs.Laws.{TrackerLaws, most_of};
 ghost use Rattle.msr_words.specs.Lemmas.KindLaws.{integers_laws, kind_laws};
 
 use crate::counts::{LeastCounts, steim2_capacity};
 use crate::kinds::Fitting;
-use msr_kinds::{Kind, Length};
+use msr_base::{Kind, Length};
 use msr_steim::fits_bits;
 use std::marker::Model;
 

@@ -1,7 +1,7 @@
 //! How many differences share a word, and the least number of Steim-1 groups of a run to which differences are added.
 
 ghost use Rattle.std.specs.Prelude.{◌≡◌, ◌<◌, ◌≤◌, ◌↔◌, ◌∷◌, [], ℕ, ℤ, List, ◌-◌, ◌^◌, bit_or, IsTrue, true, length};
-ghost use Rattle.msr_kinds.specs.declared.storage.Version.TheVariants.{One};
+ghost use Rattle.msr_base.specs.declared.storage.Version.TheVariants.{One};
 ghost use Rattle.msr_steim.specs.Word.{FitsBits};
 ghost use Rattle.msr_words.specs.Counts.{EndsIn};
 ghost use Rattle.msr_words.specs.FirstGroup.{AreFewest};

@@ -1,12 +1,12 @@
 //! The division of differences that is written.
 
 ghost use Rattle.std.specs.Prelude.{◌≡◌, ◌<◌, ◌≤◌, ℤ, List, IfOk, IfSome, IsNone, length, map};
-ghost use Rattle.msr_kinds.specs.declared.storage.Version.{Version};
-ghost use Rattle.msr_kinds.specs.declared.storage.Version.TheVariants.{One, Two};
+ghost use Rattle.msr_base.specs.declared.storage.Version.{Version};
+ghost use Rattle.msr_base.specs.declared.storage.Version.TheVariants.{One, Two};
 ghost use Rattle.std.specs.List.{AllByRecursion};
 ghost use Rattle.msr_steim.specs.Word.{FitsBits};
-ghost use Rattle.msr_kinds.specs.Lengths.{bytes_of};
-ghost use Rattle.msr_kinds.specs.RecordLength.{words_of};
+ghost use Rattle.msr_base.specs.Lengths.{bytes_of};
+ghost use Rattle.msr_base.specs.RecordLength.{words_of};
 ghost use Rattle.msr_words.specs.Division.{CanDivide};
 ghost use Rattle.msr_words.specs.Existence.{DivisionExists};
 ghost use Rattle.msr_words.specs.Fit.{most_counted};
@@ -17,7 +17,7 @@ ghost use Rattle.msr_words.specs.FirstGroup.{AreSizes};
 use crate::counts::steim2_capacity;
 use crate::first_group::sizes_of;
 use crate::kinds::MOST_COUNTED;
-use msr_kinds::{Length, Version};
+use msr_base::{Length, Version};
 use msr_steim::{Group, all_fit_bits};
 use std::alloc::{AllocError, Global};
 

@@ -1,9 +1,9 @@
 //! Which runs fit a record of a kind.
 
 ghost use Rattle.std.specs.Prelude.{◌≡◌, All, ℕ, ℤ, List, ◌^◌, ◌<◌, ◌≤◌, ◌↔◌, IsTrue, drop, length};
-ghost use Rattle.msr_kinds.specs.Lengths.{bytes_of};
-ghost use Rattle.msr_kinds.specs.declared.storage.Version.TheVariants.{One, Two};
-ghost use Rattle.msr_kinds.specs.declared.kinds.Kind.TheVariants.{Steim1 as FirstSteim, Steim2 as SecondSteim};
+ghost use Rattle.msr_base.specs.Lengths.{bytes_of};
+ghost use Rattle.msr_base.specs.declared.storage.Version.TheVariants.{One, Two};
+ghost use Rattle.msr_base.specs.declared.kinds.Kind.TheVariants.{Steim1 as FirstSteim, Steim2 as SecondSteim};
 ghost use Rattle.msr_words.specs.Segment.{points, run_points, differences, difference_at, difference_from};
 ghost use Rattle.msr_words.specs.Division.{CanDivide};
 ghost use Rattle.msr_words.specs.Existence.{FirstKindExists, FittingIsDecided};
@@ -14,7 +14,7 @@ ghost use Rattle.msr_words.specs.Fit.{Fits, FitsAny, FitsIn, IsFirstKind, IsInte
 use crate::counts::{LeastCounts, magnitude};
 use crate::integers::all_of_bits;
 use crate::window::Window;
-use msr_kinds::{Form, Kind, Length, Storage, Version, Width};
+use msr_base::{Form, Kind, Length, Storage, Version, Width};
 
 /// The greatest number of samples that the header of a record can count, in 16 bits.
 pub(crate) const MOST_COUNTED: usize = 65_535;

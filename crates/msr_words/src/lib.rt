@@ -27,7 +27,7 @@ pub use kinds::{
     Fitting, Run, difference, difference_after, first_kind, fitting_is_decided, longest_group,
     longest_run, run_fits, steim2_dominates,
 };
-pub use msr_kinds::{Form, Kind, Kinds, Length};
+pub use msr_base::{Form, Kind, Kinds, Length};
 pub use msr_steim::fits_bits;
 pub use steim1::{begins_with_four, steim1_reach};
 pub use steim2::{Steim2Reach, steim2_reach};

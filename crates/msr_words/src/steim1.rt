@@ -1,10 +1,10 @@
 //! How far a Steim-1 record reaches, word by word.
 
 ghost use Rattle.std.specs.Prelude.{◌<◌, ◌≤◌, ℕ, ℤ, IsFalse, List, length, map};
-ghost use Rattle.msr_kinds.specs.declared.kinds.Kind.TheVariants.{Steim1 as FirstSteim};
+ghost use Rattle.msr_base.specs.declared.kinds.Kind.TheVariants.{Steim1 as FirstSteim};
 ghost use Rattle.msr_words.specs.Bounds.{BeginsWithFour, IsEnd};
 ghost use Rattle.msr_words.specs.FirstGroup.{IsSizeAt};
-ghost use Rattle.msr_kinds.specs.Lengths.{bytes_of};
+ghost use Rattle.msr_base.specs.Lengths.{bytes_of};
 ghost use Rattle.msr_words.specs.Pairs.{HasWalked};
 ghost use Rattle.msr_words.specs.Segment.{run_points};
 ghost use Rattle.msr_words.specs.Steim1Reach.{IsSteim1Word};
@@ -14,7 +14,7 @@ use crate::bounds::steim1_word_by_word;
 use crate::kinds::difference;
 use crate::pairs::Walk;
 use crate::window::{FourSizes, Window};
-use msr_kinds::Length;
+use msr_base::Length;
 use msr_steim::fits_bits;
 
 /// How many differences the next word adds. `spare` says that the last of them is of 8 bits and that the words can end

@@ -1,8 +1,8 @@
 //! How far a Steim-2 record reaches, group by group.
 
 ghost use Rattle.std.specs.Prelude.{◌≡◌, ◌<◌, ◌≤◌, IsTrue, length};
-ghost use Rattle.msr_kinds.specs.declared.kinds.Kind.TheVariants.{Steim2 as SecondSteim};
-ghost use Rattle.msr_kinds.specs.Lengths.{bytes_of};
+ghost use Rattle.msr_base.specs.declared.kinds.Kind.TheVariants.{Steim2 as SecondSteim};
+ghost use Rattle.msr_base.specs.Lengths.{bytes_of};
 ghost use Rattle.msr_words.specs.Bounds.{AreNarrowThrough, IsEnd};
 ghost use Rattle.msr_words.specs.Laws.{IsNarrow};
 ghost use Rattle.msr_words.specs.Segment.{difference_at};
@@ -11,7 +11,7 @@ use crate::bounds::steim2_greedy_reach;
 use crate::counts::is_narrow;
 use crate::kinds::{Fitting, difference};
 use crate::window::Window;
-use msr_kinds::{Kind, Length};
+use msr_base::{Kind, Length};
 
 /// How far Steim-2 reaches from a sample on.
 #[derive(Clone, Copy, Debug)]

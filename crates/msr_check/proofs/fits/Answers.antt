@@ -1,5 +1,5 @@
-use Rattle.msr_kinds.specs.Kinds.{IsChosen}
-use Rattle.msr_kinds.specs.declared.kinds.Kind.TheVariants.{Steim1}
+use Rattle.msr_base.specs.Kinds.{IsChosen}
+use Rattle.msr_base.specs.declared.kinds.Kind.TheVariants.{Steim1}
 use Rattle.msr_words.specs.Fit.{records_of}
 use Rattle.msr_check.proofs.HoldsBoth.{fits_to}
 use Rattle.msr_check.proofs.fits.Goals as goal

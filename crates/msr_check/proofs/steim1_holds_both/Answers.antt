@@ -1,7 +1,7 @@
 use Rattle.std.proofs.Common.{arith, ◌<◌, IsTrue, nat_lt, refl, inl, inr, ◌-◌}
 use Rattle.std.proofs.lemmas.Bool.{cases_lt}
 use Rattle.std.proofs.lemmas.Bool.Decides.{nat_tests}
-use Rattle.msr_kinds.specs.declared.kinds.Kind.TheVariants.{Steim1}
+use Rattle.msr_base.specs.declared.kinds.Kind.TheVariants.{Steim1}
 use Rattle.msr_words.specs.Fit.{records_of}
 use Rattle.msr_check.proofs.HoldsBoth.{none_apart, none_before, none_here, reaches_both}
 use Rattle.msr_check.proofs.steim1_holds_both.Goals as goal

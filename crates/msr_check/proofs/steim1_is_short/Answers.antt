@@ -1,6 +1,6 @@
 use Rattle.std.proofs.Common.{arith}
-use Rattle.msr_kinds.specs.Kinds.{IsChosen}
-use Rattle.msr_kinds.specs.declared.kinds.Kind.TheVariants.{Steim2}
+use Rattle.msr_base.specs.Kinds.{IsChosen}
+use Rattle.msr_base.specs.declared.kinds.Kind.TheVariants.{Steim2}
 use Rattle.msr_words.specs.Fit.{records_of}
 use Rattle.msr_check.proofs.HoldsBoth.{dominated, overtaken, too_many}
 use Rattle.msr_check.proofs.steim1_is_short.Goals as goal

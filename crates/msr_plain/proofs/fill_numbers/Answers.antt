@@ -2,7 +2,7 @@
 use Rattle.std.proofs.Common.{rules, ◌-◌, ◌*◌, length, replicate, slice_index_or, pos, w32, SFits, refl, arith}
 use Rattle.std.proofs.lemmas.Grind.{common_steps}
 use Rattle.std.proofs.lemmas.Int.{to_z-of_z}
-use Rattle.msr_kinds.specs.Storage.{size_of}
+use Rattle.msr_base.specs.Storage.{size_of}
 use Rattle.msr_plain.proofs.CarriedLemmas.{carried, one_more}
 use Rattle.msr_plain.proofs.fill_numbers.Goals as goal
 

@@ -1,6 +1,6 @@
 -- The samples so far, and the old bytes.
 use Rattle.std.proofs.Common.{◌≡◌, ◌*◌, ◌++◌, take, drop}
-use Rattle.msr_kinds.specs.Storage.{size_of}
+use Rattle.msr_base.specs.Storage.{size_of}
 use Rattle.msr_plain.specs.Plain.{bytes_of_all}
 use Rattle.msr_plain.proofs.fill_numbers.Given as goal
 

@@ -1,6 +1,6 @@
 -- The samples so far stand by place.
 use Rattle.std.proofs.Common.{◌≡◌, ◌<◌, ◌*◌, ℕ, pos, drop, get_or}
-use Rattle.msr_kinds.specs.Storage.{size_of}
+use Rattle.msr_base.specs.Storage.{size_of}
 use Rattle.msr_plain.specs.Plain.{number_in}
 use Rattle.msr_plain.proofs.read_numbers.Given as goal
 

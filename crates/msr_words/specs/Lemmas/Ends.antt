@@ -3,8 +3,8 @@ use Rattle.std.proofs.Common.{◌≡◌, ◌<◌, ◌≤◌, ℕ, zero, suc, ◌
 use Rattle.std.specs.Prelude.{IsSomeAnd, reverse, flat_map}
 use Rattle.std.specs.List.{AllByRecursion}
 use Rattle.std.proofs.lemmas.List.{append-nil, length-reverse, reverse-append, reverse-reverse}
-use Rattle.msr_kinds.specs.declared.storage.Version.{Version}
-use Rattle.msr_kinds.specs.declared.storage.Version.TheVariants.{One, Two}
+use Rattle.msr_base.specs.declared.storage.Version.{Version}
+use Rattle.msr_base.specs.declared.storage.Version.TheVariants.{One, Two}
 use Rattle.msr_steim.specs.Word.{AreGroups, FitsBits, IsGroup, IsInnerGroup, group_width}
 use Rattle.msr_steim.proofs.Fields.{all_fit_push}
 use Rattle.msr_words.specs.Division.{CanDivide}

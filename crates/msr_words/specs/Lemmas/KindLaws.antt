@@ -5,21 +5,21 @@ use Rattle.std.proofs.lemmas.List.{take_at, drop_at, drop_all, map-append, lengt
 use Rattle.std.proofs.lemmas.List.Elements.{All-nil, All-take, All-drop}
 use Rattle.std.proofs.lemmas.Nat.{le-div}
 use Rattle.std.proofs.Math.Nat.{mul-le-mul_left, mul_comm}
-use Rattle.msr_kinds.specs.declared.kinds.Kind.{Kind}
-use Rattle.msr_kinds.specs.declared.kinds.Kind.TheVariants.{Int16, Int24, Int32}
-use Rattle.msr_kinds.specs.declared.storage.Version.{Version}
-use Rattle.msr_kinds.specs.declared.storage.Storage.{Storage}
-use Rattle.msr_kinds.specs.declared.storage.Storage.TheVariants.{Integers, Frames}
-use Rattle.msr_kinds.specs.declared.storage.Version.TheVariants.{One, Two}
-use Rattle.msr_kinds.specs.declared.storage.Width.{Width}
-use Rattle.msr_kinds.specs.declared.storage.Width.TheVariants.{Two as TwoBytes, Three as ThreeBytes, Four as FourBytes}
-use Rattle.msr_kinds.specs.Storage.{size_of, storage_of}
+use Rattle.msr_base.specs.declared.kinds.Kind.{Kind}
+use Rattle.msr_base.specs.declared.kinds.Kind.TheVariants.{Int16, Int24, Int32}
+use Rattle.msr_base.specs.declared.storage.Version.{Version}
+use Rattle.msr_base.specs.declared.storage.Storage.{Storage}
+use Rattle.msr_base.specs.declared.storage.Storage.TheVariants.{Integers, Frames}
+use Rattle.msr_base.specs.declared.storage.Version.TheVariants.{One, Two}
+use Rattle.msr_base.specs.declared.storage.Width.{Width}
+use Rattle.msr_base.specs.declared.storage.Width.TheVariants.{Two as TwoBytes, Three as ThreeBytes, Four as FourBytes}
+use Rattle.msr_base.specs.Storage.{size_of, storage_of}
 use Rattle.msr_words.specs.Division.{CanDivide}
 use Rattle.msr_words.specs.Laws.{PrefixLaw, BackStepLaw, SizeLaw, TrackerLaws, largest_of, look_back_of, most_of, places_in, places_of, room_of}
 use Rattle.msr_words.specs.Trackers.{integers}
 use Rattle.msr_words.specs.Lemmas.SteimLaws.{prefix_law, back_step_law, size_law, none_divides}
 use Rattle.msr_words.specs.Fit.{FitsIntegers, FitsSteim, HasRoom, Fits, IsInteger}
-use Rattle.msr_kinds.specs.RecordLength.{words_of}
+use Rattle.msr_base.specs.RecordLength.{words_of}
 
 -- if `many` samples of `size` bytes have room, fewer do
 fewer_have_room : (size bytes few many : ℕ) → few ≤ many → size * many + 64 ≤ bytes → size * few + 64 ≤ bytes

@@ -1,6 +1,6 @@
 -- Each size is told.
 use Rattle.std.proofs.Common.{◌/◌, length}
-use Rattle.msr_kinds.specs.declared.storage.Version.TheVariants.{Two}
+use Rattle.msr_base.specs.declared.storage.Version.TheVariants.{Two}
 use Rattle.msr_filling.proofs.FilledAreas.{area_filled}
 use Rattle.msr_filling.proofs.filling.fill_steim2.Goals as goal
 

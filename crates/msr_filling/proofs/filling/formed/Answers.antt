@@ -1,7 +1,7 @@
 -- The top bits and the fields are added without a carry.
 use Rattle.std.proofs.Common.{arith, take}
 use Rattle.std.proofs.lemmas.List.{length-take-le}
-use Rattle.msr_kinds.specs.declared.storage.Version.TheVariants.{Two}
+use Rattle.msr_base.specs.declared.storage.Version.TheVariants.{Two}
 use Rattle.msr_filling.proofs.FillFields.{added_word_is, group_bits}
 use Rattle.msr_filling.proofs.filling.formed.Goals as goal
 

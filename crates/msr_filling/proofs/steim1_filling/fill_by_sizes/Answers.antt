@@ -1,6 +1,6 @@
 -- All sizes are given, so that the area is filled.
 use Rattle.std.proofs.Common.{rules, arith, ◌≡◌, ◌-◌, ◌*◌, ◌/◌, length, pos, subst, sym, ◌∙◌}
-use Rattle.msr_kinds.specs.declared.storage.Version.TheVariants.{One}
+use Rattle.msr_base.specs.declared.storage.Version.TheVariants.{One}
 use Rattle.msr_steim.specs.Word.{FitsBits}
 use Rattle.msr_words.specs.Segment.{difference_from, differences}
 use Rattle.msr_words.proofs.FirstGroups.{all_at, divided_fit}

@@ -1,6 +1,6 @@
 -- The differences are those of a division, and the area has room for it.
 use Rattle.std.proofs.Common.{◌-◌, ◌*◌, ◌/◌, length}
-use Rattle.msr_kinds.specs.declared.storage.Version.TheVariants.{One}
+use Rattle.msr_base.specs.declared.storage.Version.TheVariants.{One}
 use Rattle.msr_words.specs.Segment.{differences}
 use Rattle.msr_words.proofs.FirstGroups.{divided_fit}
 use Rattle.msr_filling.proofs.FilledAreas.{area_filled}

@@ -2,7 +2,7 @@
 use Rattle.std.proofs.Common.{arith, ◌≤◌, ◌*◌, drop, take}
 use Rattle.std.proofs.lemmas.List.{length-drop, length-take-le}
 use Rattle.std.proofs.Math.Nat.{mul-le-mul_right}
-use Rattle.msr_kinds.specs.declared.storage.Version.TheVariants.{One}
+use Rattle.msr_base.specs.declared.storage.Version.TheVariants.{One}
 use Rattle.msr_words.specs.Segment.{differences}
 use Rattle.msr_filling.proofs.FillFields.{group_bits, shifted_word_is}
 use Rattle.msr_words.proofs.Plain.{length-differences}

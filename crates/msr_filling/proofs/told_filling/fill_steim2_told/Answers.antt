@@ -2,7 +2,7 @@
 use Rattle.std.proofs.Common.{rules, arith, ◌≡◌, ◌<◌, ◌+◌, ◌-◌, ◌*◌, ◌/◌, length, pos, slice_index_or, refl, lit<, sum, take, inl, inr, w32, SFits}
 use Rattle.std.proofs.lemmas.Bool.{cases_lt}
 use Rattle.std.proofs.lemmas.Int.{to_z-of_z}
-use Rattle.msr_kinds.specs.declared.storage.Version.TheVariants.{Two}
+use Rattle.msr_base.specs.declared.storage.Version.TheVariants.{Two}
 use Rattle.msr_steim.proofs.Filling.{codes_fit}
 use Rattle.msr_words.specs.Segment.{differences}
 use Rattle.msr_filling.proofs.Fill.{codes_below_more, frame_ends, framed_all, none_more, some_codes}

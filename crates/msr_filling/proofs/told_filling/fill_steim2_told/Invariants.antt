@@ -1,6 +1,6 @@
 -- Whatever the groups of the division that is written are, their words stand in the area so far.
 use Rattle.std.proofs.Common.{◌≡◌, ◌<◌, ◌≤◌, ◌+◌, ◌-◌, ◌*◌, ◌^◌, ℤ, List, length, pos, slice_index_or, sum, take}
-use Rattle.msr_kinds.specs.declared.storage.Version.TheVariants.{Two}
+use Rattle.msr_base.specs.declared.storage.Version.TheVariants.{Two}
 use Rattle.msr_words.specs.Canonical.{IsCanonicalDivision}
 use Rattle.msr_words.specs.Segment.{differences}
 use Rattle.msr_filling.proofs.Fill.{IsFilled, IsFramed}

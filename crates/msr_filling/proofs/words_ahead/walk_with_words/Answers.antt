@@ -1,7 +1,7 @@
 -- Group by group, until none begins or no word is left.
 use Rattle.std.proofs.Common.{arith, ◌≡◌, ◌+◌, ◌-◌, ◌<◌, suc, None, length, take, drop, refl, subst}
 use Rattle.std.proofs.lemmas.List.{length-take-le}
-use Rattle.msr_kinds.specs.declared.kinds.Kind.TheVariants.{Steim2}
+use Rattle.msr_base.specs.declared.kinds.Kind.TheVariants.{Steim2}
 use Rattle.msr_words.specs.Bounds.{IsGreedyReach, latest_end}
 use Rattle.msr_words.specs.Groups.{IsLongestGroup}
 use Rattle.msr_words.specs.Laws.{most_of}

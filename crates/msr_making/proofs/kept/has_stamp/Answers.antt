@@ -1,6 +1,6 @@
 use Rattle.std.proofs.lemmas.Result.{err_from_is_err_and}
 use Rattle.std.proofs.Common.{◌≡◌, Ok, false, rules}
-use Rattle.msr_stamp.specs.Stamp.{stamp_text}
+use Rattle.msr_naming.specs.Stamp.{stamp_text}
 use Rattle.msr_making.proofs.Lefts.{text_memory, text_none, text_there}
 use Rattle.msr_making.proofs.Sights.{asks_nothing}
 use Rattle.msr_making.proofs.kept.has_stamp.Goals as goal

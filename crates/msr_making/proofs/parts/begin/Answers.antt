@@ -2,7 +2,7 @@ use Rattle.std.proofs.Common.{◌∷◌, [], inl, inr, refl}
 use Rattle.msr_options.specs.declared.hint.Side.TheVariants.{Records, Report}
 use Rattle.msr_tree.proofs.Acting.{goes_more, then_ok, then_stopped}
 use Rattle.std.proofs.lemmas.Result.{err_from_is_err_and}
-use Rattle.msr_stamp.specs.Making.{IsBegun}
+use Rattle.msr_naming.specs.Making.{IsBegun}
 use Rattle.msr_making.specs.Parts.{AreBegun, part_paths}
 use Rattle.msr_making.specs.declared.parts.Parts.{Parts}
 use Rattle.msr_making.proofs.parts.begin.Goals as goal

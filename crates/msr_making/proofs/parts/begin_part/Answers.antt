@@ -1,5 +1,5 @@
 use Rattle.std.proofs.Common.{◌≡◌, rules}
-use Rattle.msr_stamp.proofs.Begun.{begun_again}
+use Rattle.msr_naming.proofs.Begun.{begun_again}
 use Rattle.msr_making.proofs.parts.begin_part.Goals as goal
 
 pub returns-clause-goes : goal.returns-clause-goes

@@ -1,9 +1,9 @@
 use Rattle.std.proofs.lemmas.Result.{err_from_is_err_and}
 use Rattle.msr_tree.proofs.Acting.{goes_more, goes_within, stopped_as, then_given}
 use Rattle.std.proofs.Common.{rules, ◌≡◌, ◌∷◌, []}
-use Rattle.msr_stamp.specs.Making.{LeadsToTaken}
+use Rattle.msr_naming.specs.Making.{LeadsToTaken}
 use Rattle.msr_making.specs.Parts.{AreFinished, part_paths}
-use Rattle.msr_stamp.proofs.Begun.{goes_finished}
+use Rattle.msr_naming.proofs.Begun.{goes_finished}
 use Rattle.msr_making.proofs.Begun.{taken_kept}
 use Rattle.msr_making.proofs.parts.finish.Goals as goal
 

@@ -1,8 +1,8 @@
 use Rattle.std.proofs.Common.{◌∙◌, ap, rules, sym, subst, Option}
 use Rattle.msr_options.specs.declared.names.DayName.{DayName}
-use Rattle.msr_belonging.specs.Belonging.{IsFoundAsAsked, told_segments}
+use Rattle.msr_folders.specs.Belonging.{IsFoundAsAsked, told_segments}
 use Rattle.msr_making.proofs.Fewer.{none_of}
-use Rattle.msr_kinds.specs.Lengths.{bytes_of}
+use Rattle.msr_base.specs.Lengths.{bytes_of}
 use Rattle.msr_making.proofs.repacking.counts_kept.Goals.{else-is_strict-via-then-is_strict+else-report-ne0, else-is_strict-via-else-is_strict}
 use Rattle.msr_making.proofs.repacking.counts_kept.Goals as goal
 

@@ -1,6 +1,6 @@
 use Rattle.std.proofs.Common.{arith, refl, ◌+◌, ◌-◌, [], ◌∷◌, inl, inr}
-use Rattle.msr_kinds.specs.Kinds.{IsChosen}
-use Rattle.msr_kinds.specs.declared.kinds.Kind.TheVariants.{Int16, Steim1, Steim2}
+use Rattle.msr_base.specs.Kinds.{IsChosen}
+use Rattle.msr_base.specs.declared.kinds.Kind.TheVariants.{Int16, Steim1, Steim2}
 use Rattle.msr_words.proofs.AnyKind.{int16_by_bits}
 use Rattle.msr_words.proofs.Runs.{length-run_points}
 use Rattle.msr_words.proofs.Stretches.{none_with_wide}

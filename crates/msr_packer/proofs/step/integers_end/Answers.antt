@@ -1,5 +1,5 @@
 use Rattle.std.proofs.Common.{arith, inl, inr}
-use Rattle.msr_kinds.specs.Kinds.{IsChosen}
+use Rattle.msr_base.specs.Kinds.{IsChosen}
 use Rattle.msr_packer.proofs.EndsByKind.{empty_run, end_if_chosen, none_longer, none_past}
 use Rattle.msr_words.specs.Fit.{records_of}
 use Rattle.msr_packer.proofs.step.integers_end.Goals as goal

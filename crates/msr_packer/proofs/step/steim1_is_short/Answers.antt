@@ -1,6 +1,6 @@
 use Rattle.std.proofs.Common.{arith, ◌+◌, ◌-◌, ◌*◌, ◌<◌, IsTrue, nat_lt, refl, inl, inr}
 use Rattle.std.proofs.lemmas.Bool.Decides.{nat_tests}
-use Rattle.msr_kinds.specs.declared.kinds.Kind.TheVariants.{Steim1}
+use Rattle.msr_base.specs.declared.kinds.Kind.TheVariants.{Steim1}
 use Rattle.msr_words.specs.Laws.{most_of}
 use Rattle.msr_packer.proofs.EndsByKind.{none_longer}
 use Rattle.msr_words.proofs.Stretches.{no_further}

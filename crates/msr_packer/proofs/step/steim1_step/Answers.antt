@@ -1,5 +1,5 @@
 use Rattle.std.proofs.Common.{arith, ◌-◌}
-use Rattle.msr_kinds.specs.declared.kinds.Kind.TheVariants.{Steim1}
+use Rattle.msr_base.specs.declared.kinds.Kind.TheVariants.{Steim1}
 use Rattle.msr_words.specs.Fit.{Fits, records_of}
 use Rattle.msr_packer.proofs.EndsByKind.{from_here, from_here_alone, steim1_found}
 use Rattle.msr_packer.proofs.Search.{best_kept, best_new}

@@ -1,5 +1,5 @@
 use Rattle.std.proofs.Common.{arith, refl, ◌+◌, ◌-◌, [], ◌∷◌, inl, inr}
-use Rattle.msr_kinds.specs.declared.kinds.Kind.TheVariants.{Int16, Steim1, Steim2}
+use Rattle.msr_base.specs.declared.kinds.Kind.TheVariants.{Int16, Steim1, Steim2}
 use Rattle.msr_words.specs.Fit.{FitsIn, IsRun, records_of}
 use Rattle.msr_words.specs.Lemmas.KindLaws.{size_kind}
 use Rattle.msr_words.specs.Segment.{run_points}

@@ -1,6 +1,6 @@
 use Rattle.std.proofs.Common.{arith, refl}
-use Rattle.msr_kinds.specs.Kinds.{IsChosen}
-use Rattle.msr_kinds.specs.declared.kinds.Kind.TheVariants.{Steim2}
+use Rattle.msr_base.specs.Kinds.{IsChosen}
+use Rattle.msr_base.specs.declared.kinds.Kind.TheVariants.{Steim2}
 use Rattle.msr_packer.proofs.EndsByKind.{end_if_chosen, end_if_not}
 use Rattle.msr_packer.proofs.ToldSizes.{none_sized}
 use Rattle.msr_words.specs.Fit.{records_of}

@@ -1,7 +1,7 @@
 -- 24-bit integers reach no further than a run that is known already, or they are tried.
 use Rattle.std.proofs.Common.{arith, refl, ◌≡◌, ◌∷◌, max}
-use Rattle.msr_kinds.specs.declared.kinds.Kind.TheVariants.{Int24, Int32}
-use Rattle.msr_kinds.proofs.KindLemmas.{int32_is_chosen}
+use Rattle.msr_base.specs.declared.kinds.Kind.TheVariants.{Int24, Int32}
+use Rattle.msr_base.proofs.KindLemmas.{int32_is_chosen}
 use Rattle.msr_words.proofs.AnyKind.{int24_by_bits}
 use Rattle.msr_packer.specs.declared.step.StepRun.{StepRun}
 use Rattle.msr_packer.specs.Steps.{longer_kinds}

@@ -2,7 +2,7 @@ use Rattle.std.proofs.Common.{◌≡◌, ℕ, ◌+◌, ◌^◌, ◌≤◌, List,
 use Rattle.msr_header.specs.Reading.{header_of}
 use Rattle.msr_header.specs.Writing.{IsWritableHeader, header_as_read, header_bytes}
 use Rattle.msr_header.specs.declared.header.Header.{Header}
-use Rattle.msr_kinds.specs.Lengths.{bytes_of}
+use Rattle.msr_base.specs.Lengths.{bytes_of}
 use Rattle.msr_record.specs.Written.{header_for}
 use Rattle.msr_record.proofs.AreaLemmas.{few_samples, exponent_bounds}
 use Rattle.msr_record.proofs.WritingLemmas.{appends_record, behind_header}

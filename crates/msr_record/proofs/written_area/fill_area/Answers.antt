@@ -1,4 +1,4 @@
-use Rattle.msr_kinds.specs.Lengths.{bytes_of}
+use Rattle.msr_base.specs.Lengths.{bytes_of}
 use Rattle.msr_record.proofs.AreaLemmas.{room_left, samples_fit}
 use Rattle.msr_record.proofs.written_area.fill_area.Goals as goal
 

@@ -1,6 +1,6 @@
 -- By what the area tells that is filled.
 use Rattle.std.proofs.Common.{◌-◌, length, sym, subst}
-use Rattle.msr_kinds.specs.Lengths.{bytes_of}
+use Rattle.msr_base.specs.Lengths.{bytes_of}
 use Rattle.msr_record.specs.Written.{AreFrames}
 use Rattle.msr_record.proofs.FilledFrames.{can_fill, few_groups, frames_agree, frames_carried, frames_written, whole_area}
 use Rattle.msr_record.proofs.written_area.fill_steim_area.Goals as goal

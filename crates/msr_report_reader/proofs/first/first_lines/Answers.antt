@@ -1,5 +1,5 @@
 use Rattle.std.proofs.Common.{◌≡◌, ◌∙◌, ◌&&◌, ap, refl, sym, true, rules, ℕ, List, ◌++◌, ◌∷◌, codes, decimal}
-use Rattle.msr_kinds.specs.Lengths.{bytes_of}
+use Rattle.msr_base.specs.Lengths.{bytes_of}
 use Rattle.msr_report.specs.Text.{kinds_line}
 use Rattle.msr_report_reader.proofs.Begun.{one_of, other_of}
 use Rattle.msr_report_reader.proofs.FirstFaults.{fault_1, fault_2, fault_3, fault_counts}

@@ -1,6 +1,6 @@
 -- By the arms: the code and the top two bits say how the word is laid out.
 use Rattle.std.proofs.Common.{◌/◌, refl, arith, lit<, rules}
-use Rattle.msr_kinds.specs.declared.storage.Version.TheVariants.{One}
+use Rattle.msr_base.specs.declared.storage.Version.TheVariants.{One}
 use Rattle.msr_steim.proofs.Summing.{divided, divided_by, inner_group_done, inner_none_written, steim2_group_done}
 use Rattle.msr_steim.proofs.sums.write_inner_word.Goals as goal
 

@@ -2,7 +2,7 @@
 use Rattle.std.proofs.Common.{◌≡◌, ◌≤◌, ◌+◌, ◌*◌, ◌/◌, ◌%◌, refl, arith, lit<, inl, inr}
 use Rattle.std.specs.Prelude.{IsSomeAnd}
 use Rattle.std.proofs.lemmas.Bool.{cases_lt}
-use Rattle.msr_kinds.specs.declared.storage.Version.TheVariants.{One, Two}
+use Rattle.msr_base.specs.declared.storage.Version.TheVariants.{One, Two}
 use Rattle.msr_steim.specs.Word.{layout_of}
 use Rattle.msr_steim.proofs.Summing.{divided, divided_by, inner_group_written, laid_out_written}
 use Rattle.msr_steim.proofs.sums.write_without_jump.Goals as goal

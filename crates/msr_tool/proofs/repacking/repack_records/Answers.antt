@@ -1,13 +1,13 @@
 use Rattle.std.proofs.Common.{inl, inr, ◌∙◌, ◌++◌, [], None, map, refl, ap, subst, rules}
 use Rattle.std.proofs.lemmas.Result.{err_from_is_err_and}
 use Rattle.std.specs.Option.{option_to_list}
-use Rattle.msr_kinds.specs.Lengths.{bytes_of}
-use Rattle.msr_kinds.specs.declared.forms.Form.{Form}
+use Rattle.msr_base.specs.Lengths.{bytes_of}
+use Rattle.msr_base.specs.declared.forms.Form.{Form}
 use Rattle.msr_segments.specs.Spans.{Following}
 use Rattle.msr_report_reader.specs.Content.{IsFirst}
 use Rattle.msr_report_reader.proofs.Ranges.{is_length}
 use Rattle.msr_devices.proofs.Chaining.{calm_same, steady_can_count}
-use Rattle.msr_output.specs.Output.{segment_of_packed}
+use Rattle.msr_record.specs.Output.{segment_of_packed}
 use Rattle.msr_tool.specs.Settings.{settings_of}
 use Rattle.msr_tool.specs.Writing.{StopsLining}
 use Rattle.msr_tool.proofs.Lines.{calm_lined, can_take_row, prefix_lined}

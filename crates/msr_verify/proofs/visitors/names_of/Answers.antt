@@ -1,5 +1,5 @@
 use Rattle.std.proofs.Common.{◌≡◌, ◌∙◌, ap, refl, Bool, true, false}
-use Rattle.msr_belonging.specs.Names.{day_name}
+use Rattle.msr_folders.specs.Names.{day_name}
 use Rattle.msr_options.specs.Days.{names_for}
 use Rattle.msr_options.specs.declared.names.Names.{Names}
 use Rattle.msr_options.specs.declared.names.Names.TheVariants.{Any, Own}

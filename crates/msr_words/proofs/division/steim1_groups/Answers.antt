@@ -2,7 +2,7 @@
 use Rattle.std.proofs.Common.{arith, ◌≡◌, ◌<◌, ◌≤◌, ◌+◌, ◌-◌, ◌++◌, [], ◌∷◌, ℕ, ℤ, List, length, map, take, drop, get_or, sym, ap, ◌∙◌, subst}
 use Rattle.std.specs.List.{AllByRecursion}
 use Rattle.std.proofs.lemmas.List.{get_or_read, length-append, length-drop, length-map, length-take-le}
-use Rattle.msr_kinds.specs.declared.storage.Version.TheVariants.{One}
+use Rattle.msr_base.specs.declared.storage.Version.TheVariants.{One}
 use Rattle.msr_steim.specs.Word.{FitsBits}
 use Rattle.msr_words.specs.FirstGroup.{AreSizes, IsCanonicalFirst}
 use Rattle.msr_words.proofs.WrittenDivision.{group_fits, items_push, rest_is}

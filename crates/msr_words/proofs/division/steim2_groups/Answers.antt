@@ -2,7 +2,7 @@
 use Rattle.std.proofs.Common.{rules, arith, ◌≡◌, ◌+◌, ◌++◌, [], ◌∷◌, length, map, take, drop, min, get_or, pos, w32, w64, SFits, ap, ◌∙◌, subst, inl, inr}
 use Rattle.std.proofs.lemmas.Int.{to_z-of_z}
 use Rattle.std.proofs.lemmas.List.{length-append, length-map, take_all, take_more}
-use Rattle.msr_kinds.specs.declared.storage.Version.TheVariants.{Two}
+use Rattle.msr_base.specs.declared.storage.Version.TheVariants.{Two}
 use Rattle.msr_words.specs.Division.{CanDivide}
 use Rattle.msr_words.specs.Groups.{IsCapacity}
 use Rattle.msr_words.proofs.WrittenDivision.{items_push}

@@ -1,7 +1,7 @@
 use Rattle.std.proofs.Common.{rules, arith, refl, ◌+◌, take, w64, SFits}
 use Rattle.std.specs.Prelude.{reverse}
 use Rattle.std.proofs.lemmas.Int.{to_z-of_z}
-use Rattle.msr_kinds.specs.declared.storage.Version.TheVariants.{One}
+use Rattle.msr_base.specs.declared.storage.Version.TheVariants.{One}
 use Rattle.msr_words.specs.Segment.{differences}
 use Rattle.msr_words.specs.AreCounts.{AreCounts}
 use Rattle.msr_words.specs.Lemmas.SteimLaws.{none_divides}

@@ -1,6 +1,6 @@
 use Rattle.std.proofs.Common.{take}
 use Rattle.std.specs.Prelude.{reverse}
-use Rattle.msr_kinds.specs.declared.storage.Version.TheVariants.{One}
+use Rattle.msr_base.specs.declared.storage.Version.TheVariants.{One}
 use Rattle.msr_words.specs.Segment.{differences}
 use Rattle.msr_words.specs.Division.{CanDivide}
 use Rattle.msr_words.specs.AreCounts.{AreCounts}

@@ -1,6 +1,6 @@
 use Rattle.std.proofs.Common.{arith, ◌<◌, SFits, w32, slice_index_or, pos, ◌-◌, rules}
 use Rattle.std.proofs.lemmas.Int.{to_z-of_z}
-use Rattle.msr_kinds.specs.Kinds.{IsChosen}
+use Rattle.msr_base.specs.Kinds.{IsChosen}
 use Rattle.msr_words.proofs.Runs.{run_from_start, run_from}
 use Rattle.msr_words.proofs.kinds.run_fits.Goals as goal
 

@@ -1,7 +1,7 @@
 -- The words so far hold as many differences as they can.
 use Rattle.std.proofs.Common.{arith, ◌≡◌, ◌+◌, ◌-◌, None, suc, subst, true, drop}
 use Rattle.msr_words.specs.Segment.{differences}
-use Rattle.msr_kinds.specs.RecordLength.{words_of}
+use Rattle.msr_base.specs.RecordLength.{words_of}
 use Rattle.msr_words.specs.Steim1Reach.{IsSteim1End, IsSteim1Word}
 use Rattle.msr_words.proofs.PairWalks.{walk_on}
 use Rattle.msr_words.proofs.Windows.{window_on}

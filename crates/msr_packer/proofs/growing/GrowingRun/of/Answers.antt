@@ -1,5 +1,5 @@
 use Rattle.std.proofs.Common.{arith}
-use Rattle.msr_kinds.specs.Kinds.{IsChosen}
+use Rattle.msr_base.specs.Kinds.{IsChosen}
 use Rattle.msr_packer.specs.Growing.{kind_of_tracker}
 use Rattle.msr_packer.proofs.Streaming.{begun}
 use Rattle.msr_words.specs.Fit.{records_of}

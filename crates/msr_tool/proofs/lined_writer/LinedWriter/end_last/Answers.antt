@@ -1,6 +1,6 @@
 use Rattle.std.proofs.Common.{◌≡◌, ◌∙◌, ◌++◌, ◌∷◌, [], map, sym, Some}
 use Rattle.std.proofs.lemmas.Result.{err_from_is_err_and}
-use Rattle.msr_output.specs.Output.{segment_of_packed}
+use Rattle.msr_record.specs.Output.{segment_of_packed}
 use Rattle.msr_tool.specs.Writing.{GoesOn}
 use Rattle.msr_tool.proofs.Lines.{last_begun, line_proper, lines_more, stops_lining, stops_pushing}
 use Rattle.msr_tool.proofs.lined_writer.LinedWriter.end_last.Goals as goal

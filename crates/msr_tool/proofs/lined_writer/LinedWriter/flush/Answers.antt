@@ -2,7 +2,7 @@ use Rattle.std.proofs.Common.{◌++◌, ◌∷◌, [], map}
 use Rattle.std.proofs.lemmas.List.{append-nil}
 use Rattle.std.proofs.lemmas.Result.{err_from_is_err_and}
 use Rattle.std.specs.Option.{option_to_list}
-use Rattle.msr_output.specs.Output.{segment_of_packed}
+use Rattle.msr_record.specs.Output.{segment_of_packed}
 use Rattle.msr_tool.specs.Fault.{fault_of_writing}
 use Rattle.msr_tool.specs.Writing.{GoesOn, StandsWritten, StopsLining}
 use Rattle.msr_tool.proofs.Lines.{lined_by, stops_lining}

@@ -2,8 +2,8 @@ use Rattle.std.proofs.Common.{Some, ◌∙◌, ◌∷◌, [], map, append_assoc}
 use Rattle.std.proofs.lemmas.Result.{err_from_is_err_and, MatchResult-weaker}
 use Rattle.std.specs.Option.{option_to_list}
 use Rattle.msr_segments.specs.Segments.{row_segment}
-use Rattle.msr_output.specs.Opened.{empty_segment}
-use Rattle.msr_output.specs.Output.{segment_of_packed}
+use Rattle.msr_record.specs.Opened.{empty_segment}
+use Rattle.msr_record.specs.Output.{segment_of_packed}
 use Rattle.msr_tool.proofs.Lines.{stops_wider}
 use Rattle.msr_tool.proofs.lined_writer.LinedWriter.take.Goals as goal
 

@@ -1,6 +1,6 @@
 use Rattle.std.proofs.Common.{◌≡◌, ◌∙◌, ap, false, true, is_ok, Ok, refl, subst, sym}
 use Rattle.std.proofs.lemmas.Result.{err_from_is_err_and}
-use Rattle.msr_belonging.specs.Names.{day_name}
+use Rattle.msr_folders.specs.Names.{day_name}
 use Rattle.msr_options.specs.Days.{in_length, with_name}
 use Rattle.msr_options.specs.declared.days.DayOptions.{DayOptions}
 use Rattle.msr_walk.proofs.DayPaths.{day_within}

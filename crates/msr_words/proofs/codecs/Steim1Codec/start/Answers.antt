@@ -1,6 +1,6 @@
 use Rattle.std.proofs.Common.{arith}
-use Rattle.msr_kinds.specs.Lengths.{bytes_of}
-use Rattle.msr_kinds.specs.RecordLength.{words_of}
+use Rattle.msr_base.specs.Lengths.{bytes_of}
+use Rattle.msr_base.specs.RecordLength.{words_of}
 use Rattle.msr_words.proofs.Steim1Pushes.{steim1_start}
 use Rattle.msr_words.proofs.codecs.Steim1Codec.start.Goals as goal
 

@@ -1,5 +1,5 @@
 use Rattle.std.proofs.Common.{arith, ◌-◌}
-use Rattle.msr_kinds.specs.Lengths.{bytes_of}
+use Rattle.msr_base.specs.Lengths.{bytes_of}
 use Rattle.msr_words.proofs.Steim2Pushes.{steim2_start}
 use Rattle.msr_words.proofs.codecs.Steim2Codec.start.Goals as goal
 

@@ -1,8 +1,8 @@
 use Rattle.std.proofs.Common.{arith, subst, min, ◌≡◌, sym, ◌∙◌}
-use Rattle.msr_kinds.specs.Lengths.{bytes_of}
-use Rattle.msr_kinds.specs.Storage.{storage_of}
-use Rattle.msr_kinds.specs.declared.storage.Storage.TheVariants.{Frames, Integers}
-use Rattle.msr_kinds.specs.declared.storage.Version.TheVariants.{One, Two}
+use Rattle.msr_base.specs.Lengths.{bytes_of}
+use Rattle.msr_base.specs.Storage.{storage_of}
+use Rattle.msr_base.specs.declared.storage.Storage.TheVariants.{Frames, Integers}
+use Rattle.msr_base.specs.declared.storage.Version.TheVariants.{One, Two}
 use Rattle.msr_words.specs.Fit.{most_counted}
 use Rattle.msr_words.specs.Laws.{room_of}
 use Rattle.msr_words.specs.Segment.{points}

@@ -1,3 +1,0 @@
-pub mod Belonging
-pub mod Names
-pub mod Times

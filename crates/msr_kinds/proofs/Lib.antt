@@ -1,2 +1,0 @@
-pub mod RecordLengths
-pub mod KindLemmas

@@ -1,5 +1,0 @@
-use Rattle.std.proofs.Common.{rules}
-use Rattle.msr_kinds.proofs.lengths.Length.data_words.Goals as goal
-
-pub returns-clause-same : goal.returns-clause-same
-returns-clause-same c = search rules

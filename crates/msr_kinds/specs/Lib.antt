@@ -1,5 +1,0 @@
-pub mod RecordLength
-pub mod Lengths
-pub mod Storage
-pub mod Kinds
-pub mod Forms

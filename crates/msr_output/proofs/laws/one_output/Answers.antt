@@ -1,5 +1,0 @@
-use Rattle.msr_output.proofs.OneOutput.{output_once}
-use Rattle.msr_output.proofs.laws.one_output.Goals as goal
-
-pub returns : goal.returns
-returns c = output_once

@@ -1,5 +1,0 @@
-use Rattle.msr_output.proofs.Sizes.{output_size}
-use Rattle.msr_output.proofs.laws.output_has_size.Goals as goal
-
-pub returns : goal.returns
-returns c = output_size

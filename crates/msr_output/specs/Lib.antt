@@ -1,4 +1,0 @@
-pub mod Decided
-pub mod Opened
-pub mod Output
-pub mod Writing

@@ -1,5 +1,0 @@
-use Rattle.msr_record.proofs.OneWritten.{written_once}
-use Rattle.msr_record.proofs.laws.one_written.Goals as goal
-
-pub returns : goal.returns
-returns c = written_once
