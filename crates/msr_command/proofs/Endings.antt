@@ -37,7 +37,7 @@ use Rattle.msr_verify.specs.Lines.{IsToldLine}
 use Rattle.msr_verify.specs.Walk.{Verifies, VerifiesTree, judged_summary}
 use Rattle.msr_replace.specs.Entries.{IsExchangeEntry, IsExchangeEntryLine}
 use Rattle.msr_replace.specs.Sums.{exchange_summary}
-use Rattle.msr_replace.specs.Tree.{ReplacesTree}
+use Rattle.msr_replace.specs.Tree.{ChangesAsked, ReplacesTree}
 use Rattle.msr_replace.specs.Walk.{ReplacesDays}
 use Rattle.msr_command.specs.declared.done.Done.{Done}
 use Rattle.msr_command.specs.declared.done.Done.TheVariants.{Written, Repacked}
@@ -56,7 +56,7 @@ use Rattle.msr_options.specs.declared.task.Feeding.{Feeding}
 use Rattle.msr_options.specs.declared.task.Repacking.{Repacking}
 use Rattle.msr_command.specs.Named.{GetsNoReport, GetsOutput, GetsReport}
 use Rattle.msr_command.proofs.Inputs.{goes_so, goes_still, unread_unopened}
-use Rattle.msr_command.proofs.Walks.{archive_as, failed_at, none_failed, replace_as, still_keeps, still_reads, trial_as, verify_as}
+use Rattle.msr_command.proofs.Walks.{archive_as, changed_asked, failed_at, none_failed, replace_as, still_changes, still_keeps, still_reads, trial_as, verify_as}
 use Rattle.msr_command.specs.Ends.{Checks, ComesNamed, Does, EndsClosed, EndsReplacing, Feeds, FeedEnds, FeedsTo, HasOpened, IfTool, IsUncreated, IsUnbegun, IsUnread, ListEnds, ListsNamed, IsOverlapOrMemory, KeepsArchive, Over, RepackEnds, Repacks, RepacksNamed, ReplacesArchive, Settles, StopsRecords, VerifiesArchive, WalksArchive, WritesRecords, done_of_archive, done_of_verifying, is_whole, TriesArchive, IsArchivingRead, IsUnwalked, IsVerifyingRead, done_of_trial, IsKnownRead, IsUnknown}
 use denote.Ref.{Bor}
 
@@ -166,7 +166,7 @@ task_closed before after (Trial asked) standard out0 out stop none ends =
 task_closed before after (Verify asked) standard out0 out stop none ends =
     rw ends.0 (record { printed = []; prints = none; ends = inr (inr refl, refl); reads = still_reads ends.1 })
 task_closed before after (Replace asked) standard out0 out stop none ends =
-    rw ends.0 (record { printed = []; prints = none; ends = inr (inr (inr refl, refl)) })
+    rw ends.0 (record { printed = []; prints = none; ends = inr (inr (inr refl, refl)); changes = still_changes asked ends.1 })
 task_closed before after (Feed asked) standard out0 out stop none ends =
     let left = left_of standard in
     over_none ⊤ (HasLeft standard) _ out0 out left.0 (λ opened. left.1) none (inr (ends, refl))
@@ -395,30 +395,38 @@ verify_unbegun went asked out stop is =
 
 pub replace_unbegun : (went : List Step → Type 0) (asked : Replacing) (out : Device) (stop : TaskFault) → IsUnbegun stop
     → ReplacesArchive went went asked out out (Err stop)
-replace_unbegun went asked out stop is = record { printed = []; prints = takes_none out; ends = inr (inr (inl is, refl)) }
+replace_unbegun went asked out stop is = record {
+  printed = [];
+  prints = takes_none out;
+  ends = inr (inr (inl is, refl));
+  changes = still_changes asked goes_still;
+}
 
 -- they were, or the walk was stopped
 
 pub replace_ended : {Z : Type 0} (before after : List Step → Type 0) (asked : Replacing) (out0 out : Device) (failed : Option (String Z))
     (found : Result WalkFound DeviceFault) (result : Result Done TaskFault) → ReplacesDays asked.undo out0 out failed found
-    → IfOk found (ReplacesTree asked before after out0 out failed) → EndsReplacing asked failed found result
-    → ReplacesArchive before after asked out0 out result
-replace_ended before after asked out0 out None (Ok found) (Ok done) does tree ends = record {
+    → IfOk found (ReplacesTree asked before after out0 out failed) → Goes before after (ChangesAsked asked)
+    → EndsReplacing asked failed found result → ReplacesArchive before after asked out0 out result
+replace_ended before after asked out0 out None (Ok found) (Ok done) does tree changes ends = record {
   printed = does.printed;
   prints = does.prints;
   ends = inr (record { found = found; walk = none_failed asked before after out0 out found tree; is = ends });
+  changes = changed_asked asked changes;
 }
-replace_ended before after asked out0 out (Some at) (Ok found) (Err (Failed path why)) does tree ends = record {
+replace_ended before after asked out0 out (Some at) (Ok found) (Err (Failed path why)) does tree changes ends = record {
   printed = does.printed;
   prints = does.prints;
   ends = inl (failed_at asked before after out0 out at path found ends tree);
+  changes = changed_asked asked changes;
 }
-replace_ended before after asked out0 out failed (Err fault) (Err (Tool why)) does tree ends = record {
+replace_ended before after asked out0 out failed (Err fault) (Err (Tool why)) does tree changes ends = record {
   printed = does.printed;
   prints = does.prints;
   ends = inr (inl (record { fault = fault; is = ends; walk = does.ends }));
+  changes = changed_asked asked changes;
 }
-replace_ended before after asked out0 out failed found _ does tree ends = absurd ends
+replace_ended before after asked out0 out failed found _ does tree changes ends = absurd ends
 
 -- what was printed is not stored
 
@@ -590,6 +598,7 @@ replace_unstored before after asked out0 out done does = elim does.ends [
           is = refl;
           walk = record { entries = entries_of tree.said; rest = []; walk = subst P (sym (append-nil tree.printed)) tree.text };
         }));
+        changes = does.changes;
       }
 ]
 

@@ -25,13 +25,13 @@ use Rattle.msr_verify.specs.Walk.{VerifiesTree}
 use Rattle.msr_replace.proofs.Counted.{count_more}
 use Rattle.msr_replace.specs.Entries.{ExchangeEntry, IsStoppedAt, exchange_count, has_failed}
 use Rattle.msr_replace.specs.Lines.{exchange_word}
-use Rattle.msr_replace.specs.Tree.{ReplacesTree}
+use Rattle.msr_replace.specs.Tree.{ChangesAsked, ReplacesTree}
 use Rattle.msr_replace.specs.Walk.{TellsFound}
 use Rattle.msr_replace.specs.Words.{is_unwell}
 use Rattle.msr_command.specs.declared.done.Done.{Done}
 use Rattle.msr_command.specs.declared.task_fault.TaskFault.{TaskFault}
 use Rattle.msr_command.specs.declared.task_fault.TaskFault.TheVariants.{CannotOpen, Closed, Failed, Input, Overlap, SameFile, SameOutput, Tool}
-use Rattle.msr_command.specs.Ends.{FailsReplacing, HasReplaced, KeepsArchive, ReplacesArchive, TriesArchive, VerifiesArchive, VerifiesKnown, WalksArchive, WalksKnown}
+use Rattle.msr_command.specs.Ends.{FailsReplacing, HasReplaced, KeepsArchive, MayChange, ReplacesArchive, TriesArchive, VerifiesArchive, VerifiesKnown, WalksArchive, WalksKnown}
 use Rattle.msr_command.proofs.Inputs.{goes_on, goes_so}
 
 -- nothing was done
@@ -48,6 +48,14 @@ still_keeps asked still = record {
 
 pub still_reads : {before after : List Step → Type 0} → Goes before after (λ old new. new ≡ old) → Goes before after OnlyReads
 still_reads still = goes_so (λ old new same. subst (λ it. OnlyReads old it) (sym same) (reads_none old)) still
+
+pub still_changes : {before after : List Step → Type 0} (asked : Replacing) → Goes before after (λ old new. new ≡ old)
+    → Goes before after (MayChange asked)
+still_changes asked still = goes_so (λ old new same. inl same) still
+
+pub changed_asked : {before after : List Step → Type 0} (asked : Replacing) → Goes before after (ChangesAsked asked)
+    → Goes before after (MayChange asked)
+changed_asked asked changes = goes_so (λ old new does. inr does) changes
 
 -- what was done by names that were lent was done with the files
 pub lent : (before taken left after : List Step → Type 0) (R : (old new : List Step) → Type 0) → Goes before taken (λ old new. new ≡ old)
@@ -207,6 +215,7 @@ module _ (before1 after1 before after : List Step → Type 0) (out0 out1 out : D
       | inl fails ↦ absurd fails
       | inr ends ↦ inr (record { found = ends.found; walk = replaced_as asked None ends.found ends.walk; is = ends.is })
     ];
+    changes = goes_as _ does.changes;
   }
   replace_as asked (Err stop) does = record {
     printed = does.printed;
@@ -215,6 +224,7 @@ module _ (before1 after1 before after : List Step → Type 0) (out0 out1 out : D
       | inl fails ↦ inl (fails_as asked stop fails)
       | inr ends ↦ inr ends
     ];
+    changes = goes_as _ does.changes;
   }
 
 -- a walk in which a call failed is one of which something is to be looked at

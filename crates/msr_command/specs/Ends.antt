@@ -29,7 +29,7 @@ use Rattle.msr_walk.specs.declared.folders.Walked.{Walked as ArchiveWalked}
 use Rattle.msr_trial.specs.Walk.{TrialEnds, TriesTree}
 use Rattle.msr_trial.specs.declared.walk.Tried.{Tried}
 use Rattle.msr_verify.specs.Walk.{VerifiesTree, VerifyingEnds}
-use Rattle.msr_replace.specs.Tree.{ReplacesTree}
+use Rattle.msr_replace.specs.Tree.{ChangesAsked, ReplacesTree}
 use Rattle.msr_replace.specs.Walk.{ReplacingEnds}
 use Rattle.msr_devices.specs.declared.fault.DeviceFault.{DeviceFault}
 use Rattle.msr_tool.specs.declared.fault.ToolFault.TheVariants as engine
@@ -447,12 +447,17 @@ ReplaceEnds before after asked out0 out printed result = FailsReplacing before a
     Ends (IsEndOf (done_of_replaced asked) (HasReplaced asked before after out0 out))
     IsUnbegun (StopsReplacing asked.undo printed) printed result
 
+-- nothing was done, or days were replaced or restored as asked, and nothing else
+abbrev pub MayChange : Replacing → (old new : List Step) → Type 0
+MayChange asked old new = (new ≡ old) ⊎ ChangesAsked asked old new
+
 -- Replacing the days of an archive, or undoing it, and what was printed.
 pub record ReplacesArchive (before after : List Step → Type 0) (asked : Replacing) (out0 out : Device) (result : Result Done TaskFault) : Type 0
   where
     pub printed : List ℕ
     pub prints : Takes out0 out printed
     pub ends : ReplaceEnds before after asked out0 out printed result
+    pub changes : Goes before after (MayChange asked)
 
 -- A call was made, and it failed or was interrupted.
 pub record WasRefused (old new : Device) : Type 0 where
