@@ -16,7 +16,7 @@ pub enum Refusal {
 }
 
 /// What became of a day.
-#[derive(Clone, Copy, Debug, PartialEq, Eq)]
+#[derive(Clone, Copy, PartialEq, Eq)]
 pub enum Told {
     Done,
     /// ROOT has the other file's bytes already.

@@ -49,7 +49,7 @@ fn fault_value(kind: FaultKind) -> Option<u32>
 }
 
 /// A refusal of a record: its number, its name and its value.
-#[derive(Clone, Copy, Debug)]
+#[derive(Clone, Copy)]
 struct ToldKind {
     kind: FaultKind,
 }
@@ -70,7 +70,7 @@ impl fmt::Display for ToldKind {
 }
 
 /// A fault of a file, in words.
-#[derive(Clone, Copy, Debug)]
+#[derive(Clone, Copy)]
 pub struct ToldFault {
     pub fault: ReadFault,
 }

@@ -2,7 +2,7 @@
 ghost use Rattle.msr_folders.specs.Found.{Finds};
 
 /// What a walk found that came to its end.
-#[derive(Clone, Copy, Debug)]
+#[derive(Clone, Copy)]
 pub enum WalkFound {
     /// Days, and nothing that is to be looked at.
     Well,

@@ -58,7 +58,7 @@ pub fn told_folder(folder: &str) -> &str
 }
 
 /// A path, or the name of another file, as it is printed: a line feed in a name would begin another line.
-#[derive(Clone, Copy, Debug)]
+#[derive(Clone, Copy)]
 pub struct Shown<'a> {
     pub path: &'a str,
 }
@@ -90,7 +90,7 @@ fn is_marked(letter: char) -> bool
 }
 
 /// A text as the inner part of a string of JSON.
-#[derive(Clone, Copy, Debug)]
+#[derive(Clone, Copy)]
 pub struct JsonText<'a> {
     pub text: &'a str,
 }

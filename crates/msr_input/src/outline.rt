@@ -2,7 +2,7 @@
 use msr_rows::Key;
 
 /// A row without its samples.
-#[derive(Clone, Copy, Debug)]
+#[derive(Clone, Copy)]
 pub struct RowOutline {
     /// The row's key.
     pub key: Key,

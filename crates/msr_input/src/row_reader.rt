@@ -13,7 +13,7 @@ use std::alloc::Global;
 use std::marker::Model;
 
 /// The next row, and what it does.
-#[derive(Debug, Drop)]
+#[derive(Drop)]
 pub struct NextRow {
     /// It begins a segment, so that the one before it has ended, or joins the one that was begun last.
     pub step: Step,
@@ -22,7 +22,7 @@ pub struct NextRow {
 }
 
 /// The next row without its samples, and what it does.
-#[derive(Clone, Copy, Debug)]
+#[derive(Clone, Copy)]
 pub struct NextOutline {
     /// As that of `NextRow`.
     pub step: Step,
@@ -31,7 +31,7 @@ pub struct NextOutline {
 }
 
 /// The next record.
-#[derive(Debug, Drop)]
+#[derive(Drop)]
 pub struct NextRecord {
     /// How many bytes it has.
     pub length: u32,

@@ -7,7 +7,7 @@ use crate::telling::Telling;
 use msr_base::Length;
 
 /// How the days of an archive are repacked, which of them are kept, and what is told of them.
-#[derive(Clone, Copy, Debug, PartialEq, Eq)]
+#[derive(Clone, Copy, PartialEq, Eq)]
 pub struct DayOptions {
     /// With `same_length`, this length is for days whose first record has a length that is not written.
     pub options: Options,

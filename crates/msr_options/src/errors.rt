@@ -6,7 +6,7 @@ use std::io;
 use std::io::Write;
 
 /// Standard error, which gets one line for scripts, and one more if a person reads it.
-#[derive(Debug, Drop)]
+#[derive(Drop)]
 pub struct Errors<E> {
     pub to: E,
     /// Whether a person reads it.

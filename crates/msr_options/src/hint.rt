@@ -8,7 +8,7 @@ use std::io::Write;
 use std::{fmt, io};
 
 /// What of a day could not be opened or made.
-#[derive(Clone, Copy, Debug)]
+#[derive(Clone, Copy)]
 pub enum Side {
     /// Its own file.
     File,
@@ -35,7 +35,7 @@ impl fmt::Display for Side {
 }
 
 /// What of a day could not be opened or made, and the system's reason, if it gave one.
-#[derive(Clone, Copy, Debug)]
+#[derive(Clone, Copy)]
 pub struct Unopened {
     pub side: Side,
     pub why: Option<io::Error>,
@@ -50,7 +50,7 @@ impl Unopened {
 }
 
 /// What a person is told.
-#[derive(Clone, Copy, Debug)]
+#[derive(Clone, Copy)]
 pub enum Hint {
     /// The file begins as those of gzip do.
     Gzip,

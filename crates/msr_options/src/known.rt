@@ -7,7 +7,7 @@ use std::alloc::{AllocError, Global};
 use std::marker::Model;
 
 /// Lines of earlier runs that tell of something refused, each once, in the order in which they came first.
-#[derive(Debug, Drop)]
+#[derive(Drop)]
 pub struct KnownLines {
     alloc: Global,
     lines: IndexSet<String>,
@@ -69,7 +69,7 @@ impl KnownLines {
 }
 
 /// What is known of an archive from earlier runs.
-#[derive(Clone, Copy, Debug)]
+#[derive(Clone, Copy)]
 pub enum Known<'a> {
     /// Nothing is asked for.
     Nothing,

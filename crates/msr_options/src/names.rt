@@ -2,7 +2,7 @@
 ghost use Rattle.std.specs.Prelude.{◌≡◌, false, true};
 
 /// A channel, each code in the width that it has room for in a path, with spaces after it, and a day of it.
-#[derive(Clone, Copy, Debug, PartialEq, Eq)]
+#[derive(Clone, Copy, PartialEq, Eq)]
 pub struct DayName {
     pub network: [u8; 8],
     pub station: [u8; 8],
@@ -14,7 +14,7 @@ pub struct DayName {
 }
 
 /// The name that the segments of a day have to have.
-#[derive(Clone, Copy, Debug, PartialEq, Eq)]
+#[derive(Clone, Copy, PartialEq, Eq)]
 pub enum Names {
     /// Any.
     Any,

@@ -11,7 +11,7 @@ const MOST_TOLERANCE: u32 = 1_000_000;
 
 /// The length and the kinds of the written records, the tolerance by which rows are joined, and whether reading is
 /// strict.
-#[derive(Clone, Copy, Debug, PartialEq, Eq)]
+#[derive(Clone, Copy, PartialEq, Eq)]
 pub struct Options {
     length: Length,
     kinds: Kinds,

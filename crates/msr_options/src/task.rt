@@ -9,7 +9,7 @@ use crate::telling::Telling;
 use std::alloc::AllocError;
 
 /// A file to be repacked.
-#[derive(Clone, Copy, Debug)]
+#[derive(Clone, Copy)]
 pub struct Repacking<'a> {
     pub options: Options,
     /// The name of a file, or `-` for standard input.
@@ -19,7 +19,7 @@ pub struct Repacking<'a> {
 }
 
 /// Standard input, which is to be repacked to standard output while it comes.
-#[derive(Clone, Copy, Debug)]
+#[derive(Clone, Copy)]
 pub struct Feeding<'a> {
     pub options: Options,
     /// The name of the file that gets the report.
@@ -27,7 +27,7 @@ pub struct Feeding<'a> {
 }
 
 /// In which form segments are listed, or the lines of a walk are told: in words, or in JSON.
-#[derive(Clone, Copy, Debug, PartialEq, Eq)]
+#[derive(Clone, Copy, PartialEq, Eq)]
 pub enum ListForm {
     Words,
     Json,
@@ -50,7 +50,7 @@ impl ListForm {
 }
 
 /// A file whose segments are to be listed.
-#[derive(Clone, Copy, Debug)]
+#[derive(Clone, Copy)]
 pub struct Listing<'a> {
     /// The length is not used, since no record is written.
     pub options: Options,
@@ -60,7 +60,7 @@ pub struct Listing<'a> {
 }
 
 /// Packed records to be checked against a report.
-#[derive(Clone, Copy, Debug)]
+#[derive(Clone, Copy)]
 pub struct Checking<'a> {
     /// The name of the file with the records.
     pub packed: &'a str,
@@ -69,7 +69,7 @@ pub struct Checking<'a> {
 }
 
 /// Two files that are to be compared.
-#[derive(Clone, Copy, Debug)]
+#[derive(Clone, Copy)]
 pub struct Comparing<'a> {
     /// The length is not used, since no record is written.
     pub options: Options,
@@ -80,7 +80,7 @@ pub struct Comparing<'a> {
 }
 
 /// The folders of an archive, of the records that are written, and of their reports.
-#[derive(Clone, Copy, Debug)]
+#[derive(Clone, Copy)]
 pub struct Folders<'a> {
     pub root: &'a str,
     pub out: &'a str,
@@ -126,7 +126,7 @@ fn is_below(folder: &str, path: &str) -> bool
 }
 
 /// An archive whose day files are to be repacked.
-#[derive(Debug, Drop)]
+#[derive(Drop)]
 pub struct Archiving<'a> {
     pub folders: Folders<'a>,
     /// The paths, from the archive's folder, of the folders that are walked; none for the whole archive.
@@ -136,7 +136,7 @@ pub struct Archiving<'a> {
 }
 
 /// An archive of whose day files it is to be told what repacking them would give.
-#[derive(Debug, Drop)]
+#[derive(Drop)]
 pub struct Trying<'a> {
     pub root: &'a str,
     /// The paths, from the archive's folder, of the folders that are walked; none for the whole archive.
@@ -146,7 +146,7 @@ pub struct Trying<'a> {
 }
 
 /// An archive whose repack is to be verified.
-#[derive(Debug, Drop)]
+#[derive(Drop)]
 pub struct Verifying<'a> {
     pub folders: Folders<'a>,
     /// The paths, from the archive's folder, of the folders that are walked; none for the whole archive.
@@ -158,7 +158,7 @@ pub struct Verifying<'a> {
 }
 
 /// An archive whose originals are to change places with their records.
-#[derive(Debug, Drop)]
+#[derive(Drop)]
 pub struct Replacing<'a> {
     pub folders: Folders<'a>,
     /// The folder that has the originals while their records stand in the archive.
@@ -178,7 +178,7 @@ pub struct Replacing<'a> {
 }
 
 /// What the program is asked to do.
-#[derive(Debug, Drop)]
+#[derive(Drop)]
 pub enum Task<'a> {
     Repack(Repacking<'a>),
     List(Listing<'a>),
@@ -192,7 +192,7 @@ pub enum Task<'a> {
 }
 
 /// What the program can be asked to do, without what it is done with.
-#[derive(Clone, Copy, Debug, PartialEq, Eq)]
+#[derive(Clone, Copy, PartialEq, Eq)]
 pub enum Verb {
     Repack,
     List,
@@ -243,14 +243,14 @@ impl Verb {
 }
 
 /// The text to end with, and the status.
-#[derive(Debug, Drop)]
+#[derive(Drop)]
 pub struct Ending {
     pub text: String,
     pub status: u8,
 }
 
 /// Why there is no task.
-#[derive(Debug, Drop)]
+#[derive(Drop)]
 pub enum NoTask {
     Ending(Ending),
     /// No record has the length.

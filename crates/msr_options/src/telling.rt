@@ -2,7 +2,7 @@
 use crate::task::ListForm;
 
 /// How the lines of a walk through an archive are told.
-#[derive(Clone, Copy, Debug, PartialEq, Eq)]
+#[derive(Clone, Copy, PartialEq, Eq)]
 pub struct Telling {
     pub form: ListForm,
     /// The lines of what nobody needs to look at are left out.

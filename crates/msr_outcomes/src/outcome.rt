@@ -65,7 +65,7 @@ pub fn repacked_json(alloc: Global, repacked: Repacked, bytes: bool) -> Result<S
 }
 
 /// Why the tool stopped.
-#[derive(Clone, Copy, Debug)]
+#[derive(Clone, Copy)]
 struct ToldStop {
     fault: ToolFault,
 }

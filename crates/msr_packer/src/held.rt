@@ -16,7 +16,7 @@ use msr_words::Run;
 use std::alloc::{AllocError, Global};
 
 /// A run of the packing, with the separator that goes with it.
-#[derive(Clone, Copy, Debug, PartialEq, Eq)]
+#[derive(Clone, Copy, PartialEq, Eq)]
 pub struct Piece {
     pub run: Run,
     pub separator: u64,

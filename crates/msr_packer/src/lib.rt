@@ -30,7 +30,7 @@ use step::StepWithEnds;
 pub use stream::{Last, StreamPacker, pieces_begin_all, stream_leaves_few};
 
 /// Runs that join to a segment, and samples that show that no packing has fewer.
-#[derive(Debug, Drop, PartialEq, Eq)]
+#[derive(Drop, PartialEq, Eq)]
 pub struct Packing {
     pub runs: Vec<Run>,
     pub separators: Vec<u64>,

@@ -17,7 +17,7 @@ use std::alloc::{AllocError, Global};
 use std::marker::Model;
 
 /// The pieces that were not given when the samples ended, and the samples from the first of them on.
-#[derive(Debug, Drop)]
+#[derive(Drop)]
 pub struct Last {
     pub pieces: ArrayVec<Piece, 2>,
     pub samples: Vec<i32>,

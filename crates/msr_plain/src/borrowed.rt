@@ -12,7 +12,7 @@ use std::marker::Model;
 
 /// The samples of an area, read from its bytes one by one. Contracts see the list of those that are left.
 /// A clone takes no memory.
-#[derive(Debug, Drop)]
+#[derive(Drop)]
 pub struct PlainSamples<'a> {
     width: Width,
     order: Order,

@@ -11,7 +11,7 @@ use std::io::Write;
 const PAUSE: u64 = 200;
 
 /// How far a walk is, and where it is shown.
-#[derive(Debug, Drop)]
+#[derive(Drop)]
 pub struct Progress<E> {
     /// Where a person sees it, if one does.
     pub screen: Option<E>,

@@ -11,7 +11,7 @@ use std::fmt;
 const COLUMNS: usize = 79;
 
 /// A path for a terminal, which must not take a part of it for a command.
-#[derive(Clone, Copy, Debug)]
+#[derive(Clone, Copy)]
 struct Plain<'a> {
     path: &'a str,
 }

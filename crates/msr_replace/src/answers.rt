@@ -44,7 +44,7 @@ pub enum DayRefusal {
 }
 
 /// What became of a day whose records were to take the place of its file.
-#[derive(Clone, Copy, Debug, PartialEq, Eq)]
+#[derive(Clone, Copy, PartialEq, Eq)]
 pub enum DayAnswer {
     /// They have it. The file had `before` bytes, they have `after`.
     Replaced { before: u64, after: u64 },
@@ -66,7 +66,7 @@ pub enum DayAnswer {
 }
 
 /// What became of a day whose original was to get its place again.
-#[derive(Clone, Copy, Debug, PartialEq, Eq)]
+#[derive(Clone, Copy, PartialEq, Eq)]
 pub enum DayRestored {
     /// It has it.
     Restored,

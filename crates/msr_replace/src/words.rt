@@ -3,7 +3,7 @@ ghost use Rattle.std.specs.Prelude.{◌≡◌, ◌<◌};
 ghost use Rattle.msr_replace.specs.Words.{is_unwell, is_well, text_of, word_number};
 
 /// The word with which a line begins, by which lines are counted.
-#[derive(Clone, Copy, Debug, PartialEq, Eq)]
+#[derive(Clone, Copy, PartialEq, Eq)]
 pub(crate) enum Word {
     Replaced,
     Same,

@@ -12,7 +12,7 @@ use msr_steim::{SteimFault, SteimSamples, steim_samples};
 use std::marker::Model;
 
 /// The samples that are left, by how they are stored.
-#[derive(Clone, Debug, Drop)]
+#[derive(Clone, Drop)]
 enum Numbers<'a> {
     Plain(PlainSamples<'a>),
     Steim(SteimSamples<'a>),
@@ -21,7 +21,7 @@ enum Numbers<'a> {
 
 /// The samples of a record, read from its bytes one by one. Contracts see those that are left, and whether
 /// the last of all is the reverse constant. A clone takes no memory.
-#[derive(Clone, Debug, Drop)]
+#[derive(Clone, Drop)]
 pub struct Samples<'a> {
     numbers: Numbers<'a>,
 }

@@ -13,7 +13,7 @@ use msr_header::Header;
 use std::marker::Model;
 
 /// The row of a record, whose samples are still in its bytes.
-#[derive(Debug, Drop)]
+#[derive(Drop)]
 struct RowView<'a> {
     key: Key,
     start: i64,
@@ -24,7 +24,7 @@ struct RowView<'a> {
 
 /// A record without a fault, read from the bytes that it stands in. Contracts see its header, its data
 /// area, and the record that `decode_record` gives.
-#[derive(Debug, Drop)]
+#[derive(Drop)]
 pub struct RecordView<'a> {
     header: Header,
     length: u32,

@@ -15,7 +15,7 @@ pub enum Step {
 pub struct OutOfRange;
 
 /// Says of each row in turn whether it begins a segment. It keeps no samples and takes no memory.
-#[derive(Clone, Copy, Debug)]
+#[derive(Clone, Copy)]
 pub struct Follow {
     tolerance: u32,
     current: Option<Span>,

@@ -37,7 +37,7 @@ pub struct JoinFault {
 }
 
 /// Joins rows into segments, and keeps the samples of the segment that is not ended.
-#[derive(Debug, Drop)]
+#[derive(Drop)]
 pub struct Joiner {
     follow: Follow,
     samples: SampleVec,

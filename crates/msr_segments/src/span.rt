@@ -24,7 +24,7 @@ fn is_same(a: &Key, b: &Key) -> bool
 }
 
 /// Where the samples of a row or of a segment lie.
-#[derive(Clone, Copy, Debug)]
+#[derive(Clone, Copy)]
 pub(crate) struct Span {
     /// Their key.
     pub key: Key,

@@ -14,7 +14,7 @@ use std::alloc::AllocError;
 use std::marker::Model;
 
 /// The fields of `word` that are left: `count` fields of `width` bits each, in its lowest bits.
-#[derive(Clone, Copy, Debug)]
+#[derive(Clone, Copy)]
 struct Fields {
     word: u32,
     count: u32,
@@ -23,7 +23,7 @@ struct Fields {
 
 /// The samples of an area, read from its words one by one. Contracts see those that are left, and whether
 /// the last of all is the reverse constant. A clone takes no memory.
-#[derive(Debug, Drop)]
+#[derive(Drop)]
 pub struct SteimSamples<'a> {
     version: Version,
     order: Order,

@@ -1,7 +1,7 @@
 //! What stands under a name.
 
 /// What stands under a name, links not followed.
-#[derive(Clone, Copy, Debug, PartialEq, Eq)]
+#[derive(Clone, Copy, PartialEq, Eq)]
 pub enum Kind {
     Regular,
     Folder,
@@ -11,14 +11,14 @@ pub enum Kind {
 }
 
 /// A moment as the file system tells it.
-#[derive(Clone, Copy, Debug, PartialEq, Eq)]
+#[derive(Clone, Copy, PartialEq, Eq)]
 pub struct Time {
     pub seconds: i64,
     pub nanoseconds: i64,
 }
 
 /// Who owns a file, and who may do what with it.
-#[derive(Clone, Copy, Debug, PartialEq, Eq)]
+#[derive(Clone, Copy, PartialEq, Eq)]
 pub struct Rights {
     pub owner: u32,
     pub group: u32,
@@ -26,7 +26,7 @@ pub struct Rights {
 }
 
 /// What the file system tells of what stands under a name.
-#[derive(Clone, Copy, Debug, PartialEq, Eq)]
+#[derive(Clone, Copy, PartialEq, Eq)]
 pub struct Facts {
     pub kind: Kind,
     /// The device and the number there, which no other file has.

@@ -14,7 +14,7 @@ use std::alloc::{AllocError, Global};
 use std::{fmt, io};
 
 /// Why a day or a folder is refused.
-#[derive(Clone, Copy, Debug)]
+#[derive(Clone, Copy)]
 pub(crate) enum Refusal {
     /// The day's own file is no regular file, or could not be opened, or was gone when it was looked at.
     FileUnopened,

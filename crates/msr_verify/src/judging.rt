@@ -14,7 +14,7 @@ use std::error::Error;
 use std::fmt;
 
 /// What the three files of a day show.
-#[derive(Clone, Copy, Debug, PartialEq, Eq)]
+#[derive(Clone, Copy, PartialEq, Eq)]
 pub enum Finding {
     /// The report shows that the records are the fewest, and they have the same segments as the day's file.
     Verified,
@@ -25,7 +25,7 @@ pub enum Finding {
 }
 
 /// Which of the three files is at fault, and its fault.
-#[derive(Clone, Copy, Debug, PartialEq, Eq)]
+#[derive(Clone, Copy, PartialEq, Eq)]
 pub enum VerifyFault {
     /// The day's own file.
     File(ReadFault),

@@ -52,7 +52,7 @@ pub trait Codec {
 }
 
 /// The tracker of integers of 16 bits, of 24, or else of 32.
-#[derive(Clone, Copy, Debug, PartialEq, Eq)]
+#[derive(Clone, Copy, PartialEq, Eq)]
 pub struct Integers<const BITS: u32> {
     left: usize,
     fits: bool,
@@ -139,7 +139,7 @@ impl<const BITS: u32> Codec for Integers<BITS> {
 }
 
 /// The tracker of Steim-2: it closes a word when the next difference no longer has room in it.
-#[derive(Clone, Copy, Debug, PartialEq, Eq)]
+#[derive(Clone, Copy, PartialEq, Eq)]
 pub struct Steim2 {
     /// Words left after the open one.
     left: u32,
@@ -243,7 +243,7 @@ impl Codec for Steim2 {
 }
 
 /// The tracker of Steim-1: it keeps the least number of groups, since the largest group first may need more.
-#[derive(Clone, Copy, Debug, PartialEq, Eq)]
+#[derive(Clone, Copy, PartialEq, Eq)]
 pub struct Steim1 {
     words: u32,
     counts: LeastCounts,

@@ -30,7 +30,7 @@ fn has_word_left(count: u32, words: u32) -> bool
 /// What is kept of a run that grows: the least numbers of groups, none of them a last group of three, each exact up to
 /// the number of words and greater if there is none so small; and how large its newest differences are, or
 /// `u64::MAX` if there are fewer.
-#[derive(Clone, Copy, Debug, PartialEq, Eq)]
+#[derive(Clone, Copy, PartialEq, Eq)]
 pub(crate) struct LeastCounts {
     /// The least number of groups of all differences.
     now: u32,

@@ -230,7 +230,7 @@ pub fn first_kind(samples: &[i32], start: usize, end: usize, form: Form) -> Kind
 }
 
 /// The samples `start` to `end - 1` of a segment, in one record of that kind.
-#[derive(Clone, Copy, Debug, PartialEq, Eq)]
+#[derive(Clone, Copy, PartialEq, Eq)]
 pub struct Run {
     pub start: u64,
     pub end: u64,

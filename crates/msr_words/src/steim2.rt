@@ -14,7 +14,7 @@ use crate::window::Window;
 use msr_base::{Kind, Length};
 
 /// How far Steim-2 reaches from a sample on.
-#[derive(Clone, Copy, Debug)]
+#[derive(Clone, Copy)]
 pub struct Steim2Reach {
     /// The greatest end of a run.
     pub end: usize,

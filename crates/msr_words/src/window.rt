@@ -20,7 +20,7 @@ use std::marker::Model;
 const PLACES: usize = 64;
 
 /// The differences of the samples from `first` to `end - 1`, with their sizes. A new window has none.
-#[derive(Debug, Drop)]
+#[derive(Drop)]
 pub struct Window {
     first: usize,
     end: usize,
@@ -74,7 +74,7 @@ fn size_at(samples: &[i32], at: usize) -> u32
 }
 
 /// The sizes of four differences that follow one another; the greatest size stands for one that is missing.
-#[derive(Clone, Copy, Debug)]
+#[derive(Clone, Copy)]
 pub struct FourSizes {
     pub first: u32,
     pub second: u32,

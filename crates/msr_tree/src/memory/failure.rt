@@ -1,7 +1,7 @@
 //! Which call of a tree in memory fails.
 
 /// What a call has done that fails.
-#[derive(Clone, Copy, Debug, PartialEq, Eq)]
+#[derive(Clone, Copy, PartialEq, Eq)]
 pub enum Ending {
     Nothing,
     /// A part, if it has some: a copy is cut, and a file that was to get a new name keeps its own too.
@@ -10,7 +10,7 @@ pub enum Ending {
 }
 
 /// The one call that fails, counted from 0.
-#[derive(Clone, Copy, Debug, PartialEq, Eq)]
+#[derive(Clone, Copy, PartialEq, Eq)]
 pub struct Failure {
     pub call: u64,
     pub ending: Ending,
