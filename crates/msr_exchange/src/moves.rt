@@ -10,7 +10,7 @@ use crate::names::{DayNames, Place};
 use msr_tree::{Facts, Kind, Tree, TreeFault};
 
 /// Why a file is not given a name.
-#[derive(Clone, Copy, Debug, PartialEq, Eq)]
+#[derive(Clone, Copy, PartialEq, Eq)]
 pub enum Hindrance {
     /// A link, or what is no folder, is in the way.
     Link,

@@ -5,7 +5,7 @@ ghost use Rattle.msr_exchange.specs.declared.told.Told.TheVariants.{Done, Same};
 use crate::moves::Hindrance;
 
 /// Why a day is refused: the name that cannot be given, and what is in the way.
-#[derive(Clone, Copy, Debug, PartialEq, Eq)]
+#[derive(Clone, Copy, PartialEq, Eq)]
 pub enum Refusal {
     /// The one in ROOT.
     Day(Hindrance),

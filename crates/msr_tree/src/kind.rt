@@ -1,7 +1,7 @@
 //! What stands under the name of an entry.
 
 /// What stands under the name of an entry, links followed.
-#[derive(Clone, Copy, Debug, PartialEq, Eq)]
+#[derive(Clone, Copy, PartialEq, Eq)]
 pub enum FileKind {
     Folder,
     Other,

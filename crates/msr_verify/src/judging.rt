@@ -25,7 +25,7 @@ pub enum Finding {
 }
 
 /// Which of the three files is at fault, and its fault.
-#[derive(Clone, Copy, PartialEq, Eq)]
+#[derive(Clone, Copy, Debug, PartialEq, Eq)]
 pub enum VerifyFault {
     /// The day's own file.
     File(ReadFault),
