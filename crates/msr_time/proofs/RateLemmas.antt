@@ -1,5 +1,6 @@
 -- Sums of products for the times of samples, over plain numbers.
-use Rattle.std.proofs.Common.{◌≡◌, ℕ, ◌+◌, ◌*◌, ◌/◌, ◌^◌, ◌<◌, ◌≤◌, refl, arith, ap, ◌∙◌, false, ℤ, pos, negsuc, ◌+ℤ◌, ◌-ℤ◌, ◌*ℤ◌, FitsSigned, w64, to_z, of_z, to_z-of_z, unsigned_abs}
+use Rattle.std.specs.Prelude.{◌↔◌, IsTrue, nat_le}
+use Rattle.std.proofs.Common.{◌≡◌, ℕ, ◌+◌, ◌*◌, ◌/◌, ◌^◌, ◌<◌, ◌≤◌, refl, arith, ap, ◌∙◌, false, rules, ℤ, pos, negsuc, ◌+ℤ◌, ◌-ℤ◌, ◌*ℤ◌, FitsSigned, w64, to_z, of_z, to_z-of_z, unsigned_abs}
 use Rattle.std.proofs.Math.Nat.{mod-lt, div-add-mod', div-le_self}
 use Rattle.jiff.specs.Words.{IsWithin}
 use Rattle.std.proofs.lemmas.Int.{ints}
@@ -90,6 +91,10 @@ rounded_sum t0 n num den fits few small low =
       sum_from_bits t0 ((2 * (n * num) + den) / (2 * den)) fits (omega arith),
       omega (arith, signed_arith, fits),
     )
+
+-- a test of a bound, as the code computes it
+pub at_most_tested : (a b : ℕ) → IsTrue (nat_le a b) ↔ (a ≤ b)
+at_most_tested a b = search rules
 
 pub gap_from_bits : (t t0 : ℤ) (den span : ℕ) → FitsSigned w64 t → FitsSigned w64 t0 → den < 2 ^ 30
     → span < 2 ^ 114 → (let gap = to_z w128 (of_z w128
