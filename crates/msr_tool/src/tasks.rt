@@ -1,9 +1,10 @@
 //! Tasks that also write a text: a repack with the text of its report, a check with the line of its verdict.
-ghost use Rattle.std.specs.Prelude.{◌≡◌, ◌⊎◌, ◌↔◌, ℕ, IsErrOf, OnErr};
+ghost use Rattle.std.specs.Prelude.{◌≡◌, ◌⊎◌, ◌↔◌, ℕ, IfOk, IsErrOf, OnErr};
+ghost use Rattle.std.specs.String.{string_bytes};
 ghost use Rattle.msr_devices.specs.Device.{CanCountCall, CountsFew, HasFailed};
 ghost use Rattle.msr_tool.specs.Checking.{GivesReport};
 ghost use Rattle.msr_tool.specs.KeepingUp.{HasKeptUp};
-ghost use Rattle.msr_tool.specs.Tasks.{Reports, TellsFailures, TellsVerdict};
+ghost use Rattle.msr_tool.specs.Tasks.{Reports, TellsFailures, TellsVerdict, verdict_line};
 
 use crate::check::check_packed;
 use crate::fault::ToolFault;
@@ -12,7 +13,7 @@ use msr_devices::{Sink, Source, write_all};
 use msr_options::Options;
 use msr_report::Report;
 use msr_verdict::Verdict;
-use std::alloc::Global;
+use std::alloc::{AllocError, Global};
 
 /// Repacks as `repack` does, and then writes the text of this very report to `text`. Nothing goes there before the
 /// sink has accepted all records. The first device that fails ends the call, so no two have failed.
@@ -62,6 +63,14 @@ pub fn feed_and_report<R: Source, W: Sink, T: Sink>(
     Ok(fed)
 }
 
+/// The line that tells a verdict.
+fn line_of(alloc: Global, verdict: Verdict) -> Result<String, AllocError>
+    ensures { IfOk result (λ line. string_bytes line ≡ verdict_line verdict) }
+{
+    let line = format!(in alloc; "{verdict}\n")?;
+    Ok(line)
+}
+
 /// Checks as `check_packed` does, and then writes the line of the verdict to `out`.
 pub fn check_and_tell<R: Source, Q: Source, T: Sink>(
     alloc: Global,
@@ -92,7 +101,7 @@ pub fn check_and_tell<R: Source, Q: Source, T: Sink>(
     ensures few_out { CountsFew (T.device out.old) (T.device out.new) }
 {
     let verdict = check_packed(alloc, packed, report)?;
-    let line = format!(in alloc; "{verdict}\n")?;
+    let line = line_of(alloc, verdict)?;
     write_all(out, line.as_bytes())?;
     Ok(verdict)
 }

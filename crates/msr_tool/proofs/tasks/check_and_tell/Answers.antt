@@ -23,7 +23,7 @@ returns-in_err-write_all-clause-answer g c =
     let p = err_from_is_err_and c.from_residual-in_err-write_all.result c.from_residual-in_err-write_all.ensures.1 in
     let a = c.in_ok-verdict.ensures.answer in
     let part = c.in_err-write_all.ensures.part in
-    let line : c.as_bytes.result.now ≡ verdict_line c.in_ok-verdict.verdict = search rules in
+    let line : c.as_bytes.result.now ≡ verdict_line c.in_ok-verdict.verdict = rw c.as_bytes.ensures.value c.in_ok-line.ensures in
     rw (p.1, p.2) (line_cut _ _ _ _ a.0 a.1 c.as_bytes.result.now part.0 c.in_ok-verdict.verdict a.2 a.3 a.4 line part.1)
 
 pub returns-in_err-write_all-clause-read : goal.returns-in_err-write_all-clause-read
@@ -34,5 +34,5 @@ returns-in_err-write_all-clause-read g c =
 pub returns-clause-answer : goal.returns-clause-answer
 returns-clause-answer g c =
     let a = c.in_ok-verdict.ensures.answer in
-    let line : c.as_bytes.result.now ≡ verdict_line c.in_ok-verdict.verdict = search rules in
+    let line : c.as_bytes.result.now ≡ verdict_line c.in_ok-verdict.verdict = rw c.as_bytes.ensures.value c.in_ok-line.ensures in
     line_told _ _ _ _ a.0 a.1 c.as_bytes.result.now c.in_ok-verdict.verdict a.2 a.3 a.4 line c.in_ok-write_all.ensures.all
