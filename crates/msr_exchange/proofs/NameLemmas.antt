@@ -1,5 +1,6 @@
 -- The names of a day are apart, and those of two days.
 use Rattle.std.proofs.Common.{◌≡◌, ◌≢◌, ◌<◌, ℕ, zero, suc, ◌+◌, ◌-◌, ◌==◌, if◌then◌else◌, Bool, true, false, List, [], ◌∷◌, ◌++◌, length, get_or, refl, sym, ap, subst, ◌∙◌, append_assoc, length-append, arith, codes}
+use Rattle.std.specs.Prelude.{string_bytes}
 use Rattle.std.specs.Str.{bytes_eq}
 use Rattle.std.proofs.lemmas.Bool.{cases_Bool}
 use Rattle.std.proofs.Common.{inl, inr}
@@ -13,8 +14,9 @@ use Rattle.msr_sds.specs.SdsPath.{AreDigits, HasForm, IsDataType, IsLocation, Re
 use Rattle.msr_sds.proofs.CutLemmas.{from_channel, from_data_type, from_location, from_station, from_year}
 use Rattle.msr_tree.specs.Steps.{folder_above, stands_in}
 use Rattle.msr_tree.proofs.FolderLemmas.{folder_at as folder_at_slash}
-use Rattle.msr_exchange.specs.Names.{AreNames, AreStampNames, Names, OtherDaysAreApart, beside, folder_at, is_place, is_lasting, names_of_day, path_at, path_below, stamp_of_day}
+use Rattle.msr_exchange.specs.Names.{AreNames, AreStampNames, IsSide, Names, OtherDaysAreApart, beside, folder_at, is_place, is_lasting, names_of_day, path_at, path_below, stamp_of_day}
 use Rattle.msr_exchange.specs.declared.names.Place.{Place}
+use Rattle.msr_exchange.specs.declared.names.Side.{Side}
 use Rattle.msr_exchange.specs.declared.names.Place.TheVariants.{Day, DayPart, Original, OriginalPart, Records, RecordsPart, Note, NotePart}
 
 lacks_tail : (c b : ℕ) (bs : List ℕ) → Lacks c (b ∷ bs) → Lacks c bs
@@ -317,6 +319,29 @@ day_is_in path p day = record {
 pub are_names_of : (root out aside path : List ℕ) (p : SdsPath) → ReadsAsDay path p → root ≢ out → root ≢ aside → out ≢ aside → AreNames (names_of_day root out aside path)
 are_names_of root out aside path p day out_is aside_is others_are =
     are_names root out aside (folder_text p) (file_name p) path (day_is_in path p day) out_is aside_is others_are
+
+-- the names of a day, by what it has below each of the three folders, and those of its note
+abbrev pub names_by : (root aside out : Side) (note note_part : List ℕ) → Names
+names_by root aside out note note_part = record {
+  day = string_bytes root.file;
+  day_part = string_bytes root.part;
+  original = string_bytes aside.file;
+  original_part = string_bytes aside.part;
+  records = string_bytes out.file;
+  records_part = string_bytes out.part;
+  note = note;
+  note_part = note_part;
+  root = string_bytes root.folder;
+  aside = string_bytes aside.folder;
+  out = string_bytes out.folder;
+}
+
+pub names_are : (root out aside path : List ℕ) (r a o : Side) (note note_part : List ℕ)
+    → IsSide root path (codes ".msrepack-replace.day") r → IsSide aside path (codes ".msrepack-replace.original") a → IsSide out path (codes ".msrepack-replace.records") o
+    → note ≡ path_below aside (path ++ codes ".touch-time") → note_part ≡ path_below aside (beside path (codes ".msrepack-replace.note"))
+    → names_by r a o note note_part ≡ names_of_day root out aside path
+names_are root out aside path r a o note note_part in_root in_aside in_out is is_part =
+    rw (in_root.file, in_root.part, in_root.folder, in_aside.file, in_aside.part, in_aside.folder, in_out.file, in_out.part, in_out.folder, is, is_part) refl
 
 -- and its stamp
 pub are_stamp_names : (root out aside reports path : List ℕ) (p : SdsPath) → ReadsAsDay path p → AreStampNames (names_of_day root out aside path) (stamp_of_day reports path)

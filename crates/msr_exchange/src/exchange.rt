@@ -77,13 +77,14 @@ fn set_aside<T: Tree>(
     ensures { Goes (T.went tree.old) (T.went tree.new)
         (KeepsAll names.now Original Records (AreHome names.now Original Records) result) }
 {
-    match keep_as(
+    let hindrance = keep_as(
         tree,
         names,
         Place::Original,
         Place::OriginalPart,
         Dress::Same,
-    )? {
+    )?;
+    match hindrance {
         Some(hindrance) => Ok(Told::Refused(Refusal::Aside(hindrance))),
         None => prepare(tree, names, verified),
     }

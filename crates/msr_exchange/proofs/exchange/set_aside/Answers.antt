@@ -25,7 +25,7 @@ returns-in-Some g c =
     let l = names.original ∷ names.original_part ∷ [] in
     named_end names Original Records l (AreHome names Original Records) (λ n none. (none.1.1.0, (none.1.1.1.0, tt)))
     (λ a b p q home ch. home_moments names Original Records l a b p q (c.requires.apart Day Original refl, (c.requires.apart Day OriginalPart refl, tt)) (c.requires.apart Records Original refl, (c.requires.apart Records OriginalPart refl, tt)) home ch)
-    {R = Hindrance} names.original_part refl (giving c.in_ok-hindrance.field-0) (giving (told.Refused _)) _ _ (λ is. cc)
+    {R = Hindrance} names.original_part refl (giving c.in_ok-hindrance.hindrance) (giving (told.Refused _)) _ _ (λ is. cc)
     (λ a b p q home ch. says_nothing names Original a b q (told.Refused _) (λ is. cc) (λ is. cc)) c.in_ok-hindrance.ensures
 
 pub returns-in-None : goal.returns-in-None
@@ -34,7 +34,7 @@ returns-in-None g c =
     let l = names.original ∷ names.original_part ∷ [] in
     named_then names Original Records l (AreHome names Original Records) (λ n none. (none.1.1.0, (none.1.1.1.0, tt)))
     (λ a b p q home ch. home_moments names Original Records l a b p q (c.requires.apart Day Original refl, (c.requires.apart Day OriginalPart refl, tt)) (c.requires.apart Records Original refl, (c.requires.apart Records OriginalPart refl, tt)) home ch)
-    {R = Hindrance} names.original_part refl (IsAside names Original Records) c.in_ok-hindrance.field-0 _ _ _ _ c.in-None.is
+    {R = Hindrance} names.original_part refl (IsAside names Original Records) c.in_ok-hindrance.hindrance _ _ _ _ c.in-None.is
     (λ a b p q home keeps ch. record {
       home = record {
         day = leaves_kept l names.day (Some a) p q (c.requires.apart Day Original refl, (c.requires.apart Day OriginalPart refl, tt)) ch home.day;
