@@ -1,5 +1,5 @@
 -- A walk, put together from visits.
-use Rattle.std.proofs.Common.{◌≡◌, ◌≢◌, ◌<◌, ◌==◌, inl, inr, ⊎_elim, ℕ, zero, suc, ◌-◌, Bool, true, false, if◌then◌else◌, List, [], ◌∷◌, ◌++◌, refl, sym, ◌∙◌, ap, subst, append_assoc, arith, get_or, length, IfErr, Ok, Err, OnOk, Result, Option, unwrap_or}
+use Rattle.std.proofs.Common.{◌≡◌, ◌≢◌, ◌<◌, ◌==◌, inl, inr, ⊎_elim, ℕ, zero, suc, ◌-◌, Bool, true, false, if◌then◌else◌, List, [], ◌∷◌, ◌++◌, refl, sym, ◌∙◌, ap, subst, append_assoc, arith, get_or, length, IfErr, IfOk, Ok, Err, OnOk, Result, Option, None, Some, unwrap_or}
 use Rattle.std.proofs.lemmas.Bool.Decides.{Decides-eqb}
 use Rattle.std.proofs.lemmas.List.{append-nil}
 use Rattle.std.specs.Borrow.{Bor}
@@ -16,7 +16,8 @@ use Rattle.msr_tree.specs.declared.tree.TreeFault.{TreeFault}
 use Rattle.msr_tree.specs.declared.tree.TreeFault.TheVariants as tree_fault
 use Rattle.msr_tree.specs.declared.kind.FileKind.TheVariants.{Folder, Gone, Other}
 use Rattle.msr_folders.specs.Entries.{AreEntriesBelow, AreEntries, AreEntriesBetween, AreEntriesOf, AreOfEntry, Entry, ForEach, IsMoment, IsSameWithin, Left, Passed, Visit, WithoutList, unlisted_in}
-use Rattle.msr_folders.specs.Opening.{AreSoFar, IsKindAt}
+use Rattle.msr_folders.specs.Opening.{AreSoFar, IsKindAt, OpensFolder}
+use Rattle.msr_folders.specs.declared.opened.Opened.{Opened}
 use Rattle.msr_folders.specs.Paths.{below, joined}
 use Rattle.msr_folders.specs.Walks.{HoldsAt, HoldsListed, IsSaidBetween, IsWalked, TellsVisit, TellsWalk, VisitDoes, VisitLaws}
 use Rattle.msr_folders.proofs.EntryLemmas.{earlier, entries_now, entries_seen, entry_seen, later, for_each_append, for_each_as, for_each_one, for_each_push, unlisted_append}
@@ -99,6 +100,10 @@ without place old new is = is.2 ∙ ap (λ l. Failed ∷ l) is.1
 pub on_ok_as : {A E : Type 0} {P Q : Type 0} (result : Result A E) → (P → Q) → OnOk result P → OnOk result Q
 on_ok_as (Ok x) so p = so p
 on_ok_as (Err why) so p = tt
+
+pub if_ok_as : {A E : Type 0} {P Q : A → Type 0} (result : Result A E) → ((x : A) → P x → Q x) → IfOk result P → IfOk result Q
+if_ok_as (Ok x) so p = so x p
+if_ok_as (Err why) so p = tt
 
 pub if_err_as : {A E : Type 0} {P Q : E → Type 0} (result : Result A E) → ((why : E) → P why → Q why) → IfErr result P → IfErr result Q
 if_err_as (Ok x) so p = tt
@@ -229,7 +234,7 @@ module _ {V L T : Type 0} (tells : V → List L → (out0 out : Device) → (tal
   }
 
   -- a folder that has no list
-  walk_unlisted : (levels : ℕ) (folder place : Path) (before mid after : List Step → Type 0) (out0 out : Device) (tally0 tally : T)
+  pub walk_unlisted : (levels : ℕ) (folder place : Path) (before mid after : List Step → Type 0) (out0 out : Device) (tally0 tally : T)
       → place ≡ joined root folder
       → Goes before mid (IsUnlisted place)
       → Visited (WithoutList folder) mid after out0 out tally0 tally
@@ -278,34 +283,12 @@ module _ {V L T : Type 0} (tells : V → List L → (out0 out : Device) → (tal
   opens_passed levels folder before after out0 out tally0 tally visit =
       walk_visit (OfFolder levels folder) (Passed folder) before after out0 out tally0 tally refl (λ old new went done. inr (inl refl)) visit
 
-  -- one that is begun with, and has no list
-  pub opens_unlisted : (levels : ℕ) (folder place : Path) (before mid listed_at after : List Step → Type 0) (out0 out1 out : Device) (tally0 tally1 tally : T)
-      → tells visitor [] out0 out1 tally0 tally1 → Goes before mid (VisitDoes (does visitor true) (listless visitor))
-      → place ≡ joined root folder → Goes mid listed_at (IsUnlisted place)
-      → Visited (WithoutList folder) listed_at after out1 out tally1 tally
-      → Walk (OfFolder levels folder) before after out0 out tally0 tally
-  opens_unlisted levels folder place before mid listed_at after out0 out1 out tally0 tally1 tally told goes at lists visit =
-      walk_after (OfFolder levels folder) (OfFolder levels folder)
-      before mid after out0 out1 out tally0 tally1 tally
-      (λ old middle new visits done are.
-      entries_seen root (Moment new) (Moment new) old middle (earlier (does visitor true) (laws.onward visitor true) root old middle new done) levels folder visits are)
-      told goes (walk_unlisted levels folder place mid listed_at after out1 out tally1 tally at lists visit)
-
   -- one that has a list
-  pub opens_listed : (levels : ℕ) (folder place : Path) (names : List Path) (before mid after : List Step → Type 0) (out0 out1 : Device) (tally0 tally1 : T)
-      → tells visitor [] out0 out1 tally0 tally1 → Goes before mid (VisitDoes (does visitor true) (listless visitor))
-      → place ≡ joined root folder → Goes mid after (λ old new. (new ≡ old) × IsListing old place names)
-      → Walk (SoFar levels folder names []) before after out0 out1 tally0 tally1
-  opens_listed levels folder place names before mid after out0 out1 tally0 tally1 told goes at lists =
-      walk_after (SoFar levels folder names []) (SoFar levels folder names []) before mid after out0 out1 out1 tally0 tally1 tally1
-      (λ old middle new visits done are. record {
-        at = are.at;
-        since = record { since = laws.onward visitor true old middle are.at done are.since.since; until = are.since.until };
-        listing = are.listing;
-        each = are.each;
-      })
-      told goes
-      (walk_none (λ old new. (new ≡ old) × IsListing old place names) (SoFar levels folder names []) mid after out1 tally1
+  pub walk_listed : (levels : ℕ) (folder place : Path) (names : List Path) (before after : List Step → Type 0) (out : Device) (tally : T)
+      → place ≡ joined root folder → Goes before after (λ old new. (new ≡ old) × IsListing old place names)
+      → Walk (SoFar levels folder names []) before after out out tally tally
+  walk_listed levels folder place names before after out tally at lists =
+      walk_none (λ old new. (new ≡ old) × IsListing old place names) (SoFar levels folder names []) before after out tally
       (λ old new is. (
         is.0,
         record {
@@ -314,7 +297,29 @@ module _ {V L T : Type 0} (tells : V → List L → (out0 out : Device) → (tal
           listing = subst (λ p. IsListing old p names) at is.1;
           each = refl;
         },
-      )) lists)
+      )) lists
+
+  -- one that was begun with before
+  pub opens_after : {F : Type 0} (levels : ℕ) (folder : Path) (opened : Option (Opened F)) (before mid after : List Step → Type 0) (out0 out1 out : Device) (tally0 tally1 tally : T)
+      → tells visitor [] out0 out1 tally0 tally1 → Goes before mid (VisitDoes (does visitor true) (listless visitor))
+      → OpensFolder (tells visitor) (says visitor) (does visitor true) (listless visitor) root levels folder opened mid after out1 out tally1 tally
+      → OpensFolder (tells visitor) (says visitor) (does visitor true) (listless visitor) root levels folder opened before after out0 out tally0 tally
+  opens_after levels folder None before mid after out0 out1 out tally0 tally1 tally told goes walk =
+      walk_after (OfFolder levels folder) (OfFolder levels folder)
+      before mid after out0 out1 out tally0 tally1 tally
+      (λ old middle new visits done are.
+      entries_seen root (Moment new) (Moment new) old middle (earlier (does visitor true) (laws.onward visitor true) root old middle new done) levels folder visits are)
+      told goes walk
+  opens_after levels folder (Some opened) before mid after out0 out1 out tally0 tally1 tally told goes walk =
+      walk_after (SoFar levels folder (listed opened.names.items) []) (SoFar levels folder (listed opened.names.items) [])
+      before mid after out0 out1 out tally0 tally1 tally
+      (λ old middle new visits done are. record {
+        at = are.at;
+        since = record { since = laws.onward visitor true old middle are.at done are.since.since; until = are.since.until };
+        listing = are.listing;
+        each = are.each;
+      })
+      told goes walk
 
   -- what was visited so far was so until later
   far_later : (levels : ℕ) (folder : Path) (names taken : List Path) (old mid new : List Step) (visits : List Visit) → does visitor true mid new
@@ -432,7 +437,7 @@ module _ {V L T : Type 0} (tells : V → List L → (out0 out : Device) → (tal
   told_can_count lines out0 out tally0 tally told can = steady_can_count out0 out (laws.calm visitor lines out0 out tally0 tally told).steady can
 
   -- a folder was listed, whatever is answered
-  does_listed : {N : Type 0} (place : Path) (names : N → List Path) (result : Result N TreeFault) (before after : List Step → Type 0)
+  pub does_listed : {N : Type 0} (place : Path) (names : N → List Path) (result : Result N TreeFault) (before after : List Step → Type 0)
       → Goes before after (ListsFolder place names result) → Goes before after (does visitor true)
   does_listed {N = N} place names result before after goes = goes_so _ _ before after (λ old new went lists. by result old new lists) goes
     where
@@ -444,19 +449,6 @@ module _ {V L T : Type 0} (tells : V → List L → (out0 out : Device) → (tal
       by (Err tree_fault.Memory) old new lists = same old new lists
       by (Err tree_fault.Failed) old new lists =
           subst (λ l. does visitor true old l) (sym (lists.2 ∙ ap (λ l. Failed ∷ l) lists.1)) (laws.unlisted visitor old place)
-
-  -- it was entered before, and then visited as one that has no list
-  pub does_entered : {N : Type 0} (goes_on : Bool) (place : Path) (names : N → List Path) (result : Result N TreeFault) (before one two after : List Step → Type 0)
-      → Goes before one (VisitDoes (does visitor true) (listless visitor)) → Goes one two (ListsFolder place names result)
-      → Goes two after (VisitDoes (does visitor goes_on) (listless visitor)) → Goes before after (does visitor goes_on)
-  does_entered goes_on place names result before one two after enters lists visits =
-      does_then goes_on before two after (does_both true before one two (does_visit true before one enters) (does_listed place names result one two lists)) visits
-
-  -- it was entered before, and then listed
-  pub does_opened : {N : Type 0} (place : Path) (names : N → List Path) (result : Result N TreeFault) (before one two : List Step → Type 0)
-      → Goes before one (VisitDoes (does visitor true) (listless visitor)) → Goes one two (ListsFolder place names result) → Goes before two (does visitor true)
-  does_opened place names result before one two enters lists =
-      does_both true before one two (does_visit true before one enters) (does_listed place names result one two lists)
 
   -- before the first folder that is asked for
   pub no_folder_yet : (before : List Step → Type 0) (out : Device) (tally : T) → Walk (OfFolders []) before before out out tally tally

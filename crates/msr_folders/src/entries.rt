@@ -1,5 +1,5 @@
 //! The walk through the folders of a tree, in the order of the names.
-ghost use Rattle.std.specs.Prelude.{◌≡◌, Bool, true, List, IfErr, IfOk, OnOk, is_ok};
+ghost use Rattle.std.specs.Prelude.{◌≡◌, ℕ, Bool, true, List, IfErr, IfOk, OnOk, is_ok};
 ghost use Rattle.msr_devices.specs.Device.{CanCountCall, Device};
 ghost use Rattle.msr_devices.specs.declared.fault.DeviceFault.{DeviceFault};
 ghost use Rattle.msr_tree.specs.Calls.{Goes};
@@ -151,6 +151,37 @@ fn kind_at<T: Tree>(
 }
 
 impl<V: EntryVisitor> EntryWalk<'_, V> {
+    /// Lists a folder that was begun with; nothing if it has no list.
+    fn list_folder<T: Tree, O: Sink>(
+        &self,
+        tree: &mut T,
+        folder: &str,
+        entered: V::Folder,
+        out: &mut O,
+        tally: &mut V::Tally,
+    ) -> Result<Option<Opened<V::Folder>>, DeviceFault>
+        requires count { CanCountCall (O.device out.old) }
+        requires root { V.root self.now.visitor.now ≡ self.now.root.now }
+        requires holds { HoldsAt (T.went tree.old) (V.holds self.now.visitor.now tally.old) }
+        ensures told { IfOk result (λ opened. (levels : ℕ) → OpensFolder (V.tells self.now.visitor.now) (V.says self.now.visitor.now)
+            (V.does self.now.visitor.now true) (V.listless self.now.visitor.now) self.now.root.now levels folder.now opened
+            (T.went tree.old) (T.went tree.new) (O.device out.old) (O.device out.new) tally.old tally.new) }
+        ensures stops { IfErr result (V.stops self.now.visitor.now (O.device out.old) (O.device out.new)) }
+        ensures does { Goes (T.went tree.old) (T.went tree.new) (V.does self.now.visitor.now (is_ok result)) }
+        ensures holds { HoldsAt (T.went tree.new) (V.holds self.now.visitor.now tally.new) }
+    {
+        let place = join(self.alloc, self.root, folder)?;
+        match tree.list(place.as_str()) {
+            Ok(names) => Ok(Some(Opened { entered, names })),
+            Err(TreeFault::Memory) => Err(DeviceFault::Memory),
+            Err(TreeFault::Failed) => {
+                self.visitor
+                    .visit_unlisted(tree, folder, place.as_str(), out, tally)?;
+                Ok(None)
+            }
+        }
+    }
+
     /// Begins with a folder and lists it; nothing if it is left alone, or has no list.
     fn open_folder<T: Tree, O: Sink>(
         &self,
@@ -173,16 +204,53 @@ impl<V: EntryVisitor> EntryWalk<'_, V> {
         let Some(entered) = self.visitor.enter_folder(tree, folder, levels, out, tally)? else {
             return Ok(None);
         };
-        let place = join(self.alloc, self.root, folder)?;
-        match tree.list(place.as_str()) {
-            Ok(names) => Ok(Some(Opened { entered, names })),
-            Err(TreeFault::Memory) => Err(DeviceFault::Memory),
-            Err(TreeFault::Failed) => {
-                self.visitor
-                    .visit_unlisted(tree, folder, place.as_str(), out, tally)?;
-                Ok(None)
-            }
-        }
+        self.list_folder(tree, folder, entered, out, tally)
+    }
+
+    /// Handles an entry that is not gone into.
+    fn visit_entry<T: Tree, O: Sink>(
+        &self,
+        tree: &mut T,
+        entered: &V::Folder,
+        path: &str,
+        kind: FileKind,
+        out: &mut O,
+        tally: &mut V::Tally,
+    ) -> Result<(), DeviceFault>
+        requires count { CanCountCall (O.device out.old) }
+        requires holds { HoldsAt (T.went tree.old) (V.holds self.now.visitor.now tally.old) }
+        ensures told { OnOk result (TellsVisit (V.tells self.now.visitor.now) (V.says self.now.visitor.now) (V.does self.now.visitor.now true)
+            (V.listless self.now.visitor.now) (Entry path.now kind)
+            (T.went tree.old) (T.went tree.new) (O.device out.old) (O.device out.new) tally.old tally.new) }
+        ensures stops { IfErr result (V.stops self.now.visitor.now (O.device out.old) (O.device out.new)) }
+        ensures does { Goes (T.went tree.old) (T.went tree.new)
+            (VisitDoes (V.does self.now.visitor.now (is_ok result)) (V.listless self.now.visitor.now)) }
+        ensures holds { HoldsAt (T.went tree.new) (V.holds self.now.visitor.now tally.new) }
+    {
+        self.visitor
+            .visit_entry(tree, entered, path, kind, out, tally)
+    }
+
+    /// Ends with a folder whose entries were visited.
+    fn leave_folder<T: Tree, O: Sink>(
+        &self,
+        tree: &mut T,
+        folder: &str,
+        levels: u8,
+        out: &mut O,
+        tally: &mut V::Tally,
+    ) -> Result<(), DeviceFault>
+        requires count { CanCountCall (O.device out.old) }
+        requires holds { HoldsAt (T.went tree.old) (V.holds self.now.visitor.now tally.old) }
+        ensures told { OnOk result (TellsVisit (V.tells self.now.visitor.now) (V.says self.now.visitor.now) (V.does self.now.visitor.now true)
+            (V.listless self.now.visitor.now) (Left folder.now)
+            (T.went tree.old) (T.went tree.new) (O.device out.old) (O.device out.new) tally.old tally.new) }
+        ensures stops { IfErr result (V.stops self.now.visitor.now (O.device out.old) (O.device out.new)) }
+        ensures does { Goes (T.went tree.old) (T.went tree.new)
+            (VisitDoes (V.does self.now.visitor.now (is_ok result)) (V.listless self.now.visitor.now)) }
+        ensures holds { HoldsAt (T.went tree.new) (V.holds self.now.visitor.now tally.new) }
+    {
+        self.visitor.leave_folder(tree, folder, levels, out, tally)
     }
 
     /// Visits an entry of a folder with `levels` below it: what it is, or if it is gone into, its entries.
@@ -211,8 +279,7 @@ impl<V: EntryVisitor> EntryWalk<'_, V> {
         if kind == FileKind::Folder {
             return self.visit_folder(tree, path, levels - 1, out, tally);
         }
-        self.visitor
-            .visit_entry(tree, entered, path, kind, out, tally)
+        self.visit_entry(tree, entered, path, kind, out, tally)
     }
 
     /// Visits the entries of the folder with that path, and of folders up to `levels` below it.
@@ -243,7 +310,7 @@ impl<V: EntryVisitor> EntryWalk<'_, V> {
             let path = entry_path(self.alloc, folder, name.as_str())?;
             self.visit_path(tree, &opened.entered, path.as_str(), levels, out, tally)?;
         }
-        self.visitor.leave_folder(tree, folder, levels, out, tally)
+        self.leave_folder(tree, folder, levels, out, tally)
     }
 }
 
