@@ -1,5 +1,5 @@
 -- A command takes its arguments one after another, and the program its commands.
-use Rattle.std.proofs.Common.{◌≡◌, ◌<◌, ◌+◌, ◌∙◌, ℕ, List, [], ◌∷◌, ◌++◌, length, map, take, true, false, ap, ap₂, refl, sym, Result, Ok, Err}
+use Rattle.std.proofs.Common.{◌≡◌, ◌<◌, ◌+◌, ◌∙◌, ℕ, List, [], ◌∷◌, ◌++◌, length, map, take, true, false, ap, refl, sym, Result, Ok, Err}
 use Rattle.std.specs.Prelude.{IfOk, IsSomeAnd}
 use Rattle.std.specs.List.{fold, slice_index_or}
 use Rattle.std.proofs.lemmas.List.{map-append, take_more}
@@ -42,13 +42,13 @@ pub named_same : (E : Type 0) (app : App) (old : Command) (name : List ℕ) (ans
 named_same E app old name (Ok new) is named = ap app_of_fields named.0 ∙ is
 named_same E app old name (Err fault) is named = named
 
-pub verb_added : (E : Type 0) (verb : Verb) (name : List ℕ) (rules : List Rule) (old sub : Command) (answer : Result Command E) →
-    app_of sub ≡ app_with name rules → name ≡ word_of verb → rules ≡ rules_of verb →
+pub verb_added : (E : Type 0) (verb : Verb) (old sub : Command) (answer : Result Command E) →
+    app_of sub ≡ app_with (word_of verb) (rules_of verb) →
     IfOk answer (λ new. AddsSubcommand old sub new) → IfOk answer (λ new. app_of new ≡ with_verb (app_of old) verb)
-verb_added E verb name rules old sub (Ok new) is named taken added =
+verb_added E verb old sub (Ok new) is added =
     added.shape (plain_fields sub (ap (λ (app : App). app.top.is_plain) is)).1
-    ∙ ap (λ (app : App). with_subcommand (app_of old) app.top) (is ∙ ap₂ app_with named taken)
-verb_added E verb name rules old sub (Err fault) is named taken added = added
+    ∙ ap (λ (app : App). with_subcommand (app_of old) app.top) is
+verb_added E verb old sub (Err fault) is added = added
 
 -- the program with the first so many of its commands
 abbrev pub program_to : (count : ℕ) → App

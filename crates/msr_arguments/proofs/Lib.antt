@@ -5,4 +5,5 @@ pub mod Named
 pub mod Parsed
 pub mod Refused
 pub mod Slash
+pub mod Tables
 pub mod Trial

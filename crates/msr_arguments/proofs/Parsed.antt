@@ -40,6 +40,7 @@ use Rattle.msr_options.specs.declared.task.Verb.TheVariants as verb
 use Rattle.msr_arguments.specs.Found.{IsNumberOf}
 use Rattle.msr_arguments.specs.Rules.{HasNeeded, IsFoundBy, IsFoundFor, dry_run_rules, rules_of, app_with, days_rule, option_rule, tolerance_rule}
 use Rattle.msr_arguments.proofs.Adding.{plain_fields}
+use Rattle.msr_arguments.proofs.Tables.{counted_once, days_at, days_by, is_ours, is_set, rules_suit, suits, tolerance_at}
 use denote.Ref.{Bor}
 
 -- it is a number of the range
@@ -65,48 +66,6 @@ holds_tolerance number (n, is, least, most) = rw is (record { least = least; mos
 
 holds_days : (number : Option ℕ) → IsIn 0 4_294_967_295 number → IsSome number
 holds_days number (n, is, least, most) = rw is refl
-
--- clap adds nothing of that name
-abbrev is_ours : (name : List ℕ) → Bool
-is_ours name = not (bytes_eq name [] || (bytes_eq name (codes "help") || bytes_eq name (codes "version")))
-
-abbrev is_set : Option ArgAction → Bool
-is_set (Some Set) = true
-is_set _ = false
-
--- an argument stands by itself, and if it has to be given, each use has one value
-abbrev suits : Rule → Bool
-suits rule = rule.is_simple && (rule.is_free && (is_ours rule.id
-    && (not rule.required || (is_set rule.action && not (is_some rule.range)))))
-
-rules_suit : (verb : Verb) → list_all suits (rules_of verb) ≡ true
-rules_suit verb.Repack = refl
-rules_suit _ = refl
-
-counted_once : (verb : Verb) → let names = map (λ (rule : Rule). rule.id) (rules_of verb) in
-    distinct_count bytes_eq names ≡ length names
-counted_once verb.Repack = refl
-counted_once _ = refl
-
-tolerance_at : (verb : Verb) → list_any (λ rule. bytes_eq rule.id (codes "tolerance")) (rules_of verb) ≡ true →
-    Any (λ rule. rule ≡ tolerance_rule) (rules_of verb)
-tolerance_at verb.Check has = cc
-tolerance_at verb.Verify has = cc
-tolerance_at verb.Replace has = cc
-tolerance_at verb.List has = (0, tolerance_rule, lit< tt, refl, refl)
-tolerance_at verb.Compare has = (0, tolerance_rule, lit< tt, refl, refl)
-tolerance_at _ has = (2, tolerance_rule, lit< tt, refl, refl)
-
--- how many days it is without a value
-abbrev days_by : Verb → List ℕ
-days_by verb.Archive = codes "0"
-days_by _ = codes "7"
-
-days_at : (verb : Verb) → list_any (λ rule. bytes_eq rule.id (codes "older-than")) (rules_of verb) ≡ true →
-    Any (λ rule. rule ≡ days_rule (days_by verb)) (rules_of verb)
-days_at verb.Archive has = (9, days_rule (codes "0"), lit< tt, refl, refl)
-days_at verb.Replace has = (3, days_rule (codes "7"), lit< tt, refl, refl)
-days_at _ has = cc
 
 set_action : (action : Option ArgAction) → is_set action ≡ true → action ≡ Some Set
 set_action (Some Set) is = refl

@@ -160,19 +160,32 @@ fn described<'a>(alloc: Global, name: &'a str, about: About<'a>) -> Result<Comma
     Ok(command)
 }
 
+/// A line of the command of that name, which help and faults call by the other one.
+fn line_of<'a>(
+    alloc: Global,
+    name: &'a str,
+    bin_name: &str,
+    about: About<'a>,
+) -> Result<Command<'a>, AllocError>
+    ensures { IfOk result (λ command. app_of command
+        ≡ app_with name.entry.now (map rule_for about.entry.arguments.now)) }
+{
+    described(alloc, name, about)?.bin_name(bin_name)
+}
+
 /// The line of one command, whose own word comes first. Help and faults call it `msrepack` and that word.
 pub(crate) fn command_line<'a>(alloc: Global, verb: Verb) -> Result<Command<'a>, AllocError>
     ensures { IfOk result (λ command. app_of command ≡ app_with (word_of verb) (rules_of verb)) }
 {
-    let name = format!(in alloc; "msrepack {}", verb.word())?;
-    described(alloc, verb.word(), about_of(verb))?.bin_name(name.as_str())
+    let bin_name = format!(in alloc; "msrepack {}", verb.word())?;
+    line_of(alloc, verb.word(), bin_name.as_str(), about_of(verb))
 }
 
 /// The line of `archive` as a dry run, with the command's own word first.
 pub(crate) fn dry_run_line<'a>(alloc: Global) -> Result<Command<'a>, AllocError>
     ensures { IfOk result (λ command. app_of command ≡ app_with (codes "archive") dry_run_rules) }
 {
-    described(alloc, "archive", dry_run())?.bin_name("msrepack archive")
+    line_of(alloc, "archive", "msrepack archive", dry_run())
 }
 
 /// What the help of a dry run says, and what it takes.
@@ -182,21 +195,27 @@ fn dry_run<'a>() -> About<'a>
     texts::DRY_RUN
 }
 
-/// The line of the program, without its commands.
-fn program_alone<'a>(alloc: Global) -> Result<Command<'a>, AllocError>
-    ensures { IfOk result (λ command. app_of command ≡ program_alone) }
+/// The line of the program, without its commands and its name in help.
+fn program_alone<'a>(alloc: Global) -> Command<'a>
+    ensures { app_of result ≡ program_alone }
 {
     titled(alloc, "msrepack", texts::PROGRAM)
         .version("1.1.0")
         .subcommand_required(true)
-        .bin_name("msrepack")
+}
+
+/// A command by its own word, with its help and its arguments.
+fn command_of<'a>(alloc: Global, verb: Verb) -> Result<Command<'a>, AllocError>
+    ensures { IfOk result (λ command. app_of command ≡ app_with (word_of verb) (rules_of verb)) }
+{
+    described(alloc, verb.word(), about_of(verb))
 }
 
 /// The line of the program with one command more.
 fn with_verb<'a>(alloc: Global, program: Command<'a>, verb: Verb) -> Result<Command<'a>, AllocError>
     ensures { IfOk result (λ more. app_of more ≡ with_verb (app_of program.entry) verb) }
 {
-    let command = described(alloc, verb.word(), about_of(verb))?;
+    let command = command_of(alloc, verb)?;
     program.subcommand(command)
 }
 
@@ -204,7 +223,7 @@ fn with_verb<'a>(alloc: Global, program: Command<'a>, verb: Verb) -> Result<Comm
 pub(crate) fn program_line<'a>(alloc: Global) -> Result<Command<'a>, AllocError>
     ensures { IfOk result (λ command. app_of command ≡ program_app) }
 {
-    let mut command = program_alone(alloc)?;
+    let mut command = program_alone(alloc);
     for verb in [
         Verb::Repack,
         Verb::List,
@@ -217,5 +236,5 @@ pub(crate) fn program_line<'a>(alloc: Global) -> Result<Command<'a>, AllocError>
     ] {
         command = with_verb(alloc, command, verb)?;
     }
-    Ok(command)
+    command.bin_name("msrepack")
 }

@@ -58,7 +58,10 @@ fn trial_of<'a>(alloc: Global, found: &ArgMatches<'a>) -> Result<Task<'a>, NoTas
     ensures kept { IfOk result (λ task. HasTolerance task × KeepsInput task) }
     ensures status { IfErr result IsBadLine }
 {
-    trying_in(alloc, found).map_err(|fault| refused(alloc, fault))
+    match trying_in(alloc, found) {
+        Ok(task) => Ok(task),
+        Err(fault) => Err(refused(alloc, fault)),
+    }
 }
 
 /// The task of a command, whose word comes first.

@@ -2,7 +2,7 @@
 ghost use Rattle.std.specs.Prelude.{◌≡◌, ◌≢◌, ◌<◌, ◌≤◌, ◌↔◌, ℕ, length, codes, false, slice_get, Some, IfOk, IfErr, IfSome, IsSome, IsSomeAnd, IsOk, IsOkAnd, IsErrAnd, IsTrue, Ok, Err, Any, drop, map, option_map, true};
 ghost use Rattle.msr_base.specs.RecordLength.{IsRecordLength};
 ghost use Rattle.clap.specs.Words.{first_value, found_of, kind_of, one_text};
-ghost use Rattle.msr_arguments.specs.Found.{AsksArchive, AsksBelow, AsksCheck, AsksDays, AsksFolders, AsksKnown, AsksOptions, AsksPlaces, AsksReplace, AsksTask, AsksTelling, AsksVerify, EndsFor, EndsWith, IsBadLine, IsFlagOf, IsFormOf, IsKindsOf, IsLengthOf, IsNumberOf, IsToldByClap, IsWrong, length_in, line_fault_text, without_slash};
+ghost use Rattle.msr_arguments.specs.Found.{AsksArchive, AsksBelow, AsksCheck, AsksDays, AsksFlags, AsksFolders, AsksKnown, AsksOptions, AsksPlaces, AsksReplace, AsksTask, AsksTelling, AsksVerify, EndsFor, EndsWith, IsBadLine, IsFlagOf, IsFormOf, IsKindsOf, IsLengthOf, IsNumberOf, IsToldByClap, IsWrong, length_in, line_fault_text, without_slash};
 ghost use Rattle.msr_arguments.specs.Rules.{IsFoundFor, HasNeeded, HoldsDays, HoldsTolerance, folder_rules};
 ghost use Rattle.msr_options.specs.Asked.{AsksAlone, AsksDryRun, HasStatus, ask_help};
 ghost use Rattle.msr_options.specs.Tasks.{AreApart, AreBothStandard, HasTolerance, IsDefault, IsTolerance, IsTrial, KeepsInput, KeepsOriginals, Overlap, StandApart, verb_of, word_of};
@@ -204,7 +204,14 @@ pub(crate) fn below_in<'a>(
     let Ok(folders) = folders_named(alloc, given) else {
         return Err(LineFault::Memory);
     };
-    let below = folders.as_slice();
+    check_places(folders.as_slice())?;
+    Ok(folders)
+}
+
+/// Refuses folders that are no paths of names, or of which two overlap.
+fn check_places<'a>(below: &[&str]) -> Result<(), LineFault<'a>>
+    ensures { IfOk result (λ nothing. AreApart (map (λ folder. folder.now) below.now)) }
+{
     for place in 0..below.len() {
         if levels_below(below[place]).is_none() {
             return Err(LineFault::NotBelow);
@@ -213,7 +220,7 @@ pub(crate) fn below_in<'a>(
             return Err(LineFault::Overlap);
         }
     }
-    Ok(folders)
+    Ok(())
 }
 
 /// How lines are to be told, as clap found it.
@@ -247,7 +254,18 @@ pub(crate) fn days_in<'a>(found: &ArgMatches<'a>) -> Result<DayOptions, LineFaul
     let length = found.get_str("length");
     let same_length = length == Some("same");
     let options = options_in(found, if same_length { None } else { length })?;
-    Ok(DayOptions {
+    Ok(days_with(found, options, same_length))
+}
+
+/// What is asked of the days of an archive, with these options.
+fn days_with(found: &ArgMatches<'_>, options: Options, same_length: bool) -> DayOptions
+    requires { HoldsDays (found_of found.now) }
+    ensures flags { AsksFlags (found_of found.now) result }
+    ensures older_than { IsNumberOf (one_text (found_of found.now) (codes "older-than")) (Some result.older_than) }
+    ensures telling { AsksTelling (found_of found.now) result.telling }
+    ensures given { (result.options ≡ options) × (result.same_length ≡ same_length) }
+{
+    DayOptions {
         options,
         same_length,
         resume: flag_in(found, "resume"),
@@ -258,7 +276,7 @@ pub(crate) fn days_in<'a>(found: &ArgMatches<'a>) -> Result<DayOptions, LineFaul
         names: Names::asked(flag_in(found, "names")),
         bytes: flag_in(found, "bytes"),
         telling: telling_in(found),
-    })
+    }
 }
 
 /// The archive that clap found.
@@ -466,7 +484,10 @@ pub(crate) fn task_of<'a>(
     ensures status { IfErr result IsBadLine }
     ensures no_trial { IfOk result (λ task. ¬ (IsTrial task)) }
 {
-    task_in(alloc, verb, found).map_err(|fault| refused(alloc, fault))
+    match task_in(alloc, verb, found) {
+        Ok(task) => Ok(task),
+        Err(fault) => Err(refused(alloc, fault)),
+    }
 }
 
 /// What is said, never a task, if the word after the program's name is no command: help, the version, or what is wrong.

@@ -1,5 +1,5 @@
 use Rattle.msr_arguments.proofs.Apart.{ApartBefore}
-use Rattle.msr_arguments.proofs.words.below_in.Given as goal
+use Rattle.msr_arguments.proofs.words.check_places.Given as goal
 
 -- no two of the folders so far overlap
 abbrev pub invariant-loop-place : goal.invariant-loop-place
