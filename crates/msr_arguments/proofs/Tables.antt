@@ -1,5 +1,5 @@
 -- What is asked of each command's rules, computed.
-use Rattle.std.proofs.Common.{◌≡◌, ◌&&◌, ◌||◌, ℕ, Bool, true, false, not, List, [], refl, length, map, codes, Option, Some, is_some, lit<}
+use Rattle.std.proofs.Common.{◌≡◌, ◌&&◌, ◌||◌, ℕ, Bool, true, false, true≢false, not, List, [], refl, sym, length, map, codes, Option, Some, is_some, lit<}
 use Rattle.std.specs.List.{Any, list_all, list_any}
 use Rattle.std.specs.Set.{distinct_count}
 use Rattle.std.specs.Str.{bytes_eq}
@@ -34,9 +34,9 @@ counted_once _ = refl
 
 pub tolerance_at : (verb : Verb) → list_any (λ rule. bytes_eq rule.id (codes "tolerance")) (rules_of verb) ≡ true →
     Any (λ rule. rule ≡ tolerance_rule) (rules_of verb)
-tolerance_at verb.Check has = cc
-tolerance_at verb.Verify has = cc
-tolerance_at verb.Replace has = cc
+tolerance_at verb.Check has = absurd (true≢false (sym has))
+tolerance_at verb.Verify has = absurd (true≢false (sym has))
+tolerance_at verb.Replace has = absurd (true≢false (sym has))
 tolerance_at verb.List has = (0, tolerance_rule, lit< tt, refl, refl)
 tolerance_at verb.Compare has = (0, tolerance_rule, lit< tt, refl, refl)
 tolerance_at _ has = (2, tolerance_rule, lit< tt, refl, refl)
@@ -50,4 +50,4 @@ pub days_at : (verb : Verb) → list_any (λ rule. bytes_eq rule.id (codes "olde
     Any (λ rule. rule ≡ days_rule (days_by verb)) (rules_of verb)
 days_at verb.Archive has = (9, days_rule (codes "0"), lit< tt, refl, refl)
 days_at verb.Replace has = (3, days_rule (codes "7"), lit< tt, refl, refl)
-days_at _ has = cc
+days_at _ has = absurd (true≢false (sym has))
