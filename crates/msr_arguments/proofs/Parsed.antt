@@ -1,5 +1,5 @@
 -- In a line that it lets through clap has found what the command needs.
-use Rattle.std.proofs.Common.{◌≡◌, ◌≢◌, ◌<◌, ◌≤◌, ◌^◌, ◌∙◌, ◌&&◌, ◌||◌, ℕ, Bool, cond, true, false, not, zero, suc, pos, List, [], ◌∷◌, ap, sym, refl, arith, inl, inr, length, map, codes, Option, None, Some, IsSome, is_some, lit<}
+use Rattle.std.proofs.Common.{◌≡◌, ◌≢◌, ◌<◌, ◌≤◌, ◌^◌, ◌∙◌, ◌&&◌, ◌||◌, ℕ, Bool, cond, true, false, true≢false, not, zero, suc, pos, List, [], ◌∷◌, ap, sym, refl, arith, inl, inr, length, map, codes, Option, None, Some, IsSome, is_some, lit<}
 use Rattle.std.specs.Cmp.{decided}
 use Rattle.std.specs.List.{All, AllPairs, Any, list_all, list_any, slice_index_or}
 use Rattle.std.specs.Option.{IsSomeAnd, option_map}
@@ -69,11 +69,11 @@ holds_days number (n, is, least, most) = rw is refl
 
 set_action : (action : Option ArgAction) → is_set action ≡ true → action ≡ Some Set
 set_action (Some Set) is = refl
-set_action _ is = cc
+set_action _ is = absurd (true≢false (sym is))
 
 no_value : {X : Type 0} (o : Option X) → is_some o ≡ false → o ≡ None
 no_value None is = refl
-no_value (Some x) is = cc
+no_value (Some x) is = absurd (true≢false is)
 
 wants_default : (arg : Arg) → arg.default_vals_ifs.items ≡ [] → length (rule_of arg).defaults ≡ 1 → WantsDefault arg
 wants_default arg ifs one =
@@ -82,7 +82,7 @@ wants_default arg ifs one =
 takes_one : (required set none : Bool) → (not required || (set && none)) ≡ true → required ≡ true →
     (set ≡ true) × (none ≡ true)
 takes_one true set none one given = both set none one
-takes_one false set none one given = cc
+takes_one false set none one given = absurd (true≢false (sym given))
 
 one_value : (arg : Arg) → arg.num_vals ≡ None → 1 ≤ least_values arg
 one_value arg is = rw (is, least_values) (omega arith)
@@ -136,7 +136,7 @@ some_is None is = cc
 some_is (Some x) is = (x, refl)
 
 ours_only : (name other : List ℕ) → is_ours name ≡ true → is_ours other ≡ false → name ≢ other
-ours_only name other ours theirs is = let bad : false ≡ true = sym theirs ∙ ap is_ours (sym is) ∙ ours in cc
+ours_only name other ours theirs is = true≢false (sym (sym theirs ∙ ap is_ours (sym is) ∙ ours))
 
 not_own : (arg : Arg) → is_ours arg.id.now ≡ true → IsAuto arg → ⊥
 not_own arg ours (inl help) = ours_only arg.id.now _ ours refl help
@@ -164,7 +164,7 @@ entry_reads low high c arg e action delimiter least parser passes groups named s
             let one = (same j y within at id).least action least in absurd (omega (arith, one, none))
         | inr (inr (inr (j, y, within, at, (id, inr split)))) ↦
             let whole = (same j y within at id).val_delim ∙ delimiter in
-            let bad : false ≡ true = rw whole at split in cc
+            let bad : false ≡ true = rw whole at split in absurd (true≢false (sym bad))
       ],
       elim passes.0 [
         | inl group ↦ absurd (no_group group)
