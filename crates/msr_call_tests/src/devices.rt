@@ -1,10 +1,10 @@
 //! msr_devices: what devices do, which no clause says: how a test device plays, how large the
 //! pieces are, and each call once.
-ghost use Rattle.msr_devices.specs.Device.{CanCountCall};
+ghost use Rattle.msr_devices.specs.Device.{CanCountCall, CountsFew};
 
 use crate::facts::{expect_all, is_text};
 use msr_devices::{
-    Behavior, DeviceFailed, DeviceFault, FromRead, FromWrite, ReadBuffer, Sink, TestSink,
+    Behavior, DeviceFailed, DeviceFault, FromRead, FromWrite, ReadBuffer, Sink, Source, TestSink,
     TestSource, WriteBuffer, read_some, write_all, write_some,
 };
 use msr_fixtures::expect;
@@ -40,13 +40,9 @@ fn behavior(most: usize, interruptions: u32, fails_at: Option<u64>) -> Behavior 
     }
 }
 
-/// Fails with the number of the call unless what is expected of it holds.
-fn expect_at(holds: bool, call: u64) -> Result<(), Fail> {
-    if holds {
-        Ok(())
-    } else {
-        Err(Fail::new(format_args!("call {call} fails")))
-    }
+/// Fails with the number of a call.
+fn fail_at(call: u64) -> Result<(), Fail> {
+    Err(Fail::new(format_args!("call {call} fails")))
 }
 
 /// The bytes are so many as the text begins with.
@@ -59,14 +55,20 @@ fn fills(alloc: Global, row: Played) -> bool {
     let (most, interruptions, fails_at, came) = row;
     let mut source = TestSource::new(TEXT, behavior(most, interruptions, fails_at));
     let mut buffer = ReadBuffer::new(alloc);
-    let fault = (came < 14).then_some(DeviceFault::Failed);
-    buffer.fill(&mut source, 14).err() == fault && is_begin(buffer.bytes(), came)
+    let expected = if came < 14 {
+        Err(DeviceFault::Failed)
+    } else {
+        Ok(())
+    };
+    (buffer.fill(&mut source, 14) == expected) & is_begin(buffer.bytes(), came)
 }
 
 #[test]
 fn sources_play_their_behavior(rt: HostRuntime) -> Result<(), Fail> {
     for (name, row) in BOTH {
-        expect(fills(rt.alloc(), *row), name)?;
+        if !fills(rt.alloc(), *row) {
+            return expect(false, name);
+        }
     }
     expect(fills(rt.alloc(), (0, 0, None, 14)), "0 stands for 1")
 }
@@ -76,7 +78,7 @@ fn takes(mut sink: TestSink, held: usize) -> bool
     requires { CanCountCall (⟦<TestSink as Sink>⟧.device sink) }
 {
     let written = write_all(&mut sink, TEXT).is_ok();
-    written == (held == 14) && is_begin(sink.bytes(), held)
+    (written == (held == 14)) & is_begin(sink.bytes(), held)
 }
 
 /// A sink that fails by an error, and one that fails by accepting nothing, take the text so.
@@ -85,13 +87,15 @@ fn both_take(alloc: Global, row: Played) -> bool {
     let behavior = behavior(most, interruptions, fails_at);
     let failing = takes(TestSink::new(Vec::new(alloc), behavior), held);
     let idle = takes(TestSink::accepting_nothing(Vec::new(alloc), behavior), held);
-    failing && idle
+    failing & idle
 }
 
 #[test]
 fn sinks_play_their_behavior(rt: HostRuntime) -> Result<(), Fail> {
     for (name, row) in BOTH {
-        expect(both_take(rt.alloc(), *row), name)?;
+        if !both_take(rt.alloc(), *row) {
+            return expect(false, name);
+        }
     }
     expect(
         both_take(rt.alloc(), (5, 0, Some(2), 10)),
@@ -99,21 +103,38 @@ fn sinks_play_their_behavior(rt: HostRuntime) -> Result<(), Fail> {
     )
 }
 
+/// A buffer is filled with so many bytes, and then holds these.
+fn holds<'a>(
+    buffer: &mut ReadBuffer,
+    source: &mut TestSource<'a>,
+    want: usize,
+    bytes: &[u8],
+) -> bool
+    requires { CanCountCall (⟦<TestSource<'a> as Source>⟧.device source.old) }
+    ensures { CountsFew (⟦<TestSource<'a> as Source>⟧.device source.old)
+        (⟦<TestSource<'a> as Source>⟧.device source.new) }
+{
+    let filled = buffer.fill(source, want).is_ok();
+    filled & (buffer.bytes() == bytes)
+}
+
 /// After the failure of that call the bytes before it are there, and the next call goes on to the end.
 fn goes_on(alloc: Global, fails_at: u64) -> bool {
     let mut source = TestSource::new(TEXT, behavior(1, 0, Some(fails_at)));
     let mut buffer = ReadBuffer::new(alloc);
-    let first = buffer.fill(&mut source, 20);
-    let (ended, came) = (buffer.has_ended(), buffer.bytes().len() as u64);
-    let second = buffer.fill(&mut source, 20);
-    let whole = buffer.has_ended() && buffer.bytes() == TEXT;
-    first == Err(DeviceFault::Failed) && !ended && came == fails_at && second == Ok(()) && whole
+    let failed = buffer.fill(&mut source, 20) == Err(DeviceFault::Failed);
+    let came = buffer.bytes().len() as u64 == fails_at;
+    let ended = buffer.has_ended();
+    let whole = holds(&mut buffer, &mut source, 20, TEXT);
+    failed & came & !ended & whole & buffer.has_ended()
 }
 
 #[test]
 fn a_failure_is_not_the_end(rt: HostRuntime) -> Result<(), Fail> {
-    for fails_at in 0..15 {
-        expect_at(goes_on(rt.alloc(), fails_at), fails_at)?;
+    for call in 0..15 {
+        if !goes_on(rt.alloc(), call) {
+            return fail_at(call);
+        }
     }
     Ok(())
 }
@@ -122,14 +143,13 @@ fn a_failure_is_not_the_end(rt: HostRuntime) -> Result<(), Fail> {
 fn a_window_moves_on(rt: HostRuntime) -> Result<(), Fail> {
     let mut source = TestSource::new(TEXT, behavior(4, 1, None));
     let mut buffer = ReadBuffer::new(rt.alloc());
-    let filled = buffer.fill(&mut source, 3) == Ok(());
-    let first = filled && buffer.bytes() == b"thir".as_slice();
-    if buffer.bytes().len() >= 2 {
-        buffer.consume(2);
+    let first = holds(&mut buffer, &mut source, 3, b"thir");
+    if buffer.bytes().len() < 2 {
+        return expect(false, "four bytes");
     }
+    buffer.consume(2);
     let fewer = buffer.bytes() == b"ir".as_slice();
-    let filled = buffer.fill(&mut source, 8) == Ok(()) && !buffer.has_ended();
-    let more = filled && buffer.bytes() == b"irteen byt".as_slice();
+    let more = holds(&mut buffer, &mut source, 8, b"irteen byt") & !buffer.has_ended();
     expect_all(&[
         (first, "four bytes"),
         (fewer, "two bytes fewer"),
@@ -144,17 +164,19 @@ fn writes_on(alloc: Global, fails_at: u64) -> bool {
     let mut sink = TestSink::accepting_nothing(Vec::new(alloc), behavior);
     let mut buffer = WriteBuffer::new(alloc);
     let added = buffer.bytes.extend_from_slice(TEXT).is_ok();
-    let waits = buffer.flush_full(&mut sink) == Ok(()) && sink.bytes().is_empty();
-    let failed = buffer.flush(&mut sink) == Err(DeviceFailed);
+    let waits = buffer.flush_full(&mut sink).is_ok() & sink.bytes().is_empty();
+    let failed = buffer.flush(&mut sink).is_err();
     let whole = sink.bytes().len().saturating_add(buffer.bytes.len()) == 14;
-    let written = buffer.flush(&mut sink) == Ok(()) && sink.bytes() == TEXT;
-    added && waits && failed && whole && written
+    let written = buffer.flush(&mut sink).is_ok() & (sink.bytes() == TEXT);
+    added & waits & failed & whole & written
 }
 
 #[test]
 fn what_was_not_written_waits(rt: HostRuntime) -> Result<(), Fail> {
-    for fails_at in 0..14 {
-        expect_at(writes_on(rt.alloc(), fails_at), fails_at)?;
+    for call in 0..14 {
+        if !writes_on(rt.alloc(), call) {
+            return fail_at(call);
+        }
     }
     Ok(())
 }
@@ -183,22 +205,18 @@ impl Write for Noted {
     }
 }
 
-/// The least room that a reader is given for that many bytes, and then for 100000; 0 if fewer bytes came.
-fn least_room(alloc: Global, want: usize) -> usize {
+/// A reader is given large rooms for that many bytes, which come, and then for 100000.
+fn has_large_rooms(alloc: Global, want: usize) -> bool {
     let mut noted = Noted { least: usize::MAX };
     let mut source = FromRead::new(&mut noted);
     let mut buffer = ReadBuffer::new(alloc);
     let first = buffer.fill(&mut source, want).is_ok();
-    let came = buffer.bytes().len() >= want;
-    if came {
-        buffer.consume(want);
+    if buffer.bytes().len() < want {
+        return false;
     }
+    buffer.consume(want);
     let second = buffer.fill(&mut source, 100_000).is_ok();
-    if first && came && second {
-        noted.least
-    } else {
-        0
-    }
+    first & second & (noted.least >= 65_536)
 }
 
 /// How many bytes are wanted, with a name.
@@ -213,7 +231,9 @@ const WANTED: &[(&str, usize)] = &[
 #[test]
 fn rooms_are_large(rt: HostRuntime) -> Result<(), Fail> {
     for (name, want) in WANTED {
-        expect(least_room(rt.alloc(), *want) >= 65_536, name)?;
+        if !has_large_rooms(rt.alloc(), *want) {
+            return expect(false, name);
+        }
     }
     Ok(())
 }
@@ -224,19 +244,19 @@ fn pieces_are_large(rt: HostRuntime) -> Result<(), Fail> {
     let mut noted = Noted { least: usize::MAX };
     let mut sink = FromWrite::new(&mut noted);
     let mut buffer = WriteBuffer::new(rt.alloc());
-    buffer.bytes.resize(65_535, 7)?;
-    buffer.flush_full(&mut sink)?;
-    buffer.bytes.push(7)?;
-    buffer.flush_full(&mut sink)?;
-    expect(noted.least == 65_536, "the least piece")
+    let mut done = buffer.bytes.resize(65_535, 7).is_ok();
+    done &= buffer.flush_full(&mut sink).is_ok();
+    done &= buffer.bytes.push(7).is_ok();
+    done &= buffer.flush_full(&mut sink).is_ok();
+    expect(done & (noted.least == 65_536), "the least piece")
 }
 
 #[test]
 fn readers_of_std() -> Result<(), Fail> {
     let mut source = FromRead::new(TEXT);
     let mut bytes = [0; 20];
-    let read = read_some(&mut source, &mut bytes) == Ok(14) && &bytes[..14] == TEXT;
-    expect(read, "a slice")
+    let read = read_some(&mut source, &mut bytes) == Ok(14);
+    expect(read & bytes.starts_with(TEXT), "a slice")
 }
 
 #[test]
@@ -244,7 +264,7 @@ fn writers_of_std(rt: HostRuntime) -> Result<(), Fail> {
     let mut held = Vec::new(rt.alloc());
     let mut sink = FromWrite::new(&mut held);
     let written = write_some(&mut sink, TEXT) == Ok(14);
-    expect(written && held.as_slice() == TEXT, "a vector")
+    expect(written & (held.as_slice() == TEXT), "a vector")
 }
 
 #[test]

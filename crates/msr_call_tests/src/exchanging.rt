@@ -104,14 +104,13 @@ fn go(
 /// Whether each of some crashes leaves what is promised of a tree.
 fn leaves(tree: &MemoryTree, names: &DayNames, way: Way, is_done: bool) -> Result<bool, TreeFault> {
     let mut number = 1;
+    let mut kept = true;
     for _ in 0..CRASHES {
         let after = tree.crash(&mut Choices { number })?;
-        if !keeps_both(&after, names) | (is_done & !have_changed(&after, names, way)) {
-            return Ok(false);
-        }
+        kept &= keeps_both(&after, names) & (!is_done | have_changed(&after, names, way));
         number = next_of(number);
     }
-    Ok(true)
+    Ok(kept)
 }
 
 /// Whether what is promised holds if a call fails; the last number is that of none.
@@ -126,16 +125,31 @@ fn keeps_after(
     let mut tree = day_in_root(alloc, names)?;
     let told = go(&mut tree, names, way, failure);
     let is_done = told == Ok(Told::Done);
-    if (failure.call == 0) & (told != Err(TreeFault::Failed)) {
-        return Ok(false);
-    }
-    if (failure.call == CALLS) & !is_done {
+    let is_failed = told == Err(TreeFault::Failed);
+    if ((failure.call == 0) & !is_failed) | ((failure.call == CALLS) & !is_done) {
         return Ok(false);
     }
     leaves(&tree, names, way, is_done)
 }
 
 /// Whether it holds whichever call fails.
+fn keeps_always(
+    alloc: Global,
+    names: &DayNames,
+    way: Way,
+    ending: Ending,
+) -> Result<bool, TreeFault>
+    requires { AreNames names.now }
+{
+    for call in 0..=CALLS {
+        if !keeps_after(alloc, names, way, Failure { call, ending })? {
+            return Ok(false);
+        }
+    }
+    Ok(true)
+}
+
+/// Whether it holds for a day.
 fn keeps(alloc: Global, way: Way, ending: Ending) -> Result<bool, TreeFault> {
     let Ok(_) = SdsName::parse(PATH) else {
         return Ok(false);
@@ -152,29 +166,24 @@ fn keeps(alloc: Global, way: Way, ending: Ending) -> Result<bool, TreeFault> {
         int24: false,
     };
     let names = DayNames::new(&work, PATH)?;
-    for call in 0..=CALLS {
-        if !keeps_after(alloc, &names, way, Failure { call, ending })? {
-            return Ok(false);
-        }
-    }
-    Ok(true)
+    keeps_always(alloc, &names, way, ending)
 }
 
-fn rows() -> [(&'static str, Way, Ending); 6] {
-    [
-        ("there, a call has done nothing", There, Ending::Nothing),
-        ("there, a call has done a part", There, Ending::Part),
-        ("there, a call has done all", There, Ending::All),
-        ("back, a call has done nothing", Back, Ending::Nothing),
-        ("back, a call has done a part", Back, Ending::Part),
-        ("back, a call has done all", Back, Ending::All),
-    ]
-}
+const ROWS: &[(&str, Way, Ending)] = &[
+    ("there, a call has done nothing", There, Ending::Nothing),
+    ("there, a call has done a part", There, Ending::Part),
+    ("there, a call has done all", There, Ending::All),
+    ("back, a call has done nothing", Back, Ending::Nothing),
+    ("back, a call has done a part", Back, Ending::Part),
+    ("back, a call has done all", Back, Ending::All),
+];
 
 #[test]
 fn both_files_are_kept_whatever_fails(rt: HostRuntime) -> Result<(), Fail> {
-    for (name, way, ending) in rows() {
-        expect(keeps(rt.alloc(), way, ending) == Ok(true), name)?;
+    for (name, way, ending) in ROWS {
+        if keeps(rt.alloc(), *way, *ending) != Ok(true) {
+            return expect(false, name);
+        }
     }
     Ok(())
 }

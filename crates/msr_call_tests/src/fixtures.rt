@@ -1,4 +1,5 @@
 //! msr_fixtures: where an edit writes, and what.
+use crate::facts::expect_all;
 use msr_fixtures::{
     Edit, expect, header_bytes, little_record, record, record_of_words, steim_record,
 };
@@ -47,36 +48,50 @@ const ROWS: &[Row<'static>] = &[
 /// The first bytes have this part in that place, and are else the second ones.
 fn differ_there(found: &[u8], base: &[u8], at: usize, part: &[u8]) -> bool {
     let end = at.saturating_add(part.len());
-    found.len() == base.len()
-        && found.get(..at) == base.get(..at)
-        && found.get(at..end) == Some(part)
-        && found.get(end..) == base.get(end..)
+    if (found.len() != base.len()) | (found.len() < end) {
+        return false;
+    }
+    let before = found[..at] == base[..at];
+    let after = found[end..] == base[end..];
+    before & (&found[at..end] == part) & after
 }
 
-/// Headers and records with the edit of a row differ there from those without.
-fn is_edited(row: Row<'_>) -> bool {
-    let (edit, at, big, little) = row;
-    let edits = [edit];
-    let header = differ_there(&header_bytes(&edits), &header_bytes(&[]), at, big);
-    let plain = differ_there(&record(&edits), &record(&[]), at, big);
-    let steim = differ_there(&steim_record(&edits), &steim_record(&[]), at, big);
-    let turned = differ_there(&little_record(&edits), &little_record(&[]), at, little);
-    header && plain && steim && turned
+/// Headers and records of integers with these edits differ there from those without.
+fn is_plain_edited(edits: &[Edit<'_>], at: usize, big: &[u8]) -> bool {
+    let header = differ_there(&header_bytes(edits), &header_bytes(&[]), at, big);
+    header & differ_there(&record(edits), &record(&[]), at, big)
+}
+
+/// So do records of Steim-2, and records in the other order.
+fn is_edited(edits: &[Edit<'_>], at: usize, big: &[u8], little: &[u8]) -> bool {
+    let steim = differ_there(&steim_record(edits), &steim_record(&[]), at, big);
+    let turned = differ_there(&little_record(edits), &little_record(&[]), at, little);
+    steim & turned & is_plain_edited(edits, at, big)
 }
 
 #[test]
 fn edits_write_their_fields() -> Result<(), Fail> {
-    for row in ROWS {
-        if !is_edited(*row) {
-            return Err(Fail::new(format_args!("the edit at byte {}", row.1)));
+    for (edit, at, big, little) in ROWS {
+        if !is_edited(&[*edit], *at, big, little) {
+            return expect(false, edit.0);
         }
     }
     Ok(())
 }
 
-/// All words of four bytes are this one.
-fn repeats(bytes: &[u8], word: [u8; 4]) -> bool {
-    for at in 0..bytes.len() {
+/// What stands before the words is the same.
+fn begins_as(bytes: &[u8; 256], base: &[u8; 256]) -> bool {
+    for at in 0..76 {
+        if bytes[at] != base[at] {
+            return false;
+        }
+    }
+    true
+}
+
+/// All words of four bytes but the last one are this one.
+fn repeats(bytes: &[u8; 256], word: [u8; 4]) -> bool {
+    for at in 76..252 {
         if bytes[at] != word[at % 4] {
             return false;
         }
@@ -87,8 +102,12 @@ fn repeats(bytes: &[u8], word: [u8; 4]) -> bool {
 #[test]
 fn words_fill_frames() -> Result<(), Fail> {
     let bytes = record_of_words([1, 2, 3, 4], &[("252", "0506070809")]);
-    let edited = differ_there(&bytes, &record(&[]), 76, &bytes[76..]);
-    expect(edited, "what stands before the words")?;
-    expect(repeats(&bytes[76..252], [1, 2, 3, 4]), "the words")?;
-    expect(bytes.ends_with([5, 6, 7, 8].as_slice()), "the last word")
+    let before = begins_as(&bytes, &record(&[]));
+    let words = repeats(&bytes, [1, 2, 3, 4]);
+    let last = bytes.ends_with([5, 6, 7, 8].as_slice());
+    expect_all(&[
+        (before, "what stands before the words"),
+        (words, "the words"),
+        (last, "the last word"),
+    ])
 }

@@ -54,6 +54,23 @@ struct Trial {
 }
 
 impl Trial {
+    /// Takes a run from there to each number of a change, of so many samples, and says where the last one ends.
+    fn take_run(
+        &mut self,
+        mut start: u64,
+        kind: Kind,
+        ends: (u64, u64),
+        samples: u64,
+    ) -> Result<u64, AllocError> {
+        let (first, count) = ends;
+        for more in 0..count {
+            let end = first.wrapping_add(more).min(samples).max(start);
+            self.runs.push(Run { start, end, kind })?;
+            start = end;
+        }
+        Ok(start)
+    }
+
     /// Takes these runs of so many samples; the end of one is changed, and each begins where the one before it ends.
     fn take_runs(
         &mut self,
@@ -67,12 +84,16 @@ impl Trial {
         for at in 0..runs.len() {
             let Run { end, kind, .. } = runs[at];
             let change = if at == place { change } else { Stays };
-            let (first, count) = change.of(end);
-            for more in 0..count {
-                let end = first.wrapping_add(more).min(samples).max(start);
-                self.runs.push(Run { start, end, kind })?;
-                start = end;
-            }
+            start = self.take_run(start, kind, change.of(end), samples)?;
+        }
+        Ok(())
+    }
+
+    /// Takes each number of a change as a separator.
+    fn take_separator(&mut self, numbers: (u64, u64)) -> Result<(), AllocError> {
+        let (first, count) = numbers;
+        for more in 0..count {
+            self.separators.push(first.wrapping_add(more))?;
         }
         Ok(())
     }
@@ -87,26 +108,57 @@ impl Trial {
         self.separators.clear();
         for at in 0..separators.len() {
             let change = if at == place { change } else { Stays };
-            let (first, count) = change.of(separators[at]);
-            for more in 0..count {
-                self.separators.push(first.wrapping_add(more))?;
-            }
+            self.take_separator(change.of(separators[at]))?;
         }
         Ok(())
+    }
+
+    /// Takes the runs and separators of a packing of so many samples, with a change of each at a place.
+    fn take(
+        &mut self,
+        packing: &Packing,
+        place: usize,
+        changes: (Change, Change),
+        samples: u64,
+    ) -> Result<(), AllocError> {
+        self.take_runs(&packing.runs, place, changes.0, samples)?;
+        self.take_separators(&packing.separators, place, changes.1)
+    }
+
+    /// Gives the judge the runs one after another, as far as it takes them.
+    fn judge_runs(&mut self, segment: Segment<'_>) -> bool {
+        self.judge.begin();
+        for run in &self.runs {
+            if !judges(&mut self.judge, *run, segment, &self.separators) {
+                return false;
+            }
+        }
+        true
     }
 
     /// What is said of runs that come one after another, and of all at once, if it is the same.
     fn verdict(&mut self, segment: Segment<'_>) -> Option<bool> {
         let Segment { samples, form } = segment;
-        let (judge, separators) = (&mut self.judge, self.separators.as_slice());
-        judge.begin();
-        for run in &self.runs {
-            let part = samples.get(run.start as usize..run.end as usize)?;
-            judge.push(part, run.kind, form, separators).ok()?;
+        if !self.judge_runs(segment) {
+            return None;
         }
-        let one_by_one = judge.shows_least(form, separators, samples.len() as u64);
-        let at_once = shows_least_in(samples, form, &self.runs, separators);
-        (one_by_one == at_once).then_some(at_once)
+        let count = samples.len() as u64;
+        let one_by_one = self.judge.shows_least(form, &self.separators, count);
+        let at_once = shows_least_in(samples, form, &self.runs, &self.separators);
+        if one_by_one == at_once {
+            Some(at_once)
+        } else {
+            None
+        }
+    }
+}
+
+/// The judge takes one more run of the segment.
+fn judges(judge: &mut Judge, run: Run, segment: Segment<'_>, separators: &[u64]) -> bool {
+    let Segment { samples, form } = segment;
+    match samples.get(run.start as usize..run.end as usize) {
+        Some(part) => judge.push(part, run.kind, form, separators).is_ok(),
+        None => false,
     }
 }
 
@@ -135,11 +187,11 @@ fn agree_at(
     packing: &Packing,
     place: usize,
 ) -> Result<bool, AllocError> {
+    let samples = segment.samples.len() as u64;
     for (end, separator, known) in CHANGES {
-        trial.take_runs(&packing.runs, place, *end, segment.samples.len() as u64)?;
-        trial.take_separators(&packing.separators, place, *separator)?;
+        trial.take(packing, place, (*end, *separator), samples)?;
         let said = trial.verdict(segment);
-        if said.is_none() || known.is_some() && said != *known {
+        if said.is_none() | (known.is_some() & (said != *known)) {
             return Ok(false);
         }
     }
@@ -156,8 +208,7 @@ fn agree_on_kinds(
     packing: &Packing,
 ) -> Result<bool, AllocError> {
     let samples = segment.samples.len() as u64;
-    trial.take_runs(&packing.runs, 0, Stays, samples)?;
-    trial.take_separators(&packing.separators, 0, Stays)?;
+    trial.take(packing, 0, (Stays, Stays), samples)?;
     for kind in KINDS {
         if let Some(run) = trial.runs.last_mut() {
             run.kind = *kind;
@@ -211,15 +262,15 @@ fn agree_on_first(
 }
 
 /// Both say the same of the samples of the first run with so many more, or as many as there are.
-fn agree_on_tails(alloc: Global, all: Segment<'_>, tails: &[usize]) -> Result<bool, AllocError> {
+fn agree_on_tails(
+    alloc: Global,
+    trial: &mut Trial,
+    all: Segment<'_>,
+    tails: &[usize],
+) -> Result<bool, AllocError> {
     let first = first_run(alloc, all)?;
-    let mut trial = Trial {
-        judge: Judge::new(alloc),
-        runs: Vec::new(alloc),
-        separators: Vec::new(alloc),
-    };
     for tail in tails {
-        if !agree_on_first(alloc, &mut trial, all, first.saturating_add(*tail))? {
+        if !agree_on_first(alloc, trial, all, first.saturating_add(*tail))? {
             return Ok(false);
         }
     }
@@ -270,12 +321,19 @@ fn agree_on_made(
         samples: &samples,
         form,
     };
-    agree_on_tails(alloc, segment, tails)
+    let mut trial = Trial {
+        judge: Judge::new(alloc),
+        runs: Vec::new(alloc),
+        separators: Vec::new(alloc),
+    };
+    agree_on_tails(alloc, &mut trial, segment, tails)
 }
 
 /// Both say the same of the rows for so many records of that length and somewhat more.
 fn agree_at_length(alloc: Global, bytes: u32, records: usize, tails: &[usize]) -> Result<(), Fail> {
-    let length = Length::new(bytes).ok_or("a length")?;
+    let Some(length) = Length::new(bytes) else {
+        return expect(false, "a length");
+    };
     let words = records.saturating_mul(length.data_words() as usize);
     for (name, factor, kinds, made) in ROWS {
         let form = Form {
@@ -283,7 +341,9 @@ fn agree_at_length(alloc: Global, bytes: u32, records: usize, tails: &[usize]) -
             kinds: *kinds,
         };
         let count = words.saturating_mul(*factor);
-        expect(agree_on_made(alloc, form, *made, count, tails)?, name)?;
+        if !matches!(agree_on_made(alloc, form, *made, count, tails), Ok(true)) {
+            return expect(false, name);
+        }
     }
     Ok(())
 }

@@ -1,9 +1,11 @@
 //! A reader that has records at hand, rows whose samples are joined, and laws.
+ghost use Rattle.msr_devices.specs.Device.{CanCountCall, CountsFew};
+
 use crate::facts::expect_all;
 use msr_base::{Kind, SampleVec};
-use msr_devices::{Behavior, TestSource};
-use msr_fixtures::{START, int32_record, key_at};
-use msr_input::{NextRecord, ReadFault, RowReader, Settings};
+use msr_devices::{Behavior, Source, TestSource};
+use msr_fixtures::{START, expect, int32_record, key_at};
+use msr_input::{ReadFault, RowReader, Settings};
 use msr_rows::{Key, Row};
 use msr_segments::{
     Joiner, cuts_grow_by_rows, cuts_keep_segments, followers_stand_with_joiners,
@@ -13,10 +15,15 @@ use msr_time::{Rate, is_instant, one_nominal_instant};
 use std::alloc::Global;
 use std::test::Fail;
 
-/// Whether a record was given, with or without a row as it was asked for.
-fn has_row(next: Result<Option<NextRecord>, ReadFault>, row: bool) -> bool {
-    match next {
-        Ok(Some(next)) => next.row.is_some() == row,
+/// Whether a record was given, at hand or not as it was asked for, and with or without a row.
+fn gives<'a>(reader: &mut RowReader, source: &mut TestSource<'a>, at_hand: bool, row: bool) -> bool
+    requires { CanCountCall (⟦<TestSource<'a> as Source>⟧.device source.old) }
+    ensures { CountsFew (⟦<TestSource<'a> as Source>⟧.device source.old)
+        (⟦<TestSource<'a> as Source>⟧.device source.new) }
+{
+    let held = reader.holds_record();
+    match reader.next_record(source) {
+        Ok(Some(next)) => (held == at_hand) & (next.row.is_some() == row),
         _ => false,
     }
 }
@@ -44,16 +51,14 @@ fn records_at_hand_need_no_read(rt: HostRuntime) -> Result<(), Fail> {
     };
     let mut source = TestSource::new(&bytes, once);
     let mut reader = RowReader::new(rt.alloc(), settings);
-    let before = reader.holds_record();
-    let empty = has_row(reader.next_record(&mut source), false);
-    let between = reader.holds_record();
-    let second = has_row(reader.next_record(&mut source), true);
+    let first = gives(&mut reader, &mut source, false, false);
+    let second = gives(&mut reader, &mut source, true, true);
     let after = reader.holds_record();
-    let failed = reader.next_record(&mut source).err() == Some(ReadFault::Read);
+    let failed = matches!(reader.next_record(&mut source), Err(ReadFault::Read));
     expect_all(&[
-        (!before && empty, "the first record"),
-        (between && second, "the second record"),
-        (!after && failed, "the read after them"),
+        (first, "the first record"),
+        (second, "the second record"),
+        (!after & failed, "the read after them"),
     ])
 }
 
@@ -73,14 +78,16 @@ fn joins(alloc: Global, joiner: &mut Joiner, key: Key, start: i64, first: i32) -
 
 #[test]
 fn samples_are_joined_in_order(rt: HostRuntime) -> Result<(), Fail> {
-    let key = key_at(Rate::new(1, 1).ok_or("no rate")?);
+    let Some(rate) = Rate::new(1, 1) else {
+        return expect(false, "no rate");
+    };
+    let key = key_at(rate);
     let mut joiner = Joiner::new(rt.alloc(), 1000);
-    let mut joined = true;
-    for (start, first) in [(START, 1), (START + 2_000_000, 3), (START + 4_000_000, 5)] {
-        joined = joins(rt.alloc(), &mut joiner, key, start, first) && joined;
-    }
+    let mut joined = joins(rt.alloc(), &mut joiner, key, START, 1);
+    joined &= joins(rt.alloc(), &mut joiner, key, START + 2_000_000, 3);
+    joined &= joins(rt.alloc(), &mut joiner, key, START + 4_000_000, 5);
     let Some(segment) = joiner.finish() else {
-        return Err(Fail::new("no segment"));
+        return expect(false, "no segment");
     };
     expect_all(&[
         (joined, "a row that joins"),
