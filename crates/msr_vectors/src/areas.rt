@@ -202,6 +202,17 @@ fn are_groups(version: Version, groups: &[Group]) -> bool
     }
 }
 
+/// Adds the group of the differences that are the next word, so many times.
+fn add_group(line: &mut Line<'_>, groups: &mut Vec<Group>, times: u32) {
+    let list = line.samples();
+    for _ in 0..times {
+        match Group::try_from(list.as_slice()) {
+            Ok(group) => line.push(groups, group),
+            Err(_) => line.is_bad = true,
+        }
+    }
+}
+
 /// `GROUPS`: differences, each group once or `DIFFERENCES*TIMES`, with a `+` between them.
 fn groups_of(line: &mut Line<'_>) -> Vec<Group> {
     let mut groups = Vec::new(line.alloc);
@@ -209,13 +220,8 @@ fn groups_of(line: &mut Line<'_>) -> Vec<Group> {
     for part in text.split('+') {
         let (list, times) = part.split_once('*').unwrap_or((part, "1"));
         line.rest = list;
-        let list = line.samples();
-        for _ in 0..line.number_of::<u32>(times) {
-            match Group::try_from(list.as_slice()) {
-                Ok(group) => line.push(&mut groups, group),
-                Err(_) => line.is_bad = true,
-            }
-        }
+        let times = line.number_of(times);
+        add_group(line, &mut groups, times);
     }
     groups
 }
@@ -239,7 +245,10 @@ pub fn written(line: &mut Line<'_>) {
     let version = line.version();
     let differences = line.samples();
     match write_word(version, &differences) {
-        Some((code, word)) => line.put(format_args!("{code} {word:08x}")),
+        Some((code, word)) => {
+            line.put_before(code, ' ');
+            line.put(Hexadecimal(&word.to_be_bytes()));
+        }
         None => line.put_text("None"),
     }
 }

@@ -4,6 +4,7 @@ ghost use Rattle.std.specs.Prelude.{◌≤◌, length};
 
 use crate::line::Line;
 use msr_base::{Kind, Length};
+use msr_steim::Group;
 use msr_words::{
     Codec, Fitting, Int16, Int24, Int32, Steim1, Steim2, Window, difference, groups, longest_run,
     run_fits,
@@ -146,25 +147,27 @@ pub fn word_size(line: &mut Line<'_>) {
     line.put(longest_at(&samples, at));
 }
 
-/// `groups VERSION LENGTH DIFFERENCES`: the groups of the division that is written.
-pub fn divided(line: &mut Line<'_>) {
+/// The groups of the division that is written, of the columns of `groups` and `count`, if there is one.
+fn division(line: &mut Line<'_>) -> Option<Vec<Group>> {
     let version = line.version();
     let length = line.length();
     let differences = line.numbers();
     match groups(line.alloc, version, &differences, length) {
-        Ok(found) => line.show(&found),
-        Err(_) => line.is_bad = true,
+        Ok(found) => found,
+        Err(_) => line.bad(None),
     }
+}
+
+/// `groups VERSION LENGTH DIFFERENCES`: the groups of the division that is written.
+pub fn divided(line: &mut Line<'_>) {
+    let found = division(line);
+    line.show(&found);
 }
 
 /// `count VERSION LENGTH DIFFERENCES`: how many groups that are.
 pub fn counted(line: &mut Line<'_>) {
-    let version = line.version();
-    let length = line.length();
-    let differences = line.numbers();
-    match groups(line.alloc, version, &differences, length) {
-        Ok(Some(found)) => line.put(found.len()),
-        Ok(None) => line.put_text("None"),
-        Err(_) => line.is_bad = true,
+    match division(line) {
+        Some(found) => line.put(found.len()),
+        None => line.put_text("None"),
     }
 }

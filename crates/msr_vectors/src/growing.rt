@@ -7,6 +7,7 @@ ghost use Rattle.msr_packer.specs.Blocks.{pushed};
 use crate::inputs::{TOLERANCE, rows_of};
 use crate::line::Line;
 use crate::lists::Hexadecimal;
+use crate::packing::put_run;
 use crate::records::{append, part_of};
 use msr_base::SampleVec;
 use msr_folders::Totals;
@@ -35,13 +36,17 @@ fn put_left(line: &mut Line<'_>, refused: bool) {
     line.put_text("\nleft");
 }
 
-/// `push NUMBERS`: a list to which they are pushed.
-pub fn push(line: &mut Line<'_>) {
-    make_room(line);
-    let given = line.samples();
-    let mut samples = SampleVec::new(line.alloc);
+/// Tells whether memory was refused, and the samples that are left.
+fn put_samples(line: &mut Line<'_>, refused: bool, samples: &[i32]) {
+    put_left(line, refused);
+    line.put(' ');
+    line.show(&samples);
+}
+
+/// Pushes samples one after another, and tells whether memory was refused.
+fn push_each(samples: &mut SampleVec, given: &[i32]) -> bool {
     let mut refused = false;
-    for sample in &given {
+    for sample in given {
         if samples.push(*sample).is_err() {
             refused = true;
             if samples.push(*sample).is_err() {
@@ -49,16 +54,20 @@ pub fn push(line: &mut Line<'_>) {
             }
         }
     }
-    put_left(line, refused);
-    line.put(' ');
-    line.show(&samples.as_slice());
+    refused
 }
 
-/// `extend NUMBERS`: a list that is extended by five at a time.
-pub fn extend(line: &mut Line<'_>) {
+/// `push NUMBERS`: a list to which they are pushed.
+pub fn push(line: &mut Line<'_>) {
     make_room(line);
     let given = line.samples();
     let mut samples = SampleVec::new(line.alloc);
+    let refused = push_each(&mut samples, &given);
+    put_samples(line, refused, samples.as_slice());
+}
+
+/// Adds samples five at a time, and tells whether memory was refused.
+fn extend_by_five(samples: &mut SampleVec, given: &[i32]) -> bool {
     let mut refused = false;
     for more in given.chunks(5) {
         if samples.extend_from_slice(more).is_err() {
@@ -68,9 +77,16 @@ pub fn extend(line: &mut Line<'_>) {
             }
         }
     }
-    put_left(line, refused);
-    line.put(' ');
-    line.show(&samples.as_slice());
+    refused
+}
+
+/// `extend NUMBERS`: a list that is extended by five at a time.
+pub fn extend(line: &mut Line<'_>) {
+    make_room(line);
+    let given = line.samples();
+    let mut samples = SampleVec::new(line.alloc);
+    let refused = extend_by_five(&mut samples, &given);
+    put_samples(line, refused, samples.as_slice());
 }
 
 /// Pushes a sample, and once more if memory is refused, which `refused` tells from then on.
@@ -95,11 +111,10 @@ fn push_twice(
 /// Adds pieces: the run and the separator of each.
 fn put_pieces(line: &mut Line<'_>, pieces: &[Piece]) {
     for piece in pieces {
-        let run = piece.run;
-        line.put(format_args!(
-            " {}..{}:{:?} {}",
-            run.start, run.end, run.kind, piece.separator
-        ));
+        line.put(' ');
+        put_run(line, &piece.run, ':');
+        line.put(' ');
+        line.put(piece.separator);
     }
 }
 
@@ -129,6 +144,17 @@ fn put_stream(line: &mut Line<'_>, samples: &[i32], mut packer: StreamPacker) ->
     refused
 }
 
+/// Appends the record of the row that is next, and once more if memory is refused, which `refused` tells from then on.
+fn append_twice(line: &mut Line<'_>, out: &mut Vec<u8>, refused: &mut bool) -> Option<()> {
+    let part = part_of(line);
+    let appended = append(line, &part, out);
+    if appended.is_some() {
+        return appended;
+    }
+    *refused = true;
+    append(line, &part, out)
+}
+
 /// `append AFTER SEQUENCE BEFORE KIND LENGTH SAMPLES | ..`: the records of rows.
 pub fn records(line: &mut Line<'_>) {
     make_room(line);
@@ -137,12 +163,8 @@ pub fn records(line: &mut Line<'_>) {
     let mut refused = false;
     for part in parts.split(" | ") {
         line.rest = part;
-        let part = part_of(line);
-        if append(line, &part, &mut out).is_none() {
-            refused = true;
-            if append(line, &part, &mut out).is_none() {
-                break;
-            }
+        if append_twice(line, &mut out, &mut refused).is_none() {
+            break;
         }
     }
     put_left(line, refused);
@@ -198,18 +220,20 @@ pub fn joins(line: &mut Line<'_>) {
     put_refused(line, refused);
 }
 
-/// Adds a file, and once more if memory is refused, which `refused` tells from then on.
+/// Adds the file that is next, and once more if memory is refused, which `refused` tells from then on.
 fn add_twice(
+    line: &mut Line<'_>,
     totals: &mut Totals,
-    name: &str,
-    counts: (u64, u64),
     refused: &mut bool,
 ) -> Result<(), AllocError> {
-    match totals.add(name, counts.0, counts.1) {
+    let name = line.until(",");
+    let read = line.number_until(",");
+    let written = line.number();
+    match totals.add(name, read, written) {
         Ok(()) => Ok(()),
         Err(_) => {
             *refused = true;
-            totals.add(name, counts.0, counts.1)
+            totals.add(name, read, written)
         }
     }
 }
@@ -235,9 +259,7 @@ pub fn totals(line: &mut Line<'_>) {
     let mut refused = false;
     for file in files.split_whitespace() {
         line.rest = file;
-        let name = line.until(",");
-        let counts = (line.number_until(","), line.number());
-        if add_twice(&mut totals, name, counts, &mut refused).is_err() {
+        if add_twice(line, &mut totals, &mut refused).is_err() {
             break;
         }
     }

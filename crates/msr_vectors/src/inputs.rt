@@ -62,6 +62,12 @@ impl Steps {
         }
     }
 
+    /// Notes whether a row that is taken ends a segment as a follower says.
+    fn agree_ended(&self, line: &mut Line<'_>, step: Result<Step, OutOfRange>, ends: bool) {
+        let begins = step == Ok(Step::Begins) && !self.steps.is_empty();
+        line.agree(step.is_ok() & (ends == begins));
+    }
+
     /// Adds what a follower says of the next row, and the segment that the row ends. The joiner has to do what was said.
     fn add(&mut self, line: &mut Line<'_>, follow: &mut Follow, joiner: &mut Joiner, row: Row) {
         let start = row.start;
@@ -72,8 +78,7 @@ impl Steps {
         let step = follow.step(&row.key, start, count as u16);
         match joiner.push(row) {
             Ok(ended) => {
-                let begins = step == Ok(Step::Begins) && !self.steps.is_empty();
-                line.agree(step.is_ok() & (ended.is_some() == begins));
+                self.agree_ended(line, step, ended.is_some());
                 self.add_segment(line, ended);
             }
             Err(fault) => {
@@ -115,7 +120,7 @@ pub fn behavior(line: &mut Line<'_>) -> Behavior {
 
 /// The same, in `retold` and `tool` also with `FROM..TO` for a device for each of these calls.
 pub fn behaviors(line: &mut Line<'_>) -> Vec<Behavior> {
-    let mut plain = Behavior {
+    let plain = Behavior {
         most: line.number(),
         interruptions: line.number(),
         fails_at: None,
@@ -123,14 +128,21 @@ pub fn behaviors(line: &mut Line<'_>) -> Vec<Behavior> {
     let mut all = Vec::new(line.alloc);
     match line.word().split_once("..") {
         Some((from, to)) => {
-            for call in line.number_of::<u64>(from)..line.number_of::<u64>(to) {
-                plain.fails_at = Some(call);
-                line.push(&mut all, plain);
-            }
+            let from = line.number_of(from);
+            let to = line.number_of(to);
+            add_failing(line, &mut all, plain, from, to);
         }
         None => line.push(&mut all, plain),
     }
     all
+}
+
+/// Adds such a device for each of these calls, which fails.
+fn add_failing(line: &mut Line<'_>, all: &mut Vec<Behavior>, plain: Behavior, from: u64, to: u64) {
+    for call in from..to {
+        let fails_at = Some(call);
+        line.push(all, Behavior { fails_at, ..plain });
+    }
 }
 
 /// The bytes of records with a `|` between them, before a `&` or up to the end.
@@ -140,11 +152,16 @@ pub fn bytes_of(line: &mut Line<'_>) -> Vec<u8> {
     let rest = line.rest;
     for record in records.split(" | ") {
         line.rest = record;
-        let record = record_of(line);
-        line.extend(&mut bytes, &record);
+        add_record(line, &mut bytes);
     }
     line.rest = rest;
     bytes
+}
+
+/// Adds the bytes of the record that is all that is left.
+fn add_record(line: &mut Line<'_>, bytes: &mut Vec<u8>) {
+    let record = record_of(line);
+    line.extend(bytes, &record);
 }
 
 /// What the row of a record does, where it starts, and how many samples it has; `None` if the record has none.
@@ -155,6 +172,21 @@ fn place_of(next: &NextRecord) -> Place {
         Some(row) => Some((row.step, row.row.start, row.row.samples.len())),
         None => None,
     }
+}
+
+/// Shows how many bytes a record has, and its place.
+fn put_place(line: &mut Line<'_>, length: u32, place: Place) {
+    line.put_before(length, ' ');
+    match place {
+        Some((step, start, count)) => {
+            line.show(&step);
+            line.put(' ');
+            line.put_before(start, ' ');
+            line.put(count);
+        }
+        None => line.put_text("None"),
+    }
+    line.put_text(", ");
 }
 
 /// The records that were read so far with their bytes, and what came after them: the end, or a fault.
@@ -189,12 +221,7 @@ impl Told {
     /// Shows all records, and what came after them.
     fn put(&self, line: &mut Line<'_>) {
         for (length, place) in &self.rows {
-            match place {
-                Some((step, start, count)) => {
-                    line.put(format_args!("{length} {step:?} {start} {count}, "));
-                }
-                None => line.put(format_args!("{length} None, ")),
-            }
+            put_place(line, *length, *place);
         }
         match self.end {
             Some(Some(fault)) => line.put(fault),

@@ -51,22 +51,33 @@ fn add_in_turn(line: &mut Line<'_>, numbers: &mut Vec<i64>, of: &[i64], count: u
     }
 }
 
+/// Numbers with a comma between them.
+fn numbers_of(line: &mut Line<'_>, text: &str) -> Vec<i64> {
+    let mut numbers = Vec::new(line.alloc);
+    for word in text.split(',') {
+        let number = line.number_of(word);
+        line.push(&mut numbers, number);
+    }
+    numbers
+}
+
+/// Adds these numbers once, as noise, or in turn, as the head of their part says.
+fn add_by_head(line: &mut Line<'_>, numbers: &mut Vec<i64>, head: &str, of: &[i64]) {
+    match head {
+        "" => line.extend(numbers, of),
+        "noise" => add_noise(line, numbers, of),
+        _ => {
+            let count = line.number_of(head);
+            add_in_turn(line, numbers, of, count);
+        }
+    }
+}
+
 /// Adds a part of numbers.
 fn add_part(line: &mut Line<'_>, numbers: &mut Vec<i64>, part: &str) {
     let (head, text) = part.split_once(':').unwrap_or(("", part));
-    let mut of = Vec::new(line.alloc);
-    for word in text.split(',') {
-        let number = line.number_of(word);
-        line.push(&mut of, number);
-    }
-    match head {
-        "" => line.extend(numbers, &of),
-        "noise" => add_noise(line, numbers, &of),
-        _ => {
-            let count = line.number_of(head);
-            add_in_turn(line, numbers, &of, count);
-        }
-    }
+    let of = numbers_of(line, text);
+    add_by_head(line, numbers, head, &of);
 }
 
 /// Adds bytes of two hexadecimal digits each, so many times.
@@ -97,6 +108,18 @@ fn digit(line: &mut Line<'_>, letter: u8) -> u8 {
 }
 
 impl Line<'_> {
+    /// Numbers of 64 bits, before it is seen whether they are in the range of their type.
+    fn wide_numbers(&mut self) -> Vec<i64> {
+        let mut numbers = Vec::new(self.alloc);
+        let text = self.word();
+        if text != "-" {
+            for part in text.split('+') {
+                add_part(self, &mut numbers, part);
+            }
+        }
+        numbers
+    }
+
     /// `NUMBERS`, `SAMPLES`, `DIFFERENCES`: `1,-2,3`, or `COUNT:1,-2`, so many, with these in turn, or noise; several of
     /// these with `+`; `-` for none. Each is in the range of its type.
     pub fn numbers<T>(&mut self) -> Vec<T>
@@ -104,14 +127,8 @@ impl Line<'_> {
         T: TryFrom<i64> + Default + Drop,
         T::Error: Drop,
     {
-        let mut wide = Vec::new(self.alloc);
+        let wide = self.wide_numbers();
         let mut numbers = Vec::new(self.alloc);
-        let text = self.word();
-        if text != "-" {
-            for part in text.split('+') {
-                add_part(self, &mut wide, part);
-            }
-        }
         for number in &wide {
             match T::try_from(*number) {
                 Ok(number) => self.push(&mut numbers, number),

@@ -149,6 +149,14 @@ fn or_none(line: &mut Line<'_>, packing: Result<Packing, AllocError>) -> Packing
     }
 }
 
+/// Shows where a run starts and ends, and after that mark its kind.
+pub fn put_run(line: &mut Line<'_>, run: &Run, mark: char) {
+    line.put(run.start);
+    line.put_text("..");
+    line.put_before(run.end, mark);
+    line.show(&run.kind);
+}
+
 /// `pack FORM SAMPLES`: the runs of the packing, and its separators.
 pub fn packed(line: &mut Line<'_>) {
     let form = line.form();
@@ -160,7 +168,8 @@ pub fn packed(line: &mut Line<'_>) {
     };
     agree_streamed(line, &whole, form);
     for run in &whole.packing.runs {
-        line.put(format_args!("{}..{} {:?}, ", run.start, run.end, run.kind));
+        put_run(line, run, ' ');
+        line.put_text(", ");
     }
     line.show(&whole.packing.separators);
 }
