@@ -3,7 +3,7 @@ ghost use Rattle.std.specs.Prelude.{◌≡◌, ◌↔◌, IfOk, IsTrue};
 ghost use Rattle.std.specs.String.{string_bytes};
 ghost use Rattle.msr_verify.specs.Entries.{is_unverified, judgement_alone, judgement_of};
 ghost use Rattle.msr_verify.specs.Known.{judged_known_as, judged_refusal_line};
-ghost use Rattle.msr_verify.specs.Lines.{IsJudgementJson, IsJudgementLine, IsOfSystem, IsReasonJson, IsRefusalOfSystem, IsToldLine, place_json, refusal_json, refused_before, side_json, text_missing, what_text, why_json, why_text, words_line};
+ghost use Rattle.msr_verify.specs.Lines.{IsJudgementJson, IsJudgementLine, IsOfSystem, IsReasonJson, IsRefusalOfSystem, IsToldLine, day_side_json, place_json, refusal_json, refused_before, side_json, text_missing, what_text, why_json, why_text, words_line};
 
 use crate::judging::{Finding, VerifyFault};
 use msr_folders::{JsonText, Shown, fault_json, found_json, found_words, reason_json, skip_text};
@@ -52,6 +52,19 @@ impl fmt::Display for Refusal {
     }
 }
 
+/// The member that tells which file of a day is at fault.
+fn day_side_json<'a>(fault: VerifyFault) -> &'a str
+    ensures { result.now ≡ day_side_json fault }
+{
+    match fault {
+        VerifyFault::File(_) => ",\"side\":\"file\"",
+        VerifyFault::Records(_) => ",\"side\":\"records\"",
+        VerifyFault::ReportLine(_) | VerifyFault::ReportRead | VerifyFault::ReportMemory => {
+            ",\"side\":\"report\""
+        }
+    }
+}
+
 impl Refusal {
     /// The member that tells whose fault it is.
     fn side_json<'a>(self) -> &'a str
@@ -59,15 +72,12 @@ impl Refusal {
     {
         match self {
             Refusal::Listing => "",
-            Refusal::FileUnopened | Refusal::Day(VerifyFault::File(_)) => ",\"side\":\"file\"",
-            Refusal::RecordsUnopened
-            | Refusal::SameFile
-            | Refusal::RecordsListing
-            | Refusal::Day(VerifyFault::Records(_)) => ",\"side\":\"records\"",
-            Refusal::ReportUnopened
-            | Refusal::Day(
-                VerifyFault::ReportLine(_) | VerifyFault::ReportRead | VerifyFault::ReportMemory,
-            ) => ",\"side\":\"report\"",
+            Refusal::FileUnopened => ",\"side\":\"file\"",
+            Refusal::RecordsUnopened | Refusal::SameFile | Refusal::RecordsListing => {
+                ",\"side\":\"records\""
+            }
+            Refusal::ReportUnopened => ",\"side\":\"report\"",
+            Refusal::Day(fault) => day_side_json(fault),
         }
     }
 

@@ -1,5 +1,6 @@
 use Rattle.std.proofs.lemmas.Result.{err_from_is_err_and}
-use Rattle.std.proofs.Common.{refl}
+use Rattle.std.proofs.Common.{◌≡◌, refl}
+use Rattle.std.specs.String.{string_bytes}
 use Rattle.msr_folders.proofs.VisitLemmas.{part_line, these_one}
 use Rattle.msr_verify.specs.Entries.{IsVerifyTally, JudgedEntry}
 use Rattle.msr_verify.specs.Known.{IsJudgedEntry}
@@ -23,10 +24,11 @@ returns-in_err-write_all-clause-stops g c =
     let part = c.in_err-write_all.ensures.part in
     let asked = c.args.archive.now in
     let entry : JudgedEntry = record { path = c.args.path.now; judgement = c.in_ok-judgement.judgement } in
+    let text : c.as_bytes.result.now ≡ string_bytes c.in_ok-line.line = c.as_bytes.ensures.value in
     λ is. rw (p.1, p.2) (
       part_line (IsJudgedEntry asked) (IsToldLine asked) _ _ part.0 entry c.as_bytes.result.now
           (record { found = c.args.judgement; of = is; is = c.in_ok-judgement.ensures })
-          (rw c.as_bytes.ensures.value c.in_ok-line.ensures) part.1,
+          (rw text c.in_ok-line.ensures) part.1,
       c.in_err-write_all.ensures.failed,
     )
 
@@ -34,7 +36,8 @@ pub returns-clause-told : goal.returns-clause-told
 returns-clause-told g c =
     let asked = c.args.archive.now in
     let entry : JudgedEntry = record { path = c.args.path.now; judgement = c.in_ok-judgement.judgement } in
+    let text : c.as_bytes.result.now ≡ string_bytes c.in_ok-line.line = c.as_bytes.ensures.value in
     λ is. rw (← c.in_ok-judgement.ensures) (these_one (IsJudgedEntry asked) (IsToldLine asked) IsVerifyTally _ _ _ _ entry c.as_bytes.result.now
     (record { found = c.args.judgement; of = is; is = c.in_ok-judgement.ensures })
-    (rw c.as_bytes.ensures.value c.in_ok-line.ensures) c.in_ok-write_all.ensures.all c.in_ok-write_all.ensures.calm
+    (rw text c.in_ok-line.ensures) c.in_ok-write_all.ensures.all c.in_ok-write_all.ensures.calm
     (λ before h. c.add.ensures before entry h refl))
