@@ -1,5 +1,5 @@
 //! Whether a day has fewer samples than an earlier walk left of it.
-ghost use Rattle.std.specs.Prelude.{◌≡◌, IfErr, IfOk, IfSome, IsTrue, Some};
+ghost use Rattle.std.specs.Prelude.{◌≡◌, ◌<◌, ◌≤◌, ℕ, IfErr, IfOk, IfSome, IsTrue, None, Some};
 ghost use Rattle.msr_devices.specs.Device.{CanCountCall};
 ghost use Rattle.msr_tree.specs.Calls.{Goes};
 ghost use Rattle.msr_making.specs.Ending.{WasHeld, WritesHeld};
@@ -61,6 +61,17 @@ fn samples_left<T: Tree>(
     samples_told(alloc, &mut source)
 }
 
+/// How many samples an earlier walk left, if they are more than there are now.
+fn more_left(left: Option<u64>, is: u64) -> Option<u64>
+    ensures more { IfSome result (λ was. (left ≡ Some was) × (is < was)) }
+    ensures rest { result ≡ None → (was : ℕ) → left ≡ Some was → was ≤ is }
+{
+    match left {
+        Some(was) if is < was => Some(was),
+        _ => None,
+    }
+}
+
 /// The same answer of a day with these counts, unless it has fewer samples than an earlier walk left and that is to stay.
 fn held_for<T: Tree>(
     tree: &mut T,
@@ -76,9 +87,10 @@ fn held_for<T: Tree>(
     ensures goes { Goes (T.went tree.old) (T.went tree.new) (HoldsAgainst files.now look.now asked.now written result) }
 {
     let is = repacked.samples;
-    match samples_left(tree, alloc, files, look, asked)? {
-        Some(was) if is < was => Err(Stop::Refused(DayFault::Shrunk(Shrinkage { was, is }))),
-        _ => written,
+    let left = samples_left(tree, alloc, files, look, asked)?;
+    match more_left(left, is) {
+        Some(was) => Err(Stop::Refused(DayFault::Shrunk(Shrinkage { was, is }))),
+        None => written,
     }
 }
 
