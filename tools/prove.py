@@ -62,7 +62,7 @@ def run(words, folder, log, take):
 
 def left_out(folder, names):
     """What the copy of a crate does without: what was made of it, and its edits."""
-    return {"out", "must-fail", "wrong"}.intersection(names) if os.path.dirname(folder) == f"{ROOT}/crates" else ()
+    return {"out", "must-fail", "wrong", "by-hand"}.intersection(names) if os.path.dirname(folder) == f"{ROOT}/crates" else ()
 
 
 def copy_crates(crates, room):

@@ -36,7 +36,6 @@ use Rattle.clap.specs.declared.parser.matches.ArgMatches.{ArgMatches}
 use Rattle.clap.specs.declared.parser.matches.Found.{Found}
 use Rattle.msr_options.specs.Tasks.{IsTolerance, word_of}
 use Rattle.msr_options.specs.declared.task.Verb.{Verb}
-use Rattle.msr_options.specs.declared.task.Verb.TheVariants as verb
 use Rattle.msr_arguments.specs.Found.{IsNumberOf}
 use Rattle.msr_arguments.specs.Rules.{HasNeeded, IsFoundBy, IsFoundFor, dry_run_rules, rules_of, app_with, days_rule, option_rule, tolerance_rule}
 use Rattle.msr_arguments.proofs.Adding.{plain_fields}

@@ -1,5 +1,5 @@
 -- The lines of a report, one after another.
-use Rattle.std.proofs.Common.{◌≡◌, ℕ, ◌+◌, ◌<◌, ◌≤◌, List, ◌∷◌, ◌++◌, refl, sym, ◌∙◌, ap, subst, take, drop, get_or, length, All}
+use Rattle.std.proofs.Common.{◌≡◌, ℕ, ◌+◌, ◌<◌, ◌≤◌, List, ◌∷◌, ◌++◌, sym, ◌∙◌, ap, subst, take, drop, get_or, length, All}
 use Rattle.std.proofs.lemmas.List.{drop_more, map-append, take-append-drop, take_all}
 use Rattle.std.proofs.lemmas.List.Elements.{All-map}
 use Rattle.msr_options.specs.declared.names.DayName.{DayName}

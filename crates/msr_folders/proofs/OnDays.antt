@@ -6,7 +6,7 @@ use Rattle.jiff_core.proofs.SignedLemmas.{signed_arith}
 use Rattle.msr_report.specs.declared.json.ListedSegment.{ListedSegment}
 use Rattle.msr_time.specs.Instant.{IsTime, instant_of}
 use Rattle.msr_time.specs.SampleRate.{IsRoundedNominal}
-use Rattle.msr_folders.specs.Times.{HasSampleOn, IsOnDay, midnight}
+use Rattle.msr_folders.specs.Times.{HasSampleOn, midnight}
 
 module _ (segment : ListedSegment) (year day first after : ℕ) (from : ℤ) (exists : IsTime (midnight year day)) (is : from ≡ instant_of (midnight year day))
     (count : (n : ℕ) (r : ℤ) → IsRoundedNominal segment.key.rate segment.start n r → (from ≤ℤ r) ↔ (first ≤ n))

@@ -1,5 +1,5 @@
 -- Whether segments belong to a day.
-use Rattle.std.specs.Prelude.{◌≡◌, ◌⊎◌, ℕ, List, [], ◌∷◌, ◌++◌, map, All, Option, None, Some}
+use Rattle.std.specs.Prelude.{◌≡◌, ◌⊎◌, List, [], ◌∷◌, ◌++◌, map, All, Option, None, Some}
 use Rattle.msr_options.specs.declared.names.DayName.{DayName}
 use Rattle.msr_options.specs.declared.names.Names.{Names}
 use Rattle.msr_options.specs.declared.names.Names.TheVariants.{Of}

@@ -1,5 +1,5 @@
 -- What was written of a day is held against what an earlier walk left of it.
-use Rattle.std.proofs.Common.{◌≡◌, ◌⊎◌, ◌<◌, inr, ⊎_elim, ℕ, List, [], refl, sym, ◌∙◌, ap, subst, Result, Ok, Err, Option, None, Some, IsSome, IsSomeAnd, length, option_map, arith}
+use Rattle.std.proofs.Common.{◌≡◌, ◌⊎◌, ◌<◌, ⊎_elim, ℕ, List, [], refl, sym, ◌∙◌, ap, subst, Result, Ok, Err, Option, None, Some, IsSome, IsSomeAnd, length, option_map, arith}
 use Rattle.msr_naming.specs.declared.files.DayFiles.{DayFiles}
 use Rattle.msr_naming.proofs.FallingBack.{goes_both}
 use Rattle.msr_options.specs.declared.days.DayOptions.{DayOptions}

@@ -4,7 +4,7 @@ use Rattle.std.specs.List.{list_any, starts_with}
 use Rattle.std.specs.Option.{option_or}
 use Rattle.std.specs.Str.{bytes_eq}
 use Rattle.msr_options.specs.declared.known.Known.{Known}
-use Rattle.msr_options.specs.declared.known.Known.TheVariants.{Nothing, File, Lines}
+use Rattle.msr_options.specs.declared.known.Known.TheVariants.{Lines}
 
 -- the line tells of something refused
 abbrev pub is_refusal : List ℕ → Bool

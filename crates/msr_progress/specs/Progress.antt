@@ -1,5 +1,5 @@
 -- The line that shows how far a walk is.
-use Rattle.std.specs.Prelude.{if◌then◌else◌, ◌≡◌, ◌+◌, ◌-◌, ◌^◌, ◌/◌, ◌%◌, ◌<◌, ◌≤◌, ◌==◌, min, nat_lt, ℕ, List, [], ◌∷◌, ◌++◌, codes, take, Option, None, Some, IsCharBoundary}
+use Rattle.std.specs.Prelude.{if◌then◌else◌, ◌≡◌, ◌+◌, ◌-◌, ◌^◌, ◌/◌, ◌%◌, ◌<◌, ◌≤◌, ◌==◌, min, nat_lt, ℕ, List, ◌++◌, codes, take, Option, None, Some, IsCharBoundary}
 use Rattle.std.specs.Char.{encode_utf8, is_ascii_control}
 use Rattle.std.specs.Fmt.{decimal}
 use Rattle.std.specs.Io.KnownBytes.{Appends}

@@ -1,6 +1,5 @@
-use Rattle.std.proofs.Common.{◌≡◌, ◌<◌, ℕ, List, All, arith, length, subst, sym}
+use Rattle.std.proofs.Common.{arith, subst, sym}
 use Rattle.std.proofs.lemmas.List.Elements.{All-more}
-use Rattle.msr_report.specs.declared.report.SegmentLine.{SegmentLine}
 use Rattle.msr_folders.specs.Belonging.{told_segment}
 use Rattle.msr_folders.specs.Names.{IsOfChannel}
 use Rattle.msr_folders.proofs.Lines.{all_listed, another_at}

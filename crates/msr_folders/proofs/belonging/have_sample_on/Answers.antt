@@ -1,4 +1,4 @@
-use Rattle.std.proofs.Common.{◌≡◌, ◌<◌, ℕ, List, All, arith, length, subst, sym}
+use Rattle.std.proofs.Common.{arith, subst, sym}
 use Rattle.std.proofs.lemmas.List.Elements.{All-more}
 use Rattle.msr_folders.specs.Belonging.{told_segment}
 use Rattle.msr_folders.specs.Times.{HasSampleOn}

@@ -1,4 +1,4 @@
-use Rattle.std.proofs.Common.{◌≡◌, ◌+◌, ◌-◌, ◌*◌, ◌≤◌, ℕ, ◌-ℤ◌, ◌≤ℤ◌, arith, to_z-of_z, unsigned_abs}
+use Rattle.std.proofs.Common.{◌≡◌, ◌+◌, ◌-◌, ◌*◌, ◌-ℤ◌, ◌≤ℤ◌, arith, to_z-of_z, unsigned_abs}
 use Rattle.jiff_core.proofs.SignedLemmas.{signed_arith, one_part}
 use Rattle.msr_time.proofs.NominalLemmas.{nominal_exists}
 use Rattle.msr_folders.proofs.Counting.{after_start, from_count}

@@ -1,9 +1,7 @@
-use Rattle.std.proofs.Common.{◌≡◌, ◌<◌, ◌≤◌, ℕ, ℤ, pos, ◌+ℤ◌, ◌≤ℤ◌, FitsSigned, w64, to_z-of_z, arith, rules}
-use Rattle.std.specs.Prelude.{◌↔◌}
+use Rattle.std.proofs.Common.{◌≡◌, ℕ, ℤ, pos, ◌+ℤ◌, FitsSigned, w64, to_z-of_z, arith, rules}
 use Rattle.std.proofs.lemmas.Bool.Decides.{Decides-ltb}
 use Rattle.jiff_core.proofs.SignedLemmas.{signed_arith}
 use Rattle.msr_time.specs.Instant.{IsTime, instant_of}
-use Rattle.msr_time.specs.SampleRate.{IsRoundedNominal, SampleRate}
 use Rattle.msr_time.proofs.TimeLemmas.{instant_near}
 use Rattle.msr_folders.specs.Times.{midnight}
 use Rattle.msr_folders.proofs.OnDays.{has_first, has_some}

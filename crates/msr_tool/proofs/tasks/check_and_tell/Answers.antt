@@ -1,4 +1,4 @@
-use Rattle.std.proofs.Common.{rules, ◌≡◌}
+use Rattle.std.proofs.Common.{◌≡◌}
 use Rattle.std.proofs.lemmas.Result.{err_from_is_err_and}
 use Rattle.msr_tool.specs.Tasks.{verdict_line}
 use Rattle.msr_tool.specs.declared.fault.ToolFault.TheVariants.{Memory}

@@ -1,5 +1,5 @@
-use Rattle.std.proofs.Common.{rules, ◌≡◌, ◌∙◌, ◌||◌, ◌++◌, ◌∷◌, [], ap, true, not, if◌then◌else◌, string_bytes, refl}
-use Rattle.msr_options.specs.Known.{has_line, is_refusal, with_line}
+use Rattle.std.proofs.Common.{rules, ◌≡◌, ◌∙◌, ◌++◌, ◌∷◌, [], ap, true, if◌then◌else◌, string_bytes, refl}
+use Rattle.msr_options.specs.Known.{has_line, is_refusal}
 use Rattle.msr_options.specs.Texts.{texts_of}
 use Rattle.msr_options.proofs.LinesKnown.{texts_insert}
 use Rattle.msr_options.proofs.known.KnownLines.add.Goals as goal

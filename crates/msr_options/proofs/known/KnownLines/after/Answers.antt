@@ -1,6 +1,6 @@
-use Rattle.std.proofs.Common.{arith, rules, ◌≡◌, ◌∙◌, ◌≤◌, ◌++◌, drop, ap, sym, None, Some, string_bytes, length}
+use Rattle.std.proofs.Common.{arith, rules, ◌≡◌, ◌∙◌, ◌≤◌, ◌++◌, drop, ap, sym, Some, length}
 use Rattle.std.specs.List.{slice_get}
-use Rattle.msr_options.specs.Known.{rest_after, text_after}
+use Rattle.msr_options.specs.Known.{rest_after}
 use Rattle.msr_options.proofs.LinesKnown.{from_none, from_some, none_begun, none_left, stripped, texts_at, length_texts}
 use Rattle.msr_options.proofs.known.KnownLines.after.Goals as goal
 

@@ -1,6 +1,5 @@
 use Rattle.std.proofs.Common.{◌≡◌, drop}
 use Rattle.msr_options.specs.Known.{text_after}
-use Rattle.msr_options.specs.Texts.{texts_of}
 use Rattle.msr_options.proofs.known.KnownLines.after.Given as goal
 
 -- none of the lines so far has it
