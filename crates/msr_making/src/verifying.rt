@@ -2,7 +2,8 @@
 ghost use Rattle.std.specs.Prelude.{◌≡◌, [], IfErr, IfOk, IsTrue, false};
 ghost use Rattle.msr_devices.specs.Device.{CanCountCall};
 ghost use Rattle.msr_tree.specs.Folders.{ActsOnFiles, ChangesFiles};
-ghost use Rattle.msr_tree.specs.Calls.{Goes};
+ghost use Rattle.msr_options.specs.declared.hint.Side.TheVariants.{File};
+ghost use Rattle.msr_tree.specs.Calls.{Goes, Opens, Tells};
 ghost use Rattle.msr_making.specs.Parts.{IsUnopened, called_told};
 ghost use Rattle.msr_making.specs.Verifying.{IsSaidAgain, OpensAt, VerifiesAsked, VerifiesParts, WasVerifiedAs};
 
@@ -12,7 +13,7 @@ use crate::parts::called;
 use crate::repacking::require_verified;
 use msr_naming::{DayFiles, Stamp};
 use msr_options::{DayOptions, Options, Side};
-use msr_tree::Tree;
+use msr_tree::{Facts, Tree};
 use std::alloc::{AllocError, Global};
 
 /// Opens a file of a day, links followed.
@@ -27,12 +28,38 @@ pub(crate) fn open_again<T: Tree>(tree: &mut T, side: Side, path: &str) -> Resul
     called(side, opened, why)
 }
 
+/// Opens the day's own file, of which a look told.
+pub(crate) fn open_own<T: Tree>(tree: &mut T, input: &str, facts: &Facts) -> Result<T::Reader, Stop>
+    ensures count { IfOk result (λ reader. CanCountCall (T.Reader.device reader)) }
+    ensures refuses { IfErr result (IsUnopened File) }
+    ensures goes { Goes (T.went tree.old) (T.went tree.new)
+        (Tells (λ past reader. Opens input.now past (T.Reader.device reader)) (called_told result)) }
+{
+    let opened = tree.open_found(input, facts);
+    let why = tree.reason();
+    called(Side::File, opened, why)
+}
+
+/// Opens the day's own file, by what a look told of it before the day was repacked.
+fn open_own_again<T: Tree>(tree: &mut T, input: &str, sight: Sight) -> Result<T::Reader, Stop>
+    ensures count { IfOk result (λ reader. CanCountCall (T.Reader.device reader)) }
+    ensures refuses { IfErr result (IsUnopened File) }
+    ensures goes { Goes (T.went tree.old) (T.went tree.new)
+        (ActsOnFiles [] (OpensAt input.now (λ reader. T.Reader.device reader)) (called_told result)) }
+{
+    match sight {
+        Sight::Found(facts) => open_own(tree, input, &facts),
+        Sight::Nothing | Sight::Unknown => open_again(tree, Side::File, input),
+    }
+}
+
 /// Reads the records and the report again that were written, and the day's own file, and holds the records against the other
 /// two.
 fn verify_parts<T: Tree>(
     tree: &mut T,
     alloc: Global,
     input: &str,
+    sight: Sight,
     files: &DayFiles,
     options: Options,
 ) -> Result<(), Stop>
@@ -41,7 +68,7 @@ fn verify_parts<T: Tree>(
 {
     let mut records = open_again(tree, Side::Records, files.records.part.as_str())?;
     let mut report = open_again(tree, Side::Report, files.report.part.as_str())?;
-    let mut own = open_again(tree, Side::File, input)?;
+    let mut own = open_own_again(tree, input, sight)?;
     match require_verified(alloc, &mut own, &mut records, &mut report, options) {
         Ok(()) => Ok(()),
         Err(fault) => Err(Stop::Refused(fault)),
@@ -98,6 +125,6 @@ pub(crate) fn verify_asked<T: Tree>(
     if !asked.check {
         return Ok(());
     }
-    let said = verify_parts(tree, alloc, input, files, asked.options);
+    let said = verify_parts(tree, alloc, input, sight, files, asked.options);
     told_again(tree, input, sight, said)
 }

@@ -1,22 +1,22 @@
 //! A day is repacked from its file to records and report, beside their names.
-ghost use Rattle.std.specs.Prelude.{IfErr, IfOk};
+ghost use Rattle.std.specs.Prelude.{IfErr};
 ghost use Rattle.msr_devices.specs.Device.{CanCountCall};
 ghost use Rattle.msr_options.specs.declared.hint.Side.TheVariants.{File};
-ghost use Rattle.msr_tree.specs.Calls.{Goes, Opens, Tells};
-ghost use Rattle.msr_making.specs.Parts.{IsUnopened, called_told};
+ghost use Rattle.msr_tree.specs.Calls.{Goes};
+ghost use Rattle.msr_making.specs.Parts.{IsUnopened};
 ghost use Rattle.msr_making.specs.Writing.{RefusesNothing, RepacksParts, WasRepacked, WritesDay, WritesFrom};
 
 use crate::answer::{DayFault, Repacked, Stop};
 use crate::hold::Hold;
 use crate::looks::Sight;
-use crate::parts::{Parts, begin, called, finish};
+use crate::parts::{Parts, begin, finish};
 use crate::repacking::repack_placed;
-use crate::verifying::open_again;
+use crate::verifying::{open_again, open_own};
 use msr_devices::{Sink, Source};
 use msr_naming::DayFiles;
 use msr_options::{DayOptions, Side, Unopened};
 use msr_tool::ToolFault;
-use msr_tree::{Facts, Tree, TreeFault};
+use msr_tree::{Tree, TreeFault};
 use std::alloc::Global;
 
 /// Repacks what a source has. If only what gets smaller is kept, it has to.
@@ -93,18 +93,6 @@ pub(crate) fn write_day<T: Tree, H: Hold>(
     };
     let mut source = open_own(tree, input, &facts)?;
     write_from(tree, alloc, &mut source, facts.bytes, files, hold, asked)
-}
-
-/// Opens the day's own file, of which a look told.
-fn open_own<T: Tree>(tree: &mut T, input: &str, facts: &Facts) -> Result<T::Reader, Stop>
-    ensures count { IfOk result (λ reader. CanCountCall (T.Reader.device reader)) }
-    ensures refuses { IfErr result (IsUnopened File) }
-    ensures goes { Goes (T.went tree.old) (T.went tree.new)
-        (Tells (λ past reader. Opens input.now past (T.Reader.device reader)) (called_told result)) }
-{
-    let opened = tree.open_found(input, facts);
-    let why = tree.reason();
-    called(Side::File, opened, why)
 }
 
 /// Why a file is not opened that a look did not find.

@@ -77,10 +77,22 @@ fn only_regular(facts: Facts) -> io::Result<Facts> {
     }
 }
 
-/// Opens the regular file to which a name leads, links followed.
-pub(crate) fn followed_regular<R: Files>(rt: &R, path: &str) -> io::Result<R::File> {
+/// Opens a regular file of which it is known how many bytes it has.
+pub(crate) fn known_regular<R: Files>(
+    rt: &R,
+    path: &str,
+    bytes: u64,
+) -> io::Result<(R::File, u64)> {
+    match File::open(rt, path) {
+        Ok(file) => Ok((file, bytes)),
+        Err(error) => Err(error),
+    }
+}
+
+/// Opens the regular file to which a name leads, links followed, with its length.
+pub(crate) fn followed_regular<R: Files>(rt: &R, path: &str) -> io::Result<(R::File, u64)> {
     match fs::metadata(rt, path) {
-        Ok(metadata) if metadata.is_file() => File::open(rt, path),
+        Ok(metadata) if metadata.is_file() => known_regular(rt, path, metadata.len()),
         Ok(_) => Err(refusal("not a regular file")),
         Err(error) => Err(error),
     }
@@ -110,6 +122,14 @@ fn same_file(facts: Facts, looked: &Facts) -> io::Result<Facts> {
         Ok(facts)
     } else {
         Err(refusal("another file took its place"))
+    }
+}
+
+/// The same, with its length alone.
+pub(crate) fn long_regular<R: Files>(rt: &R, path: &str) -> io::Result<(R::File, u64)> {
+    match regular(rt, path) {
+        Ok((file, facts)) => Ok((file, facts.bytes)),
+        Err(error) => Err(error),
     }
 }
 

@@ -6,14 +6,17 @@ ghost use Rattle.msr_devices.specs.Device.{CanCountCall};
 use crate::anew::Anew;
 use crate::copying::{compare, dress};
 use crate::listing::{kind_of, names_in};
+use crate::made::Made;
 use crate::making::make_stored;
 use crate::naming::{copy_file, remove, remove_folder, rename_free, rename_over};
 use crate::opening::{
-    are_one, followed, followed_regular, found, is_there, regular_file, store, store_bytes,
+    are_one, followed, followed_regular, found, is_there, known_regular, long_regular, store,
+    store_bytes,
 };
+use crate::reader::SystemReader;
 use crate::watch::Watch;
 use crate::writer::SystemWriter;
-use msr_devices::{FromRead, Sink, Source};
+use msr_devices::{Sink, Source};
 use msr_tree::{Facts, FileKind, Kind, Time, Tree, TreeFault};
 use std::alloc::Global;
 use std::fs::File;
@@ -32,6 +35,7 @@ pub struct SystemTree<R: Files + Copy> {
     has_links: bool,
     /// The folder that was made last, if it was there and stored then, with all that lead to it.
     stored: Option<String>,
+    made: Made,
     watch: Watch,
     anew: Anew,
 }
@@ -44,6 +48,7 @@ impl<R: Files + Copy> SystemTree<R> {
             reason: None,
             has_links: true,
             stored: None,
+            made: Made::none(),
             watch: Watch::none(alloc),
             anew: Anew::new(),
         }
@@ -57,6 +62,7 @@ impl<R: Files + Copy> SystemTree<R> {
             reason: None,
             has_links: false,
             stored: None,
+            made: Made::none(),
             watch: Watch::none(alloc),
             anew: Anew::new(),
         }
@@ -101,12 +107,12 @@ fn told<T>(reason: &mut Option<io::Error>, answer: io::Result<T>) -> Result<T, T
 
 fn reader<F: Read>(
     reason: &mut Option<io::Error>,
-    opened: io::Result<F>,
-) -> Result<FromRead<F>, TreeFault>
-    ensures { IfOk result (λ reader. CanCountCall (⟦<FromRead<F> as Source>⟧.device reader)) }
+    opened: io::Result<(F, u64)>,
+) -> Result<SystemReader<F>, TreeFault>
+    ensures { IfOk result (λ reader. CanCountCall (⟦<SystemReader<F> as Source>⟧.device reader)) }
 {
     match opened {
-        Ok(file) => Ok(FromRead::new(file)),
+        Ok((file, bytes)) => Ok(SystemReader::new(file, bytes)),
         Err(error) => {
             *reason = Some(error);
             Err(error.into())
@@ -132,7 +138,7 @@ fn writer<F: Write>(
 
 #[tactic(auto, using(crate::proofs::Unknown::unknown))]
 impl<R: Files + Clock + Copy> Tree for SystemTree<R> {
-    type Reader = FromRead<R::File>;
+    type Reader = SystemReader<R::File>;
 
     type Writer = SystemWriter<R::File>;
 
@@ -178,28 +184,35 @@ impl<R: Files + Clock + Copy> Tree for SystemTree<R> {
         told(&mut self.reason, answer)
     }
 
-    fn follow(&mut self, path: &str) -> Result<FromRead<R::File>, TreeFault> {
-        let opened = followed_regular(&self.rt, path);
+    fn follow(&mut self, path: &str) -> Result<SystemReader<R::File>, TreeFault> {
+        let opened = match self.made.bytes_of(path) {
+            Some(bytes) => known_regular(&self.rt, path, bytes),
+            None => followed_regular(&self.rt, path),
+        };
         self.watch
             .note_file(&self.rt, self.alloc, path, opened.is_ok());
         reader(&mut self.reason, opened)
     }
 
     // Nothing else is opened, since opening a pipe waits for somebody who writes to it; nor has the system a reason then.
-    fn open_found(&mut self, path: &str, facts: &Facts) -> Result<FromRead<R::File>, TreeFault> {
+    fn open_found(
+        &mut self,
+        path: &str,
+        facts: &Facts,
+    ) -> Result<SystemReader<R::File>, TreeFault> {
         if facts.kind != Kind::Regular {
             self.reason = None;
             return Err(TreeFault::Failed);
         }
-        let opened = File::open(&self.rt, path);
+        let opened = known_regular(&self.rt, path, facts.bytes);
         self.anew.note_opened(self.alloc, path);
         self.watch
             .note_file(&self.rt, self.alloc, path, opened.is_ok());
         reader(&mut self.reason, opened)
     }
 
-    fn open(&mut self, path: &str) -> Result<FromRead<R::File>, TreeFault> {
-        let opened = regular_file(&self.rt, path);
+    fn open(&mut self, path: &str) -> Result<SystemReader<R::File>, TreeFault> {
+        let opened = long_regular(&self.rt, path);
         self.watch
             .note_file(&self.rt, self.alloc, path, opened.is_ok());
         reader(&mut self.reason, opened)
@@ -222,6 +235,10 @@ impl<R: Files + Clock + Copy> Tree for SystemTree<R> {
         writer: SystemWriter<R::File>,
     ) -> Result<(), TreeFault> {
         let answer = writer.store_of(path);
+        if answer.is_ok() {
+            let (name, bytes) = writer.into_made();
+            self.made.note(name, bytes);
+        }
         told(&mut self.reason, answer)
     }
 
@@ -231,11 +248,13 @@ impl<R: Files + Clock + Copy> Tree for SystemTree<R> {
     }
 
     fn copy(&mut self, from: &str, to: &str) -> Result<(), TreeFault> {
+        self.made.forget();
         let answer = copy_file(&self.rt, from, to);
         told(&mut self.reason, answer)
     }
 
     fn rename(&mut self, from: &str, to: &str) -> Result<(), TreeFault> {
+        self.made.forget();
         let answer = rename_over(&self.rt, from, to, self.has_links);
         if answer.is_ok() {
             self.anew.note_named(to);
@@ -244,11 +263,13 @@ impl<R: Files + Clock + Copy> Tree for SystemTree<R> {
     }
 
     fn rename_new(&mut self, from: &str, to: &str) -> Result<bool, TreeFault> {
+        self.made.forget();
         let answer = rename_free(&self.rt, from, to);
         told(&mut self.reason, answer)
     }
 
     fn remove(&mut self, path: &str) -> Result<(), TreeFault> {
+        self.made.forget();
         let answer = remove(&self.rt, path);
         told(&mut self.reason, answer)
     }

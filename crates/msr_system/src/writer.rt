@@ -11,6 +11,8 @@ use std::io::{ErrorKind, Write};
 #[derive(Drop)]
 pub struct SystemWriter<W: Write> {
     path: String,
+    /// How many bytes it took.
+    bytes: u64,
     sink: FromWrite<W>,
 }
 
@@ -21,6 +23,7 @@ impl<W: Write> SystemWriter<W> {
     {
         SystemWriter {
             path,
+            bytes: 0,
             sink: FromWrite::new(file),
         }
     }
@@ -32,6 +35,14 @@ impl<W: Write> SystemWriter<W> {
         } else {
             Err(refusal("another file was made"))
         }
+    }
+}
+
+impl<W: Write + Drop> SystemWriter<W> {
+    /// Closes it, and tells its name and how many bytes it took.
+    pub(crate) fn into_made(self) -> (String, u64) {
+        let SystemWriter { path, bytes, .. } = self;
+        (path, bytes)
     }
 }
 
@@ -59,6 +70,12 @@ impl<W: Write> Sink for SystemWriter<W> {
     ghost device = { λ writer. ⟦<FromWrite<W> as Sink>⟧.device writer.sink };
 
     fn write(&mut self, buf: &[u8]) -> io::Result<usize> {
-        self.sink.write(buf)
+        match self.sink.write(buf) {
+            Ok(n) => {
+                self.bytes = self.bytes.saturating_add(n as u64);
+                Ok(n)
+            }
+            Err(error) => Err(error),
+        }
     }
 }
