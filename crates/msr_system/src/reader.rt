@@ -26,13 +26,13 @@ impl<R: Read> Model for SystemReader<R> {
 
     ghost view = { λ reader. record {
       bytes = None;
-      moved = (⟦<FromRead<R> as Source>⟧.device reader.source).moved;
-      failures = (⟦<FromRead<R> as Source>⟧.device reader.source).failures;
-      interruptions = (⟦<FromRead<R> as Source>⟧.device reader.source).interruptions;
+      moved = reader.source.moved;
+      failures = reader.source.failures;
+      interruptions = reader.source.interruptions;
     } };
 
-    ghost invariant = { λ reader. ((⟦<FromRead<R> as Source>⟧.device reader.source).moved < 2 ^ 64)
-        × (reader.has_ended ≡ true → (⟦<FromRead<R> as Source>⟧.device reader.source).interruptions ≡ 0) };
+    ghost invariant = { λ reader. (reader.source.moved < 2 ^ 64)
+        × (reader.has_ended ≡ true → reader.source.interruptions ≡ 0) };
 }
 
 impl<R: Read> SystemReader<R> {
