@@ -9,8 +9,8 @@ struct MadeFile {
     bytes: u64,
 }
 
-/// The two files that were made last, as the records and the report of a day, if no name was taken, given or changed since.
-/// They are regular files, and as long as what they took: nobody else changes them, so that they are opened without a look.
+/// The two files that were made and stored last, as the records and the report of a day, if no name was given, taken away or
+/// changed since. They are regular files, as long as what they took: nobody else changes them, so they need no look.
 #[derive(Drop)]
 pub(crate) struct Made {
     last: Option<MadeFile>,
@@ -33,7 +33,7 @@ impl Made {
         }
     }
 
-    /// A file was made.
+    /// A file was made and stored.
     pub(crate) fn note(&mut self, path: String, bytes: u64) {
         let before = mem::replace(&mut self.last, Some(MadeFile { path, bytes }));
         self.before = before;
