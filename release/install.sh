@@ -4,11 +4,14 @@
 #                                 Units of systemd get the name of PREFIX; they are not enabled
 # install.sh --uninstall PREFIX   removes what was installed there, all or the part to which a killed install.sh came, and
 #                                 the folders that were made for it, PREFIX too
+# install.sh --help               prints these lines
 #
+# At its end it tells what was installed, and where.
 # Status 0: done; 1: a file is not what SHA256SUMS says, there is no program of these sources, nothing was installed
-# there, or a file cannot be read or written, and what had its name stays; 2: bad call.
+# there, or a file cannot be read or written, and what had its name stays; 2: wrong call.
 set -eu
 usage() { printf '%s\n' "usage: install.sh [--uninstall] PREFIX" >&2; exit 2; }
+case ${1-} in -h | --help) exec sed -n '2,/^[^#]/s/^# \{0,1\}//p' "$0" ;; esac
 what=install
 if [ "${1-}" = --uninstall ]; then what=uninstall; shift; fi
 [ $# = 1 ] || usage
@@ -127,6 +130,22 @@ install_all() {
         copy $mode "$file" "$part" && mv -f "$part" "$prefix/$file" || fail "cannot write $prefix/$file"
         part=
     done
+    # All is installed, whether or not that can be told.
+    tell_installed || :
+}
+
+tell_installed() {
+    version=$("$prefix/bin/msrepack" --version 2>/dev/null) || version=msrepack
+    cat <<TOLD
+$version is installed below $prefix:
+  bin/msrepack             the program
+  share/man                its manual pages
+  share/msrepack/cluster   scripts for all processors, Slurm and replace
+  share/msrepack/nightly   settings of a nightly service, which is not enabled; its units are in lib/systemd/system
+  share/doc/msrepack       documents and examples
+and completions for bash, zsh and fish. To remove all: install.sh --uninstall $prefix
+TOLD
+    case :$PATH: in *:"$prefix/bin":*) ;; *) printf '%s\n' "Not on the path: $prefix/bin" ;; esac
 }
 
 # Of a list that is not whole nothing was made yet.
