@@ -1,5 +1,5 @@
 """Reports that are read back, and the verdict on packed records: docs/PROFILE.md, "The text of a report" and "Verdicts
-on packed records", and the table of verdicts in docs/MANUAL.md.
+on packed records", and what docs/MANUAL.md says of `check`.
 """
 import re
 from collections import namedtuple
