@@ -7,7 +7,7 @@ use Rattle.msr_tree.specs.declared.tree.TreeFault.{TreeFault}
 use Rattle.msr_tree.proofs.Acting.{giving, goes_same, stopping, then_ok, then_stopped}
 use Rattle.msr_tree.proofs.Changes.{leaves_kept, seen_kept}
 use Rattle.msr_tree.proofs.Moments.{at_end}
-use Rattle.msr_exchange.specs.Moves.{Anything, Stores, Takes}
+use Rattle.msr_exchange.specs.Moves.{Anything, Stores, TakesName}
 use Rattle.msr_exchange.specs.Names.{AreNames, Names, is_place, path_at}
 use Rattle.msr_exchange.specs.Phases.{AreHome, AreSeenApart, HaveOneContent, HavePlaces, IsInPlace, IsPrepared}
 use Rattle.msr_exchange.specs.Promise.{AreKept, Keeps, KeepsAll, KeepsBoth}
@@ -135,13 +135,13 @@ module _ (names : Names) (one other : Place) where
     other_apart : IsNoneOf (path_at names other) l
     other_apart = (are.apart other Day other_day, (are.apart other DayPart other_part, tt))
 
-    pub taken_stopped : (why : TreeFault) (before after : List Step → Type 0) → Goes before after (Takes (path_at names DayPart) (path_at names Day) (stopping (Unit {0}) why))
+    pub taken_stopped : (why : TreeFault) (before after : List Step → Type 0) → Goes before after (TakesName (path_at names DayPart) (path_at names Day) (stopping (Unit {0}) why))
         → Goes before after (Keeps names one other (IsPrepared names one other) (stopping Told why))
     taken_stopped why before after goes =
         taking_stopped names one other (IsPrepared names one other) (HavePlaces names one other) why before after
         (λ a b p q prepared takes. taking_moments names one other a b _ p q one_apart other_apart prepared takes) goes
 
-    pub taken_then : (result : Result Told TreeFault) (before mid after : List Step → Type 0) → Goes before mid (Takes (path_at names DayPart) (path_at names Day) (giving {A = Unit {0}} tt))
+    pub taken_then : (result : Result Told TreeFault) (before mid after : List Step → Type 0) → Goes before mid (TakesName (path_at names DayPart) (path_at names Day) (giving {A = Unit {0}} tt))
         → Goes mid after (Keeps names one other (HavePlaces names one other) result) → Goes before after (Keeps names one other (IsPrepared names one other) result)
     taken_then result before mid after first goes =
         taking_then names one other (IsPrepared names one other) (HavePlaces names one other) tt result before mid after

@@ -8,7 +8,7 @@ use Rattle.msr_tree.proofs.Acting.{acts_does, giving, goes_as, no_fewer, stoppin
 use Rattle.msr_tree.proofs.Moments.{at_end, done, joined}
 use Rattle.msr_tree.proofs.Changes.{changes_then, ready_renamed, ready_settled, ready_stored}
 use Rattle.msr_tree.proofs.Crash.{is_of, is_self, leaves, quiet}
-use Rattle.msr_exchange.specs.Moves.{LeavesEither, Takes}
+use Rattle.msr_exchange.specs.Moves.{LeavesEither, TakesName}
 
 pub settled_by : (name folder : Path) (p q r : List Step) → stands_in folder name ≡ true → q ≡ FileStored name ∷ p → r ≡ FolderStored folder ∷ q
     → (bytes : List ℕ) → seen p name ≡ Some bytes → Leaves r name (Some bytes)
@@ -66,7 +66,7 @@ moments_of from to before bytes (Ok x) p q holds ready does = took_after from to
 moments_of from to before bytes (Err why) p q holds ready does =
     stopped_moments to before (Some bytes) p q _ why (λ after is. inl (holds after is)) (λ left may. took_after from to before bytes p left holds ready may) does
 
-pub took_stopped : (from to : Path) {T : Type 0} (why : TreeFault) (one two : List Step → Type 0) {given : Step} → given ≡ Renamed from to → Goes one two (DoesStep given (stopping T why)) → Goes one two (Takes from to (stopping T why))
+pub took_stopped : (from to : Path) {T : Type 0} (why : TreeFault) (one two : List Step → Type 0) {given : Step} → given ≡ Renamed from to → Goes one two (DoesStep given (stopping T why)) → Goes one two (TakesName from to (stopping T why))
 took_stopped from to {T = T} why one two {given = given} same goes = goes_as _ _ one two
     (λ p q does. record {
       acts = record { changes = (acts_does {T = T} (to ∷ from ∷ []) (Renamed from to) (stopping T why) p q (within_renamed from to) does).changes; cause = (acts_does {T = T} (to ∷ from ∷ []) (Renamed from to) (stopping T why) p q (within_renamed from to) does).cause; does = tt };
@@ -87,7 +87,7 @@ folder_moments to folder before other (Err why) q r either does =
     does
 
 pub took_place : {T : Type 0} (from to folder : Path) (result : Result T TreeFault) (one mid two : List Step → Type 0) {given : Step} → given ≡ Renamed from to → {stored : Step} → stored ≡ FolderStored folder → (x : T) → stands_in folder to ≡ true
-    → Goes one mid (DoesStep given (giving x)) → Goes mid two (DoesStep stored result) → Goes one two (Takes from to result)
+    → Goes one mid (DoesStep given (giving x)) → Goes mid two (DoesStep stored result) → Goes one two (TakesName from to result)
 took_place {T = T} from to folder result one mid two {given = given} same {stored = stored} is x inside first second =
     let renamed : Goes one mid (DoesStep (Renamed from to) (giving x)) = subst (λ s. Goes one mid (DoesStep s (giving x))) same first in
     let settled : Goes mid two (DoesStep (FolderStored folder) result) = subst (λ s. Goes mid two (DoesStep s result)) is second in

@@ -9,7 +9,7 @@ use Rattle.msr_tree.proofs.Acting.{giving, goes_as, no_fewer, stopping}
 use Rattle.msr_tree.proofs.Changes.{changes_more, changes_then, each_by_changes, leaves_kept, may_kept, seen_kept, with_changes}
 use Rattle.msr_tree.proofs.Crash.{leaves_seen}
 use Rattle.msr_tree.proofs.Moments.{at_end, joined}
-use Rattle.msr_exchange.specs.Moves.{LeavesEither, Takes}
+use Rattle.msr_exchange.specs.Moves.{LeavesEither, TakesName}
 use Rattle.msr_exchange.specs.Names.{Names, all, path_at}
 use Rattle.msr_exchange.specs.Phases.{AreHome, HaveOneContent, AreSeenApart, HavePlaces, IsInPlace, IsPrepared, MayGoBack}
 use Rattle.msr_exchange.specs.Promise.{AreKept, Keeps, KeepsBoth, Says}
@@ -71,7 +71,7 @@ module _ (names : Names) (one other : Place) where
 
   -- the moments of a rename to the day's name
   pub taking_moments : {T : Type 0} (a b : List ℕ) (result : Result T TreeFault) (p q : List Step) → IsNoneOf (path_at names one) (path_at names Day ∷ path_at names DayPart ∷ []) → IsNoneOf (path_at names other) (path_at names Day ∷ path_at names DayPart ∷ [])
-      → IsPrepared names one other a b p → Takes (path_at names DayPart) (path_at names Day) result p q → AtEachMoment (K a b) p q
+      → IsPrepared names one other a b p → TakesName (path_at names DayPart) (path_at names Day) result p q → AtEachMoment (K a b) p q
   taking_moments a b result p q nw nt prepared takes =
       let l = path_at names Day ∷ path_at names DayPart ∷ [] in
       with_changes (LeavesEither (path_at names Day) (Some a) (Some b)) (K a b) l p
@@ -79,7 +79,7 @@ module _ (names : Names) (one other : Place) where
       q takes.acts.changes (takes.moments (Some a) b prepared.aside.home.day prepared.ready)
 
   pub back_moments : {T : Type 0} (a b : List ℕ) (result : Result T TreeFault) (p q : List Step) → IsNoneOf (path_at names one) (path_at names Day ∷ path_at names DayPart ∷ []) → IsNoneOf (path_at names other) (path_at names Day ∷ path_at names DayPart ∷ [])
-      → MayGoBack names one other a b p → Takes (path_at names DayPart) (path_at names Day) result p q → AtEachMoment (K a b) p q
+      → MayGoBack names one other a b p → TakesName (path_at names DayPart) (path_at names Day) result p q → AtEachMoment (K a b) p q
   back_moments a b result p q nw nt back takes =
       let l = path_at names Day ∷ path_at names DayPart ∷ [] in
       with_changes (LeavesEither (path_at names Day) (Some b) (Some a)) (K a b) l p
@@ -145,8 +145,8 @@ module _ (names : Names) (one other : Place) (Before Next : (a b : List ℕ) →
   within name none = (none.0, (none.1.0, tt))
 
   pub taking_stopped : (why : TreeFault) (before after : List Step → Type 0)
-      → ((a b : List ℕ) (p q : List Step) → Before a b p → Takes (path_at names DayPart) (path_at names Day) (stopping (Unit {0}) why) p q → AtEachMoment (KeepsBoth names one a other b) p q)
-      → Goes before after (Takes (path_at names DayPart) (path_at names Day) (stopping (Unit {0}) why)) → Goes before after (Keeps names one other Before (stopping Told why))
+      → ((a b : List ℕ) (p q : List Step) → Before a b p → TakesName (path_at names DayPart) (path_at names Day) (stopping (Unit {0}) why) p q → AtEachMoment (KeepsBoth names one a other b) p q)
+      → Goes before after (TakesName (path_at names DayPart) (path_at names Day) (stopping (Unit {0}) why)) → Goes before after (Keeps names one other Before (stopping Told why))
   taking_stopped why before after moments goes = goes_as _ _ before after (λ p q takes. record {
     changes = changes_more (path_at names Day ∷ path_at names DayPart ∷ []) (all names) p q within takes.acts.changes;
     cause = λ is. takes.acts.cause (let so : why ≡ fault.Failed = cc in ap (λ w. Err w) so);
@@ -155,9 +155,9 @@ module _ (names : Names) (one other : Place) (Before Next : (a b : List ℕ) →
   }) goes
 
   pub taking_then : (x : Unit {0}) (result : Result Told TreeFault) (before mid after : List Step → Type 0)
-      → ((a b : List ℕ) (p q : List Step) → Before a b p → Takes (path_at names DayPart) (path_at names Day) (giving x) p q → AtEachMoment (KeepsBoth names one a other b) p q)
-      → ((a b : List ℕ) (p q : List Step) → Before a b p → Takes (path_at names DayPart) (path_at names Day) (giving x) p q → Next a b q)
-      → Goes before mid (Takes (path_at names DayPart) (path_at names Day) (giving x)) → Goes mid after (Keeps names one other Next result) → Goes before after (Keeps names one other Before result)
+      → ((a b : List ℕ) (p q : List Step) → Before a b p → TakesName (path_at names DayPart) (path_at names Day) (giving x) p q → AtEachMoment (KeepsBoth names one a other b) p q)
+      → ((a b : List ℕ) (p q : List Step) → Before a b p → TakesName (path_at names DayPart) (path_at names Day) (giving x) p q → Next a b q)
+      → Goes before mid (TakesName (path_at names DayPart) (path_at names Day) (giving x)) → Goes mid after (Keeps names one other Next result) → Goes before after (Keeps names one other Before result)
   taking_then x result before mid after moments next first goes = record {
     from = λ new went.
         let later = goes.from new went in

@@ -64,7 +64,7 @@ abbrev pub LeavesEither : Path → (one other : Option (List ℕ)) → List Step
 LeavesEither name one other past = (after : Option (List ℕ)) → MayLeave past name after → (after ≡ one) ⊎ (after ≡ other)
 
 -- What is ready under one name gets another in place of what has it: at each moment a crash leaves the one or the other.
-pub record Takes {T : Type 0} (from to : Path) (result : Result T TreeFault) (old new : List Step) : Type 0 where
+pub record TakesName {T : Type 0} (from to : Path) (result : Result T TreeFault) (old new : List Step) : Type 0 where
   pub acts : Acts (to ∷ from ∷ []) (λ sooner later _. (bytes : List ℕ) → IsReady from bytes sooner → Leaves later to (Some bytes)) result old new
   pub moments : (before : Option (List ℕ)) (bytes : List ℕ) → Leaves old to before → IsReady from bytes old
       → AtEachMoment (LeavesEither to before (Some bytes)) old new

@@ -2,7 +2,7 @@
 ghost use Rattle.std.specs.Prelude.{[], ◌∷◌};
 ghost use Rattle.msr_tree.specs.Acts.{Acts};
 ghost use Rattle.msr_tree.specs.Calls.{Goes};
-ghost use Rattle.msr_exchange.specs.Moves.{Anything, GivesName, IsKeptAs, IsSeenAs, KeepsAs, KeepsName, NamesIfNone, Prepares, Stores, Takes};
+ghost use Rattle.msr_exchange.specs.Moves.{Anything, GivesName, IsKeptAs, IsSeenAs, KeepsAs, KeepsName, NamesIfNone, Prepares, Stores, TakesName};
 ghost use Rattle.msr_exchange.specs.Names.{AreNames, path_at};
 ghost use Rattle.msr_exchange.specs.declared.names.Place.TheVariants.{Day, DayPart};
 
@@ -209,7 +209,7 @@ pub(crate) fn keep_as<T: Tree>(
 /// The records, or the original, get the name of the day in ROOT, on the disk.
 pub(crate) fn take_place<T: Tree>(tree: &mut T, names: &DayNames) -> Result<(), TreeFault>
     requires { AreNames names.now }
-    ensures { Goes (T.went tree.old) (T.went tree.new) (Takes (path_at names.now DayPart) (path_at names.now Day) result) }
+    ensures { Goes (T.went tree.old) (T.went tree.new) (TakesName (path_at names.now DayPart) (path_at names.now Day) result) }
 {
     tree.rename(names.at(Place::DayPart), names.at(Place::Day))?;
     tree.store_folder(names.folder(Place::Day))
