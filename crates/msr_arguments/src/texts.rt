@@ -566,7 +566,7 @@ const JSON: Argument = Argument::Flag(
     "json",
     "Print each line as an object of JSON",
     "Print each line as an object of JSON (JSON Lines): times in ISO 8601, names without the
-spaces at their ends, why each segment began, and, if the one before it has the same
+spaces after them, why each segment began, and, if the one before it has the same
 name, how many microseconds after that one's next sample it begins",
 );
 
