@@ -23,6 +23,7 @@ reads_same folder old new reads = record {
 pub reading_laws : {V E T : Type 0} (is_entry : V → E → Type 0) (is_line : V → E → List ℕ → Type 0) (is_tally : List E → T → Type 0) →
     VisitLaws {V = V} {L = E} {T = T} (λ visitor. TellsThese (is_entry visitor) (is_line visitor) is_tally)
     (λ visitor out0 out. StopsAt (TellsInPart (is_entry visitor) (is_line visitor) out0 out) out0 out) (λ visitor goes_on. OnlyReads)
+    (λ visitor. OnlyReads)
 reading_laws is_entry is_line is_tally = record {
   calm = λ visitor lines out0 out tally0 tally these. these.told.calm;
   none = λ visitor. these_none (is_entry visitor) (is_line visitor) is_tally;
@@ -33,6 +34,9 @@ reading_laws is_entry is_line is_tally = record {
   still = λ visitor. reads_none;
   onward = λ visitor goes_on. reads_then;
   ends = λ visitor old new reads. reads;
+  rests = λ visitor. reads_none;
+  rests_on = λ visitor. reads_then;
+  resting = λ visitor old new reads. reads;
   unlisted = λ visitor. reads_unlisted;
 }
 

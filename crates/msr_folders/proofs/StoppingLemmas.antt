@@ -113,7 +113,7 @@ module _ {E T : Type 0} (is_entry : E → Type 0) (is_line : E → List ℕ → 
 
   -- the laws of a visitor that tells entries until something fails
   pub stopping_laws : {V : Type 0} → VisitLaws {V = V} {L = Option E} {T = T} (λ visitor. TellsUntil is_entry is_line is_tally has_failed)
-      (λ visitor out0 out. StopsAt (TellsInPart is_entry is_line out0 out) out0 out) (λ visitor goes_on. ComesAfter)
+      (λ visitor out0 out. StopsAt (TellsInPart is_entry is_line out0 out) out0 out) (λ visitor goes_on. ComesAfter) (λ visitor. ComesAfter)
   stopping_laws = record {
     calm = λ visitor said out0 out tally0 tally told. told.told.told.calm;
     none = λ visitor. until_none;
@@ -123,5 +123,8 @@ module _ {E T : Type 0} (is_entry : E → Type 0) (is_line : E → List ℕ → 
     still = λ visitor. later_still;
     onward = λ visitor goes_on. later_then;
     ends = λ visitor old new later. later;
+    rests = λ visitor. later_still;
+    rests_on = λ visitor. later_then;
+    resting = λ visitor old new later. later;
     unlisted = λ visitor past folder. record { made = Failed ∷ Unlisted folder ∷ []; since = refl };
   }

@@ -6,7 +6,7 @@ use Rattle.msr_devices.specs.Device.{Device, IsCalm, Takes}
 use Rattle.msr_devices.specs.declared.fault.DeviceFault.{DeviceFault}
 use Rattle.msr_devices.specs.declared.fault.DeviceFault.TheVariants.{Failed, Memory}
 use Rattle.msr_devices.proofs.Chaining.{takes_append, takes_none, calm_same, calm_calm, calm_failed, steady_steady}
-use Rattle.msr_folders.specs.Visits.{AreLines, StopsAt, Tells, TellsInPart, TellsThese}
+use Rattle.msr_folders.specs.Visits.{AreLines, StopsAt, TellsInPart, TellsMore, TellsThese}
 
 all_joined : {E : Type 0} (P : E → Type 0) (entries others : List E) → AllByRecursion P entries → AllByRecursion P others
     → AllByRecursion P (entries ++ others)
@@ -73,7 +73,7 @@ module _ {E : Type 0} (is_entry : E → Type 0) (is_line : E → List ℕ → Ty
 
   module _ {T : Type 0} (is_tally : List E → T → Type 0) where
     -- no entry more
-    pub tells_none : (out : Device) (tally : T) → Tells is_entry is_line is_tally out out tally tally
+    pub tells_none : (out : Device) (tally : T) → TellsMore is_entry is_line is_tally out out tally tally
     tells_none out tally = record {
       entries = [];
       lines = [];
@@ -88,7 +88,7 @@ module _ {E : Type 0} (is_entry : E → Type 0) (is_line : E → List ℕ → Ty
     pub tells_one : (out0 out : Device) (tally0 tally : T) (entry : E) (line : List ℕ) → is_entry entry
         → is_line entry line → Takes out0 out line → IsCalm out0 out
         → ((before : List E) → is_tally before tally0 → is_tally (before ++ entry ∷ []) tally)
-        → Tells is_entry is_line is_tally out0 out tally0 tally
+        → TellsMore is_entry is_line is_tally out0 out tally0 tally
     tells_one out0 out tally0 tally entry line told lined prints calm counts = record {
       entries = entry ∷ [];
       lines = line;
@@ -100,8 +100,8 @@ module _ {E : Type 0} (is_entry : E → Type 0) (is_line : E → List ℕ → Ty
     }
 
     pub tells_more : (out0 out1 out : Device) (tally0 tally1 tally : T)
-        → Tells is_entry is_line is_tally out0 out1 tally0 tally1 → Tells is_entry is_line is_tally out1 out tally1 tally
-        → Tells is_entry is_line is_tally out0 out tally0 tally
+        → TellsMore is_entry is_line is_tally out0 out1 tally0 tally1 → TellsMore is_entry is_line is_tally out1 out tally1 tally
+        → TellsMore is_entry is_line is_tally out0 out tally0 tally
     tells_more out0 out1 out tally0 tally1 tally first second = record {
       entries = first.entries ++ second.entries;
       lines = first.lines ++ second.lines;
@@ -137,7 +137,7 @@ module _ {E : Type 0} (is_entry : E → Type 0) (is_line : E → List ℕ → Ty
       are = ap (λ l. l ++ second.told.entries) first.are ∙ ap (λ l. one ++ l) second.are;
     }
 
-    part_more : (out0 out1 out : Device) (tally0 tally1 : T) → Tells is_entry is_line is_tally out0 out1 tally0 tally1
+    part_more : (out0 out1 out : Device) (tally0 tally1 : T) → TellsMore is_entry is_line is_tally out0 out1 tally0 tally1
         → TellsInPart is_entry is_line out1 out → TellsInPart is_entry is_line out0 out
     part_more out0 out1 out tally0 tally1 first second = record {
       entries = first.entries ++ second.entries;
@@ -151,7 +151,7 @@ module _ {E : Type 0} (is_entry : E → Type 0) (is_line : E → List ℕ → Ty
     }
 
     pub stops_more : (out0 out1 out : Device) (tally0 tally1 : T) (fault : DeviceFault)
-        → Tells is_entry is_line is_tally out0 out1 tally0 tally1 → StopsAt (TellsInPart is_entry is_line out1 out) out1 out fault
+        → TellsMore is_entry is_line is_tally out0 out1 tally0 tally1 → StopsAt (TellsInPart is_entry is_line out1 out) out1 out fault
         → StopsAt (TellsInPart is_entry is_line out0 out) out0 out fault
     stops_more out0 out1 out tally0 tally1 fault first second =
         stops_within out0 out1 out fault first.calm (part_more out0 out1 out tally0 tally1 first) second

@@ -4,7 +4,7 @@ use Rattle.msr_devices.specs.Device.{Device, Takes}
 use Rattle.msr_devices.specs.declared.fault.DeviceFault.{DeviceFault}
 use Rattle.msr_devices.proofs.Chaining.{calm_same, takes_append}
 use Rattle.msr_report.specs.Writing.{TakesPrefix}
-use Rattle.msr_folders.specs.Visits.{IsWalkInPart, StopsAt, StopsPrefix, StopsTelling, Tells, TellsInPart}
+use Rattle.msr_folders.specs.Visits.{IsWalkInPart, StopsAt, StopsPrefix, StopsTelling, TellsInPart, TellsMore}
 use Rattle.msr_folders.proofs.VisitLemmas.{stops_within}
 
 -- a prefix of the text of a walk was printed
@@ -40,7 +40,7 @@ module _ {E : Type 0} (is_entry : E → Type 0) (is_line : E → List ℕ → Ty
   module _ {T : Type 0} (is_tally : List E → T → Type 0) where
     -- all entries, and a prefix of the last lines
     summary_in_part : (out0 out1 out : Device) (tally0 tally : T)
-        (told : Tells is_entry is_line is_tally out0 out1 tally0 tally)
+        (told : TellsMore is_entry is_line is_tally out0 out1 tally0 tally)
         → TakesPrefix out1 out (summary told.entries) → WalksInPart is_entry is_line summary out0 out
     summary_in_part out0 out1 out tally0 tally told front = record {
       printed = told.lines ++ front.taken;
@@ -59,7 +59,7 @@ module _ {E : Type 0} (is_entry : E → Type 0) (is_line : E → List ℕ → Ty
     }
 
     pub stops_summary : (out0 out1 out : Device) (tally0 tally : T) (fault : DeviceFault)
-        (told : Tells is_entry is_line is_tally out0 out1 tally0 tally)
+        (told : TellsMore is_entry is_line is_tally out0 out1 tally0 tally)
         → StopsPrefix out1 out (summary told.entries) fault
         → StopsAt (WalksInPart is_entry is_line summary out0 out) out0 out fault
     stops_summary out0 out1 out tally0 tally fault told front =

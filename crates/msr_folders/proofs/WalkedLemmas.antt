@@ -19,8 +19,8 @@ use Rattle.msr_folders.specs.Entries.{AreEntriesBelow, AreEntries, AreEntriesBet
 use Rattle.msr_folders.specs.Opening.{AreSoFar, IsKindAt, OpensFolder}
 use Rattle.msr_folders.specs.declared.opened.Opened.{Opened}
 use Rattle.msr_folders.specs.Paths.{below, joined}
-use Rattle.msr_folders.specs.Walks.{HoldsAt, HoldsListed, IsSaidBetween, IsWalked, TellsVisit, TellsWalk, VisitDoes, VisitLaws}
-use Rattle.msr_folders.proofs.EntryLemmas.{earlier, entries_now, entries_seen, entry_seen, later, for_each_append, for_each_as, for_each_one, for_each_push, unlisted_append}
+use Rattle.msr_folders.specs.Walks.{AreSaid, HoldsAt, HoldsListed, IsWalked, TellsVisit, TellsWalk, VisitDoes, VisitLaws}
+use Rattle.msr_folders.proofs.EntryLemmas.{earlier, entries_now, entries_seen, entry_seen, later, for_each_as, for_each_push, unlisted_append}
 
 -- one call, and then another
 pub goes_then : (One Two Both : (old new : List Step) → Type 0) (before mid after : List Step → Type 0)
@@ -44,21 +44,55 @@ goes_so One Two before after so goes = record {
 pub goes_none : (Does : (old new : List Step) → Type 0) (before : List Step → Type 0) → ((past : List Step) → Does past past) → Goes before before Does
 goes_none Does before still = record { from = λ new went. (new, went, still new) }
 
-said_now : {L : Type 0} (Says : (old new : List Step) → Visit → List L → Type 0) (Does : (old new : List Step) → Type 0) → ((past : List Step) → Does past past)
-    → (old new : List Step) (visit : Visit) (lines : List L) → Says old new visit lines → IsSaidBetween Says Does old new visit lines
-said_now Says Does still old new visit lines said = record { from = old; to = new; before = still old; says = said; after = still new }
+-- This was said of a visit, between two moments.
+pub record IsSaidBetween {L : Type 0} (Says : (old new : List Step) → Visit → List L → Type 0) (Does : (old new : List Step) → Type 0)
+    (old new : List Step) (visit : Visit) (lines : List L) : Type 0 where
+  pub from : List Step
+  pub to : List Step
+  pub before : Does old from
+  pub says : Says from to visit lines
+  pub after : Does to new
 
--- what was said between two moments was so between earlier and later ones
-said_between : {L : Type 0} (Says : (old new : List Step) → Visit → List L → Type 0) (Does : (old new : List Step) → Type 0)
-    → ((old mid new : List Step) → Does old mid → Does mid new → Does old new) → (old from to new : List Step) → Does old from → Does to new
-    → (visit : Visit) (lines : List L) → IsSaidBetween Says Does from to visit lines → IsSaidBetween Says Does old new visit lines
-said_between Says Does onward old from to new before after visit lines said = record {
-  from = said.from;
-  to = said.to;
-  before = onward old from said.from before said.before;
-  says = said.says;
-  after = onward said.to to new said.after after;
-}
+-- the same was said where less is known of what was done
+pub said_as : {L : Type 0} (Says : (old new : List Step) → Visit → List L → Type 0) (One Two Rests Leaves : (old new : List Step) → Type 0)
+    → ((old new : List Step) → One old new → Two old new) → ((old new : List Step) → Rests old new → Leaves old new)
+    → (old new : List Step) (visits : List Visit) (lines : List L) → AreSaid Says One Rests old new visits lines → AreSaid Says Two Leaves old new visits lines
+said_as Says One Two Rests Leaves so rests old new [] lines said = (said.0, rests old new said.1)
+said_as Says One Two Rests Leaves so rests old new (visit ∷ visits) lines said =
+    let first = said.3 in (
+      said.0,
+      said.1,
+      said.2,
+      record { from = first.from; before = rests old first.from first.before; does = so first.from said.0 first.does; says = first.says },
+      said_as Says One Two Rests Leaves so rests said.0 new visits said.2 said.4,
+      said.5,
+    )
+
+module _ {L : Type 0} (Says : (old new : List Step) → Visit → List L → Type 0) (Does Between : (old new : List Step) → Type 0)
+    (onward : (old mid new : List Step) → Does old mid → Does mid new → Does old new) (resting : (old new : List Step) → Between old new → Does old new) where
+  -- what is done by visits, one after another
+  pub said_does : (old new : List Step) (visits : List Visit) (lines : List L) → AreSaid Says Does Between old new visits lines → Does old new
+  said_does old new [] lines said = resting old new said.1
+  said_does old new (visit ∷ visits) lines said =
+      let first = said.3 in
+      onward old said.0 new (onward old first.from said.0 (resting old first.from first.before) first.does) (said_does said.0 new visits said.2 said.4)
+
+  -- what was said of each visit was so between these moments
+  pub said_each : (old new : List Step) (visits : List Visit) (lines : List L) → AreSaid Says Does Between old new visits lines
+      → ForEach (IsSaidBetween Says Does old new) visits lines
+  said_each old new [] lines said = said.0
+  said_each old new (visit ∷ visits) lines said =
+      let first = said.3 in
+      let before = resting old first.from first.before in
+      let done = onward old first.from said.0 before first.does in (
+        said.1,
+        said.2,
+        record { from = first.from; to = said.0; before = before; says = first.says; after = said_does said.0 new visits said.2 said.4 },
+        for_each_as (IsSaidBetween Says Does said.0 new) (IsSaidBetween Says Does old new) visits said.2
+            (λ item part is. record { from = is.from; to = is.to; before = onward old said.0 is.from done is.before; says = is.says; after = is.after })
+            (said_each said.0 new visits said.2 said.4),
+        said.5,
+      )
 
 -- what is told of an entry that is no folder
 pub entry_alone : (Since : (past at : List Step) → Type 0) (past : List Step) → Since past past → (root path : Path) (levels : ℕ) (kind : FileKind)
@@ -124,9 +158,10 @@ is_nothing items answer is empty = none_in items ((Decides-eqb (length items) 0)
 
 module _ {V L T : Type 0} (tells : V → List L → (out0 out : Device) → (tally0 tally : T) → Type 0)
     (stops : V → (out0 out : Device) → DeviceFault → Type 0) (says : V → (old new : List Step) → Visit → List L → Type 0)
-    (does : V → Bool → (old new : List Step) → Type 0) (listless : V → Type 0) (laws : VisitLaws tells stops does) (visitor : V) (root : Path) where
+    (does : V → Bool → (old new : List Step) → Type 0) (between : V → (old new : List Step) → Type 0) (listless : V → Type 0)
+    (laws : VisitLaws tells stops does between) (visitor : V) (root : Path) where
   abbrev Walk : (Are : (old new : List Step) → List Visit → Type 0) (before after : List Step → Type 0) (out0 out : Device) (tally0 tally : T) → Type 0
-  Walk Are before after out0 out tally0 tally = TellsWalk (tells visitor) (says visitor) (does visitor true) (listless visitor) root Are before after out0 out tally0 tally
+  Walk Are before after out0 out tally0 tally = TellsWalk (tells visitor) (says visitor) (does visitor true) (between visitor) (listless visitor) root Are before after out0 out tally0 tally
 
   abbrev Visited : Visit → (before after : List Step → Type 0) (out0 out : Device) (tally0 tally : T) → Type 0
   Visited visit before after out0 out tally0 tally = TellsVisit (tells visitor) (says visitor) (does visitor true) (listless visitor) visit before after out0 out tally0 tally
@@ -146,18 +181,59 @@ module _ {V L T : Type 0} (tells : V → List L → (out0 out : Device) → (tal
   abbrev OfFolders : List (Bor Path) → (old new : List Step) → List Visit → Type 0
   OfFolders folders old new visits = ForEach (AreEntriesBelow (Moment new) old root) folders visits
 
+  abbrev Said : (old new : List Step) → List Visit → List L → Type 0
+  Said old new visits lines = AreSaid (says visitor) (does visitor true) (between visitor) old new visits lines
+
+  -- something before visits, of which nothing is told
+  said_before : (old mid new : List Step) (visits : List Visit) (lines : List L) → between visitor old mid → Said mid new visits lines → Said old new visits lines
+  said_before old mid new [] lines rests said = (said.0, laws.rests_on visitor old mid new rests said.1)
+  said_before old mid new (visit ∷ visits) lines rests said =
+      let first = said.3 in (
+        said.0,
+        said.1,
+        said.2,
+        record { from = first.from; before = laws.rests_on visitor old mid first.from rests first.before; does = first.does; says = first.says },
+        said.4,
+        said.5,
+      )
+
+  -- visits, and then more
+  said_more : (old mid new : List Step) (visits more : List Visit) (lines others : List L) → Said old mid visits lines → Said mid new more others
+      → Said old new (visits ++ more) (lines ++ others)
+  said_more old mid new [] more lines others none said =
+      subst (λ l. Said old new more (l ++ others)) (sym none.0) (said_before old mid new more others none.1 said)
+  said_more old mid new (visit ∷ visits) more lines others one two = (
+    one.0,
+    one.1,
+    one.2 ++ others,
+    one.3,
+    said_more one.0 mid new visits more one.2 others one.4 two,
+    ap (λ l. l ++ others) one.5 ∙ append_assoc one.1 one.2 others,
+  )
+
+  -- one visit
+  said_one : (old new : List Step) (visit : Visit) (lines : List L) → does visitor true old new → says visitor old new visit lines → Said old new (visit ∷ []) lines
+  said_one old new visit lines done said = (
+    new,
+    lines,
+    [],
+    record { from = old; before = laws.rests visitor old; does = done; says = said },
+    (refl, laws.rests visitor new),
+    sym (append-nil lines),
+  )
+
+  -- something after visits, of which nothing is told
+  said_after : (old mid new : List Step) (visits : List Visit) (lines : List L) → Said old mid visits lines → between visitor mid new → Said old new visits lines
+  said_after old mid new [] lines said rests = (said.0, laws.rests_on visitor old mid new said.1 rests)
+  said_after old mid new (visit ∷ visits) lines said rests = (said.0, said.1, said.2, said.3, said_after said.0 mid new visits said.2 said.4 rests, said.5)
+
   walked_more : (One Two Both : (old new : List Step) → List Visit → Type 0) (visits more : List Visit) (lines others : List L) (old mid new : List Step)
       → ((old mid new : List Step) (visits more : List Visit) → does visitor true old mid → does visitor true mid new → One old mid visits → Two mid new more → Both old new (visits ++ more))
-      → IsWalked (says visitor) (does visitor true) (listless visitor) root One visits lines old mid → IsWalked (says visitor) (does visitor true) (listless visitor) root Two more others mid new
-      → IsWalked (says visitor) (does visitor true) (listless visitor) root Both (visits ++ more) (lines ++ others) old new
+      → IsWalked (says visitor) (does visitor true) (between visitor) (listless visitor) root One visits lines old mid → IsWalked (says visitor) (does visitor true) (between visitor) (listless visitor) root Two more others mid new
+      → IsWalked (says visitor) (does visitor true) (between visitor) (listless visitor) root Both (visits ++ more) (lines ++ others) old new
   walked_more One Two Both visits more lines others old mid new so one two = record {
     are = so old mid new visits more one.does two.does one.are two.are;
-    says =
-        let Said : (old new : List Step) → Visit → List L → Type 0 = IsSaidBetween (says visitor) (does visitor true) in
-        let wider = said_between (says visitor) (does visitor true) (laws.onward visitor true) in
-        for_each_append (Said old new) visits more lines others
-        (for_each_as (Said old mid) (Said old new) visits lines (wider old old mid new (laws.still visitor old) two.does) one.says)
-        (for_each_as (Said mid new) (Said old new) more others (wider old mid new new one.does (laws.still visitor new)) two.says);
+    says = said_more old mid new visits more lines others one.says two.says;
     does = laws.onward visitor true old mid new one.does two.does;
     unlisted = λ none. two.unlisted none ∙ (ap (λ l. l ++ unlisted_in root more) (one.unlisted none)
         ∙ (append_assoc (unlisted_after old) (unlisted_in root visits) (unlisted_in root more)
@@ -178,20 +254,21 @@ module _ {V L T : Type 0} (tells : V → List L → (out0 out : Device) → (tal
   -- what is done of which nothing is told
   pub walk_quiet : (Are : (old new : List Step) → List Visit → Type 0) (before after : List Step → Type 0) (out0 out : Device) (tally0 tally : T)
       → ((old new : List Step) → after new → does visitor true old new → Are old new []) → tells visitor [] out0 out tally0 tally
-      → Goes before after (VisitDoes (does visitor true) (listless visitor)) → Walk Are before after out0 out tally0 tally
+      → Goes before after (VisitDoes (between visitor) (listless visitor)) → Walk Are before after out0 out tally0 tally
   walk_quiet Are before after out0 out tally0 tally so told goes = record {
     visits = [];
     lines = [];
     told = told;
     goes = record {
       from = λ new went.
-          let sooner = goes.from new went in (
+          let sooner = goes.from new went in
+          let done = laws.resting visitor sooner.0 new sooner.2.does in (
             sooner.0,
             sooner.1,
             record {
-              are = so sooner.0 new went sooner.2.does;
-              says = refl;
-              does = sooner.2.does;
+              are = so sooner.0 new went done;
+              says = (refl, sooner.2.does);
+              does = done;
               unlisted = λ none. sooner.2.lists_none none ∙ sym (append-nil (unlisted_after sooner.0));
             },
           );
@@ -210,7 +287,7 @@ module _ {V L T : Type 0} (tells : V → List L → (out0 out : Device) → (tal
         let is = so old new first in
         record {
           are = is.1;
-          says = refl;
+          says = (refl, subst (λ l. between visitor old l) (sym is.0) (laws.rests visitor old));
           does = subst (λ l. does visitor true old l) (sym is.0) (laws.still visitor old);
           unlisted = λ none. ap unlisted_after is.0 ∙ sym (append-nil (unlisted_after old));
         }) goes;
@@ -227,7 +304,7 @@ module _ {V L T : Type 0} (tells : V → List L → (out0 out : Device) → (tal
     told = made.told;
     goes = goes_so _ _ before after (λ old new went is. record {
       are = so old new went is.done.does;
-      says = for_each_one (IsSaidBetween (says visitor) (does visitor true) old new) visit made.lines (said_now (says visitor) (does visitor true) (laws.still visitor) old new visit made.lines is.says);
+      says = said_one old new visit made.lines is.done.does is.says;
       does = is.done.does;
       unlisted = λ none. is.done.lists_none none ∙ (sym (append-nil (unlisted_after old)) ∙ ap (λ l. unlisted_after old ++ l) (sym listed));
     }) made.goes;
@@ -245,13 +322,11 @@ module _ {V L T : Type 0} (tells : V → List L → (out0 out : Device) → (tal
     told = visit.told;
     goes = goes_then _ _ _ before mid after (λ old middle new fails is.
         let so = without place old middle fails in
-        let done = subst (λ l. does visitor true old l) (sym so) (laws.unlisted visitor old place) in
+        let rests = subst (λ l. between visitor old l) (sym so) (laws.unlisted visitor old place) in
         record {
           are = inl refl;
-          says = for_each_one (IsSaidBetween (says visitor) (does visitor true) old new) (WithoutList folder) visit.lines
-              (said_between (says visitor) (does visitor true) (laws.onward visitor true) old middle new new done (laws.still visitor new) (WithoutList folder) visit.lines
-              (said_now (says visitor) (does visitor true) (laws.still visitor) middle new (WithoutList folder) visit.lines is.says));
-          does = laws.onward visitor true old middle new done is.done.does;
+          says = said_before old middle new (WithoutList folder ∷ []) visit.lines rests (said_one middle new (WithoutList folder) visit.lines is.done.does is.says);
+          does = laws.onward visitor true old middle new (laws.resting visitor old middle rests) is.done.does;
           unlisted = λ none. is.done.lists_none none ∙ (ap unlisted_after so ∙ ap (λ p. unlisted_after old ++ p ∷ []) at);
         }) lists visit.goes;
   }
@@ -269,7 +344,7 @@ module _ {V L T : Type 0} (tells : V → List L → (out0 out : Device) → (tal
   -- a walk, after something of which nothing is told
   walk_after : (Are Seen : (old new : List Step) → List Visit → Type 0) (before mid after : List Step → Type 0) (out0 out1 out : Device) (tally0 tally1 tally : T)
       → ((old mid new : List Step) (visits : List Visit) → does visitor true old mid → Are mid new visits → Seen old new visits)
-      → tells visitor [] out0 out1 tally0 tally1 → Goes before mid (VisitDoes (does visitor true) (listless visitor))
+      → tells visitor [] out0 out1 tally0 tally1 → Goes before mid (VisitDoes (between visitor) (listless visitor))
       → Walk Are mid after out1 out tally1 tally → Walk Seen before after out0 out tally0 tally
   walk_after Are Seen before mid after out0 out1 out tally0 tally1 tally so told goes walk =
       walk_more (λ old new visits. visits ≡ []) Are Seen before mid after out0 out1 out tally0 tally1 tally
@@ -301,9 +376,9 @@ module _ {V L T : Type 0} (tells : V → List L → (out0 out : Device) → (tal
 
   -- one that was begun with before
   pub opens_after : {F : Type 0} (levels : ℕ) (folder : Path) (opened : Option (Opened F)) (before mid after : List Step → Type 0) (out0 out1 out : Device) (tally0 tally1 tally : T)
-      → tells visitor [] out0 out1 tally0 tally1 → Goes before mid (VisitDoes (does visitor true) (listless visitor))
-      → OpensFolder (tells visitor) (says visitor) (does visitor true) (listless visitor) root levels folder opened mid after out1 out tally1 tally
-      → OpensFolder (tells visitor) (says visitor) (does visitor true) (listless visitor) root levels folder opened before after out0 out tally0 tally
+      → tells visitor [] out0 out1 tally0 tally1 → Goes before mid (VisitDoes (between visitor) (listless visitor))
+      → OpensFolder (tells visitor) (says visitor) (does visitor true) (between visitor) (listless visitor) root levels folder opened mid after out1 out tally1 tally
+      → OpensFolder (tells visitor) (says visitor) (does visitor true) (between visitor) (listless visitor) root levels folder opened before after out0 out tally0 tally
   opens_after levels folder None before mid after out0 out1 out tally0 tally1 tally told goes walk =
       walk_after (OfFolder levels folder) (OfFolder levels folder)
       before mid after out0 out1 out tally0 tally1 tally
@@ -389,19 +464,18 @@ module _ {V L T : Type 0} (tells : V → List L → (out0 out : Device) → (tal
 
   -- what is done at the end of a walk, of which nothing is told
   walked_left : (Are : (old new : List Step) → List Visit → Type 0) (visits : List Visit) (lines : List L) (old mid new : List Step)
-      → (Are old mid visits → Are old new visits) → IsWalked (says visitor) (does visitor true) (listless visitor) root Are visits lines old mid → VisitDoes (does visitor true) (listless visitor) mid new
-      → IsWalked (says visitor) (does visitor true) (listless visitor) root Are visits lines old new
+      → (Are old mid visits → Are old new visits) → IsWalked (says visitor) (does visitor true) (between visitor) (listless visitor) root Are visits lines old mid → VisitDoes (between visitor) (listless visitor) mid new
+      → IsWalked (says visitor) (does visitor true) (between visitor) (listless visitor) root Are visits lines old new
   walked_left Are visits lines old mid new so one two = record {
     are = so one.are;
-    says = for_each_as (IsSaidBetween (says visitor) (does visitor true) old mid) (IsSaidBetween (says visitor) (does visitor true) old new) visits lines
-        (said_between (says visitor) (does visitor true) (laws.onward visitor true) old old mid new (laws.still visitor old) two.does) one.says;
-    does = laws.onward visitor true old mid new one.does two.does;
+    says = said_after old mid new visits lines one.says two.does;
+    does = laws.onward visitor true old mid new one.does (laws.resting visitor mid new two.does);
     unlisted = λ none. two.lists_none none ∙ one.unlisted none;
   }
 
   pub walk_left : (Are : (old new : List Step) → List Visit → Type 0) (before mid after : List Step → Type 0) (out0 out : Device) (tally0 tally1 tally : T)
       → ((old mid new : List Step) (visits : List Visit) → Are old mid visits → Are old new visits) → Walk Are before mid out0 out tally0 tally1 → ((at : Device) → tells visitor [] at at tally1 tally)
-      → Goes mid after (VisitDoes (does visitor true) (listless visitor)) → Walk Are before after out0 out tally0 tally
+      → Goes mid after (VisitDoes (between visitor) (listless visitor)) → Walk Are before after out0 out tally0 tally
   walk_left Are before mid after out0 out tally0 tally1 tally so walk told goes = record {
     visits = walk.visits;
     lines = walk.lines;
@@ -448,7 +522,8 @@ module _ {V L T : Type 0} (tells : V → List L → (out0 out : Device) → (tal
       by (Ok x) old new lists = same old new lists.0
       by (Err tree_fault.Memory) old new lists = same old new lists
       by (Err tree_fault.Failed) old new lists =
-          subst (λ l. does visitor true old l) (sym (lists.2 ∙ ap (λ l. Failed ∷ l) lists.1)) (laws.unlisted visitor old place)
+          subst (λ l. does visitor true old l) (sym (lists.2 ∙ ap (λ l. Failed ∷ l) lists.1))
+          (laws.resting visitor old (Failed ∷ Unlisted place ∷ old) (laws.unlisted visitor old place))
 
   -- before the first folder that is asked for
   pub no_folder_yet : (before : List Step → Type 0) (out : Device) (tally : T) → Walk (OfFolders []) before before out out tally tally
@@ -498,11 +573,11 @@ holds_listed {N = N} holds laws visitor tally place names result before after he
 
 -- a walk of entries that stay as they were
 pub tells_now : {L T : Type 0} (Tells : List L → (out0 out : Device) → (tally0 tally : T) → Type 0) (Says : (old new : List Step) → Visit → List L → Type 0)
-    (Does : (old new : List Step) → Type 0) (Listless : Type 0) (root : Path) (folders : List (Bor Path)) (before after : List Step → Type 0) (out0 out : Device) (tally0 tally : T)
+    (Does Between : (old new : List Step) → Type 0) (Listless : Type 0) (root : Path) (folders : List (Bor Path)) (before after : List Step → Type 0) (out0 out : Device) (tally0 tally : T)
     → ((old new : List Step) → Does old new → IsSameWithin root old new)
-    → TellsWalk Tells Says Does Listless root (λ past new. AreEntriesBetween Does past new root folders) before after out0 out tally0 tally
-    → TellsWalk Tells Says Does Listless root (λ past new. AreEntriesOf past root folders) before after out0 out tally0 tally
-tells_now Tells Says Does Listless root folders before after out0 out tally0 tally same walk = record {
+    → TellsWalk Tells Says Does Between Listless root (λ past new. AreEntriesBetween Does past new root folders) before after out0 out tally0 tally
+    → TellsWalk Tells Says Does Between Listless root (λ past new. AreEntriesOf past root folders) before after out0 out tally0 tally
+tells_now Tells Says Does Between Listless root folders before after out0 out tally0 tally same walk = record {
   visits = walk.visits;
   lines = walk.lines;
   told = walk.told;

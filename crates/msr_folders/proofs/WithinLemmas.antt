@@ -55,7 +55,7 @@ pub within_laws : {V E T : Type 0} (is_entry : V → E → Type 0) (is_line : V 
     (one two : V → Path) →
     VisitLaws {V = V} {L = E} {T = T} (λ visitor. TellsThese (is_entry visitor) (is_line visitor) is_tally)
     (λ visitor out0 out. StopsAt (TellsInPart (is_entry visitor) (is_line visitor) out0 out) out0 out)
-    (λ visitor goes_on. ChangesWithin (one visitor) (two visitor))
+    (λ visitor goes_on. ChangesWithin (one visitor) (two visitor)) (λ visitor. ChangesWithin (one visitor) (two visitor))
 within_laws is_entry is_line is_tally one two = record {
   calm = λ visitor lines out0 out tally0 tally these. these.told.calm;
   none = λ visitor. these_none (is_entry visitor) (is_line visitor) is_tally;
@@ -66,5 +66,8 @@ within_laws is_entry is_line is_tally one two = record {
   still = λ visitor. within_none (one visitor) (two visitor);
   onward = λ visitor goes_on. within_then (one visitor) (two visitor);
   ends = λ visitor old new changes. changes;
+  rests = λ visitor. within_none (one visitor) (two visitor);
+  rests_on = λ visitor. within_then (one visitor) (two visitor);
+  resting = λ visitor old new changes. changes;
   unlisted = λ visitor. within_unlisted (one visitor) (two visitor);
 }

@@ -20,12 +20,12 @@ pub record AreSoFar (Since : (past at : List Step) → Type 0) (root : Path) (le
 
 -- no entry was visited yet; or the folder has no list, or is left alone, and that was told
 abbrev pub OpensFolder : {F L T : Type 0} → (Tells : List L → (out0 out : Device) → (tally0 tally : T) → Type 0)
-    → (Says : (old new : List Step) → Visit → List L → Type 0) → (Does : (old new : List Step) → Type 0) → (Listless : Type 0) → (root : Path)
+    → (Says : (old new : List Step) → Visit → List L → Type 0) → (Does Between : (old new : List Step) → Type 0) → (Listless : Type 0) → (root : Path)
     → (levels : ℕ) → (folder : Path) → Option (Opened F) → (before after : List Step → Type 0) → (out0 out : Device) → (tally0 tally : T) → Type 0
-OpensFolder Tells Says Does Listless root levels folder None before after out0 out tally0 tally =
-    TellsWalk Tells Says Does Listless root (λ past new. AreEntries (IsMoment Does new) past root levels folder) before after out0 out tally0 tally
-OpensFolder Tells Says Does Listless root levels folder (Some opened) before after out0 out tally0 tally =
-    TellsWalk Tells Says Does Listless root (λ past new. AreSoFar (IsMoment Does new) root levels folder (listed opened.names.items) [] past) before after out0 out tally0 tally
+OpensFolder Tells Says Does Between Listless root levels folder None before after out0 out tally0 tally =
+    TellsWalk Tells Says Does Between Listless root (λ past new. AreEntries (IsMoment Does new) past root levels folder) before after out0 out tally0 tally
+OpensFolder Tells Says Does Between Listless root levels folder (Some opened) before after out0 out tally0 tally =
+    TellsWalk Tells Says Does Between Listless root (λ past new. AreSoFar (IsMoment Does new) root levels folder (listed opened.names.items) [] past) before after out0 out tally0 tally
 
 -- What is known of an entry with so many levels of folders below: if there are none, nothing, and it is no folder.
 pub record IsKindAt (went : List Step → Type 0) (place : Path) (levels : ℕ) (kind : FileKind) : Type 0 where

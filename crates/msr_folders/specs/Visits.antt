@@ -13,7 +13,7 @@ AreLines is_line (entry ∷ entries) lines = (line rest : List ℕ)
     × is_line entry line × AreLines is_line entries rest × (lines ≡ line ++ rest)
 
 -- Some more entries were told: their lines were printed, and they are counted.
-pub record Tells {E T : Type 0} (is_entry : E → Type 0) (is_line : E → List ℕ → Type 0) (is_tally : List E → T → Type 0)
+pub record TellsMore {E T : Type 0} (is_entry : E → Type 0) (is_line : E → List ℕ → Type 0) (is_tally : List E → T → Type 0)
     (out0 out : Device) (tally0 tally : T) : Type 0 where
   pub entries : List E
   pub lines : List ℕ
@@ -26,7 +26,7 @@ pub record Tells {E T : Type 0} (is_entry : E → Type 0) (is_line : E → List 
 -- These entries were told.
 pub record TellsThese {E T : Type 0} (is_entry : E → Type 0) (is_line : E → List ℕ → Type 0) (is_tally : List E → T → Type 0)
     (entries : List E) (out0 out : Device) (tally0 tally : T) : Type 0 where
-  pub told : Tells is_entry is_line is_tally out0 out tally0 tally
+  pub told : TellsMore is_entry is_line is_tally out0 out tally0 tally
   pub are : told.entries ≡ entries
 
 -- A prefix of the lines of some more entries was printed.

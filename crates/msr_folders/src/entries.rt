@@ -39,6 +39,9 @@ pub trait EntryVisitor {
     /// What is done to the tree, by visits after which the walk goes on (`true`), or the last of which stops it.
     ghost does: { Self → Bool → List Step → List Step → Type 0 };
 
+    /// What is done between visits, where nothing is told.
+    ghost between: { Self → List Step → List Step → Type 0 };
+
     /// No visit lists a folder.
     ghost listless: { Self → Type 0 };
 
@@ -59,7 +62,7 @@ pub trait EntryVisitor {
     ) -> Result<Option<Self::Folder>, DeviceFault>
         requires count { CanCountCall (O.device out.old) }
         requires holds { HoldsAt (T.went tree.old) (holds self.now tally.old) }
-        ensures told { IfOk result (λ entered. TellsEntering (tells self.now) (says self.now) (does self.now true) (listless self.now)
+        ensures told { IfOk result (λ entered. TellsEntering (tells self.now) (says self.now) (does self.now true) (between self.now) (listless self.now)
             folder.now entered (T.went tree.old) (T.went tree.new) (O.device out.old) (O.device out.new) tally.old tally.new) }
         ensures stops { IfErr result (stops self.now (O.device out.old) (O.device out.new)) }
         ensures does { Goes (T.went tree.old) (T.went tree.new) (VisitDoes (does self.now (is_ok result)) (listless self.now)) }
@@ -118,7 +121,7 @@ pub trait EntryVisitor {
         ensures does { Goes (T.went tree.old) (T.went tree.new) (VisitDoes (does self.now (is_ok result)) (listless self.now)) }
         ensures holds { HoldsAt (T.went tree.new) (holds self.now tally.new) };
 
-    ghost laws: { VisitLaws tells stops does };
+    ghost laws: { VisitLaws tells stops does between };
 
     ghost listed: { HoldsListed holds };
 }
@@ -164,7 +167,7 @@ impl<V: EntryVisitor> EntryWalk<'_, V> {
         requires root { V.root self.now.visitor.now ≡ self.now.root.now }
         requires holds { HoldsAt (T.went tree.old) (V.holds self.now.visitor.now tally.old) }
         ensures told { IfOk result (λ opened. (levels : ℕ) → OpensFolder (V.tells self.now.visitor.now) (V.says self.now.visitor.now)
-            (V.does self.now.visitor.now true) (V.listless self.now.visitor.now) self.now.root.now levels folder.now opened
+            (V.does self.now.visitor.now true) (V.between self.now.visitor.now) (V.listless self.now.visitor.now) self.now.root.now levels folder.now opened
             (T.went tree.old) (T.went tree.new) (O.device out.old) (O.device out.new) tally.old tally.new) }
         ensures stops { IfErr result (V.stops self.now.visitor.now (O.device out.old) (O.device out.new)) }
         ensures does { Goes (T.went tree.old) (T.went tree.new) (V.does self.now.visitor.now (is_ok result)) }
@@ -195,7 +198,7 @@ impl<V: EntryVisitor> EntryWalk<'_, V> {
         requires root { V.root self.now.visitor.now ≡ self.now.root.now }
         requires holds { HoldsAt (T.went tree.old) (V.holds self.now.visitor.now tally.old) }
         ensures told { IfOk result (λ opened. OpensFolder (V.tells self.now.visitor.now) (V.says self.now.visitor.now)
-            (V.does self.now.visitor.now true) (V.listless self.now.visitor.now) self.now.root.now levels folder.now opened
+            (V.does self.now.visitor.now true) (V.between self.now.visitor.now) (V.listless self.now.visitor.now) self.now.root.now levels folder.now opened
             (T.went tree.old) (T.went tree.new) (O.device out.old) (O.device out.new) tally.old tally.new) }
         ensures stops { IfErr result (V.stops self.now.visitor.now (O.device out.old) (O.device out.new)) }
         ensures does { Goes (T.went tree.old) (T.went tree.new) (V.does self.now.visitor.now (is_ok result)) }
@@ -268,7 +271,7 @@ impl<V: EntryVisitor> EntryWalk<'_, V> {
         requires root { V.root self.now.visitor.now ≡ self.now.root.now }
         requires holds { HoldsAt (T.went tree.old) (V.holds self.now.visitor.now tally.old) }
         ensures told { OnOk result (TellsWalk (V.tells self.now.visitor.now) (V.says self.now.visitor.now)
-            (V.does self.now.visitor.now true) (V.listless self.now.visitor.now) self.now.root.now
+            (V.does self.now.visitor.now true) (V.between self.now.visitor.now) (V.listless self.now.visitor.now) self.now.root.now
             (λ past new. AreOfEntry (IsMoment (V.does self.now.visitor.now true) new) past self.now.root.now levels path.now)
             (T.went tree.old) (T.went tree.new) (O.device out.old) (O.device out.new) tally.old tally.new) }
         ensures stops { IfErr result (V.stops self.now.visitor.now (O.device out.old) (O.device out.new)) }
@@ -296,7 +299,7 @@ impl<V: EntryVisitor> EntryWalk<'_, V> {
         requires root { V.root self.now.visitor.now ≡ self.now.root.now }
         requires holds { HoldsAt (T.went tree.old) (V.holds self.now.visitor.now tally.old) }
         ensures told { OnOk result (TellsWalk (V.tells self.now.visitor.now) (V.says self.now.visitor.now)
-            (V.does self.now.visitor.now true) (V.listless self.now.visitor.now) self.now.root.now
+            (V.does self.now.visitor.now true) (V.between self.now.visitor.now) (V.listless self.now.visitor.now) self.now.root.now
             (λ past new. AreEntries (IsMoment (V.does self.now.visitor.now true) new) past self.now.root.now levels folder.now)
             (T.went tree.old) (T.went tree.new) (O.device out.old) (O.device out.new) tally.old tally.new) }
         ensures stops { IfErr result (V.stops self.now.visitor.now (O.device out.old) (O.device out.new)) }
@@ -325,7 +328,7 @@ pub fn visit_entries<T: Tree, V: EntryVisitor, O: Sink>(
     requires root { V.root walk.now.visitor.now ≡ walk.now.root.now }
     requires holds { HoldsAt (T.went tree.old) (V.holds walk.now.visitor.now tally.old) }
     ensures told { OnOk result (TellsWalk (V.tells walk.now.visitor.now) (V.says walk.now.visitor.now)
-        (V.does walk.now.visitor.now true) (V.listless walk.now.visitor.now) walk.now.root.now
+        (V.does walk.now.visitor.now true) (V.between walk.now.visitor.now) (V.listless walk.now.visitor.now) walk.now.root.now
         (λ past new. AreEntriesBetween (V.does walk.now.visitor.now true) past new walk.now.root.now walk.now.below.now)
         (T.went tree.old) (T.went tree.new) (O.device out.old) (O.device out.new) tally.old tally.new) }
     ensures stops { IfErr result (V.stops walk.now.visitor.now (O.device out.old) (O.device out.new)) }

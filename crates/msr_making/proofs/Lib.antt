@@ -8,6 +8,7 @@ pub mod Held
 pub mod Lefts
 pub mod Made
 pub mod Owns
+pub mod Resumed
 pub mod Seeking
 pub mod Sights
 pub mod Stamped

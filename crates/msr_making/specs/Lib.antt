@@ -6,6 +6,7 @@ pub mod Looking
 pub mod Making
 pub mod Parts
 pub mod Places
+pub mod Resuming
 pub mod Shrinking
 pub mod Stamping
 pub mod Told

@@ -98,7 +98,7 @@ module _ (on : Course) (work : DayWork) where
   }
 
   abbrev pub Walks : (below : List (Bor Path)) (before after : List Step → Type 0) (out0 out : Device) (old new : Progress) → Type 0
-  Walks below before after out0 out old new = TellsWalk TellsSaid (IsSaid on work) (TouchesDays on work) ⊥ (walked on work) (λ past new. AreEntriesBetween (TouchesDays on work) past new (walked on work) below)
+  Walks below before after out0 out old new = TellsWalk TellsSaid (IsSaid on work) (TouchesDays on work) (TouchesDays on work) ⊥ (walked on work) (λ past new. AreEntriesBetween (TouchesDays on work) past new (walked on work) below)
       before after out0 out old new
 
 pub both_courses : (work : DayWork) (below : List (Bor Path)) (before mid after : List Step → Type 0) (out0 out1 out : Device) (old between new : Progress)

@@ -148,7 +148,7 @@ IsSaid on work old new visit said = ((said ≡ None ∷ []) × (new ≡ old)) �
 
 -- these entries of a folder were visited, each as it was at a moment of the walk, and this was said
 abbrev pub IsCourse : Course → DayWork → List (Bor Path) → List Visit → List Said → (old new : List Step) → Type 0
-IsCourse on work below = IsWalked (IsSaid on work) (TouchesDays on work) ⊥ (walked on work) (λ past new. AreEntriesBetween (TouchesDays on work) past new (walked on work) below)
+IsCourse on work below = IsWalked (IsSaid on work) (TouchesDays on work) (TouchesDays on work) ⊥ (walked on work) (λ past new. AreEntriesBetween (TouchesDays on work) past new (walked on work) below)
 
 -- What is done of the tree in a function that answers what may be told.
 pub record DoesFor (on : Course) (work : DayWork) {A : Type 0} (Is : A → (old new : List Step) → Type 0) (result : Result A DeviceFault) (old new : List Step) : Type 0 where

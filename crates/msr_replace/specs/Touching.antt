@@ -50,6 +50,7 @@ touched_then on work old mid new one two = record {
 
 pub touching_laws : {V : Type 0} → (on : V → Course) → (work : V → DayWork)
     → VisitLaws {V = V} {L = Said} {T = Progress} (λ visitor. TellsSaid) (λ visitor. StopsTellingExchanges) (λ visitor goes_on. TouchesDays (on visitor) (work visitor))
+    (λ visitor. TouchesDays (on visitor) (work visitor))
 touching_laws {V = V} on work =
     let laws = stopping_laws IsExchangeEntry IsExchangeEntryLine HasCome (λ progress. is_some progress.failed) {V = V} in
     record {
@@ -61,6 +62,9 @@ touching_laws {V = V} on work =
       still = λ visitor. touched_still (on visitor) (work visitor);
       onward = λ visitor goes_on. touched_then (on visitor) (work visitor);
       ends = λ visitor old new touches. touches;
+      rests = λ visitor. touched_still (on visitor) (work visitor);
+      rests_on = λ visitor. touched_then (on visitor) (work visitor);
+      resting = λ visitor old new touches. touches;
       unlisted = λ visitor past folder. touched_parts (on visitor) (work visitor) [] past (Failed ∷ Unlisted folder ∷ past)
           (record { made = Failed ∷ Unlisted folder ∷ []; since = refl; spares = λ name none. ((tt, refl), refl) });
     }

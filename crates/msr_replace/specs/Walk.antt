@@ -3,7 +3,7 @@ use Rattle.std.specs.Prelude.{ℕ, Bool, List, Option, Result, Ok, Err, IfOk, St
 use Rattle.msr_devices.specs.Device.{Device, IsCalm, Takes}
 use Rattle.msr_devices.specs.declared.fault.DeviceFault.{DeviceFault}
 use Rattle.msr_folders.specs.Found.{Finds}
-use Rattle.msr_folders.specs.Visits.{IsWalk, IsWalkInPart, StopsTelling, Tells}
+use Rattle.msr_folders.specs.Visits.{IsWalk, IsWalkInPart, StopsTelling, TellsMore}
 use Rattle.msr_folders.specs.declared.found.WalkFound.{WalkFound}
 use Rattle.msr_replace.specs.Entries.{ExchangeEntry, IsExchangeEntry, IsExchangeEntryLine, IsStoppedAt, IsExchangeTally, exchange_count}
 use Rattle.msr_replace.specs.Lines.{IsExchangeLine}
@@ -26,7 +26,7 @@ pub record HasCome (entries : List ExchangeEntry) (progress : Progress) : Type 0
 
 -- some more entries were told: their lines were printed, and they are counted
 abbrev pub TellsExchanges : Device → Device → Progress → Progress → Type 0
-TellsExchanges out0 out old new = Tells IsExchangeEntry IsExchangeEntryLine HasCome out0 out old new
+TellsExchanges out0 out old new = TellsMore IsExchangeEntry IsExchangeEntryLine HasCome out0 out old new
 
 -- that was printed when the walk stopped
 abbrev pub StopsTellingExchanges : Device → Device → DeviceFault → Type 0

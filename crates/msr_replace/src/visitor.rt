@@ -280,6 +280,8 @@ impl<L: FolderLocks> EntryVisitor for Replacer<'_, L> {
 
     ghost does = { λ replacer _. TouchesDays replacer.course replacer.work };
 
+    ghost between = { λ replacer. TouchesDays replacer.course replacer.work };
+
     ghost listless = { λ _. ⊥ };
 
     ghost holds = { λ _ _ _. Unit {0} };

@@ -63,7 +63,7 @@ fn walk_course<L: FolderLocks, T: Tree, O: Sink>(
 ) -> Result<(), DeviceFault>
     requires apart { AreThreeFolders work.now }
     requires count { CanCountCall (O.device out.old) }
-    ensures told { OnOk result (TellsWalk TellsSaid (IsSaid course work.now) (TouchesDays course work.now) ⊥ (walked course work.now)
+    ensures told { OnOk result (TellsWalk TellsSaid (IsSaid course work.now) (TouchesDays course work.now) (TouchesDays course work.now) ⊥ (walked course work.now)
         (λ past new. AreEntriesBetween (TouchesDays course work.now) past new (walked course work.now) below.now)
         (T.went tree.old) (T.went tree.new) (O.device out.old) (O.device out.new) progress.old progress.new) }
     ensures stops { IfErr result (StopsTellingExchanges (O.device out.old) (O.device out.new)) }

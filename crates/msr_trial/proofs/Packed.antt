@@ -19,7 +19,7 @@ use Rattle.msr_tree.specs.Reads.{OnlyLooks}
 use Rattle.msr_tree.specs.Steps.{Path, Step, failures, seen}
 use Rattle.msr_tree.specs.declared.tree.TreeFault.{TreeFault}
 use Rattle.msr_tree.specs.declared.tree.TreeFault.TheVariants as fault
-use Rattle.msr_trial.specs.Days.{IsDayTried, IsTriedThere, OpensDay, TriesDay, TriesFile, WasTried, WasTriedFor}
+use Rattle.msr_trial.specs.Days.{IsDayTried, IsTriedThere, OpensTriedDay, TriesDay, TriesFile, WasTried, WasTriedFor}
 use Rattle.msr_trial.specs.Entries.{IsTriedAs}
 
 -- opening a file, and the look at it
@@ -27,15 +27,15 @@ module _ {R : Type 0} (path : Path) (device : R → Device) where
   abbrev Says : List Step → R → Type 0
   Says past reader = Opens path past (device reader)
 
-  opens_err : (why : TreeFault) (old new : List Step) → Tells Says (Err why) old new → OpensDay path device (Err why) old new
+  opens_err : (why : TreeFault) (old new : List Step) → Tells Says (Err why) old new → OpensTriedDay path device (Err why) old new
   opens_err fault.Failed old new tells = record { looks = tells_looks Says (Err fault.Failed) old new tells; opens = tells_failed Says old new tells }
   opens_err fault.Memory old new tells = record { looks = tells_looks Says (Err fault.Memory) old new tells; opens = tt }
 
-  pub not_opened : (why : TreeFault) (one two : List Step → Type 0) → Goes one two (Tells Says (Err why)) → Goes one two (OpensDay path device (Err why))
-  not_opened why one two goes = goes_so (Tells Says (Err why)) (OpensDay path device (Err why)) one two (λ old new went tells. opens_err why old new tells) goes
+  pub not_opened : (why : TreeFault) (one two : List Step → Type 0) → Goes one two (Tells Says (Err why)) → Goes one two (OpensTriedDay path device (Err why))
+  not_opened why one two goes = goes_so (Tells Says (Err why)) (OpensTriedDay path device (Err why)) one two (λ old new went tells. opens_err why old new tells) goes
 
   look_err : (reader : R) (why : TreeFault) (old mid new : List Step) → Tells Says (Ok reader) old mid → Tells (Looks path) (Err why) mid new
-      → OpensDay path device (Err why) old new
+      → OpensTriedDay path device (Err why) old new
   look_err reader fault.Failed old mid new opened tells = record {
     looks = looks_then old mid new (tells_looks Says (Ok reader) old mid opened) (tells_looks (Looks path) (Err fault.Failed) mid new tells);
     opens = subst (λ past. failures past < failures new) opened.0 (tells_failed (Looks path) mid new tells);
@@ -46,8 +46,8 @@ module _ {R : Type 0} (path : Path) (device : R → Device) where
   }
 
   pub not_looked : (reader : R) (why : TreeFault) (one mid two : List Step → Type 0) → Goes one mid (Tells Says (Ok reader)) → Goes mid two (Tells (Looks path) (Err why))
-      → Goes one two (OpensDay path device (Err why))
-  not_looked reader why one mid two first second = goes_then (Tells Says (Ok reader)) (Tells (Looks path) (Err why)) (OpensDay path device (Err why)) one mid two
+      → Goes one two (OpensTriedDay path device (Err why))
+  not_looked reader why one mid two first second = goes_then (Tells Says (Ok reader)) (Tells (Looks path) (Err why)) (OpensTriedDay path device (Err why)) one mid two
       (λ old middle new opened tells. look_err reader why old middle new opened tells) first second
 
 -- what was tried for a day, in its length

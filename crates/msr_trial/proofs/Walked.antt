@@ -6,7 +6,7 @@ use Rattle.msr_devices.specs.declared.fault.DeviceFault.TheVariants.{Failed, Mem
 use Rattle.msr_devices.proofs.Chaining.{steady_sound, takes_append}
 use Rattle.msr_folders.proofs.WalkLemmas as walks
 use Rattle.msr_folders.specs.Found.{Finds}
-use Rattle.msr_folders.specs.Visits.{IsWalk, StopsAt, StopsPrefix, Tells}
+use Rattle.msr_folders.specs.Visits.{IsWalk, StopsAt, StopsPrefix, TellsMore}
 use Rattle.msr_folders.specs.declared.found.WalkFound.{WalkFound}
 use Rattle.msr_folders.specs.declared.found.WalkFound.TheVariants.{Well, Unwell, NoDay}
 use Rattle.msr_options.specs.declared.days.DayOptions.{DayOptions}
@@ -24,7 +24,7 @@ use Rattle.msr_trial.specs.declared.walk.Tried.{Tried}
 
 -- some more entries were told
 abbrev pub TellsSome : DayOptions → Device → Device → Tally → Tally → Type 0
-TellsSome days out0 out tally0 tally = Tells (IsTrialEntry days) (IsTrialLine days) IsTally out0 out tally0 tally
+TellsSome days out0 out tally0 tally = TellsMore (IsTrialEntry days) (IsTrialLine days) IsTally out0 out tally0 tally
 
 -- a prefix of the text of a walk was printed
 abbrev pub WalksInPart : DayOptions → Device → Device → Type 0
@@ -53,10 +53,10 @@ stop_tells Part out0 out Memory h = ((λ e. absurd cc), (λ has_failed. absurd (
 -- what the counts find is what the entries tell
 pub tells_end : (entries : List Entry) (tally : Tally) (found : WalkFound) → IsTally entries tally
     → Finds tally.refused (min (tally.done + tally.young) (2 ^ 64 - 1)) found → TrialFinds entries found
-tells_end entries tally Well counts finds = rw (← counts.refused, ← counts.done, ← counts.young) (finds.0, grind (arith, finds.1))
+tells_end entries tally Well counts finds = rw (← counts.refused, ← counts.done, ← counts.young) (finds.0, omega (arith, finds.1))
 tells_end entries tally Unwell counts finds = rw (← counts.refused) finds
 tells_end entries tally NoDay counts finds =
-    rw (← counts.refused, ← counts.done, ← counts.young) (finds.0, omega (arith, finds.1), omega (arith, finds.1))
+    rw (← counts.refused, ← counts.done, ← counts.young) (finds.0, omega (arith, finds.1))
 
 pub walk_ends : (days : DayOptions) (out0 out1 out : Device) (tally0 tally : Tally) (tried : Tried) →
     (told : TellsSome days out0 out1 tally0 tally) → Takes out1 out (summary_by days false told.entries)

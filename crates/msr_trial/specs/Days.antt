@@ -84,7 +84,7 @@ IsDayOpened path device (Ok day) old new =
 IsDayOpened path device (Err Failed) old new = failures old < failures new
 IsDayOpened path device (Err Memory) old new = ⊤
 
-pub record OpensDay {R : Type 0} (path : Path) (device : R → Device) (result : Result (OpenDay R) TreeFault) (old new : List Step) : Type 0 where
+pub record OpensTriedDay {R : Type 0} (path : Path) (device : R → Device) (result : Result (OpenDay R) TreeFault) (old new : List Step) : Type 0 where
   pub looks : OnlyLooks old new
   pub opens : IsDayOpened path device result old new
 

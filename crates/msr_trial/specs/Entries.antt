@@ -52,5 +52,5 @@ IsTrialOfVisit root days old new (Left folder) entries = entries ≡ []
 -- What was told of an archive: of each entry, in order, by what its name led to. Nothing was changed.
 abbrev pub IsArchiveTried : Trying → List Visit → List Entry → (old new : List Step) → Type 0
 IsArchiveTried asked visits entries old new =
-    IsWalked (IsTrialOfVisit asked.root.now asked.days) OnlyReads (Unit {0}) asked.root.now
+    IsWalked (IsTrialOfVisit asked.root.now asked.days) OnlyReads OnlyReads (Unit {0}) asked.root.now
     (λ past new. AreEntriesOf past asked.root.now asked.below.items) visits entries old new

@@ -1,12 +1,12 @@
 -- What a dry run prints, and how it ends.
-use Rattle.std.specs.Prelude.{◌≡◌, ◌⊎◌, ◌<◌, ℕ, false, List, Result, Ok, Err}
+use Rattle.std.specs.Prelude.{◌≡◌, ◌+◌, ℕ, false, List, Result, Ok, Err}
 use Rattle.msr_devices.specs.Device.{Device, Takes}
 use Rattle.msr_devices.specs.declared.fault.DeviceFault.{DeviceFault}
 use Rattle.msr_folders.specs.Entries.{AreEntriesOf, Visit}
+use Rattle.msr_folders.specs.Found.{Finds}
 use Rattle.msr_folders.specs.Visits.{IsWalk, IsWalkInPart, StopsTelling, TellsThese}
 use Rattle.msr_folders.specs.Walks.{TellsWalk}
 use Rattle.msr_folders.specs.declared.found.WalkFound.{WalkFound}
-use Rattle.msr_folders.specs.declared.found.WalkFound.TheVariants.{Well, Unwell, NoDay}
 use Rattle.msr_options.specs.declared.days.DayOptions.{DayOptions}
 use Rattle.msr_options.specs.declared.task.Trying.{Trying}
 use Rattle.msr_outcomes.specs.Entries.{Entry, IsTally, counted, first_unopened, is_done, is_refused, is_young}
@@ -27,7 +27,7 @@ TellsTrial days = TellsThese (IsTrialEntry days) (IsTrialLine days) IsTally
 
 -- the visits of an archive were told
 abbrev pub TellsTrialOf : Trying → (before after : List Step → Type 0) (out0 out : Device) (tally0 tally : Tally) → Type 0
-TellsTrialOf asked = TellsWalk (TellsTrial asked.days) (IsTrialOfVisit asked.root.now asked.days) OnlyReads (Unit {0}) asked.root.now
+TellsTrialOf asked = TellsWalk (TellsTrial asked.days) (IsTrialOfVisit asked.root.now asked.days) OnlyReads OnlyReads (Unit {0}) asked.root.now
     (λ past new. AreEntriesOf past asked.root.now asked.below.items)
 
 -- that was printed when the walk stopped
@@ -36,9 +36,7 @@ StopsTrial days out0 out fault = StopsTelling (IsTrialEntry days) (IsTrialLine d
 
 -- a walk that came to its end tells whether an entry was refused, and if none was, whether there was a day, young or not
 abbrev pub TrialFinds : List Entry → WalkFound → Type 0
-TrialFinds entries Well = (counted is_refused entries ≡ 0) × ((0 < counted is_done entries) ⊎ (0 < counted is_young entries))
-TrialFinds entries Unwell = 0 < counted is_refused entries
-TrialFinds entries NoDay = (counted is_refused entries ≡ 0) × (counted is_done entries ≡ 0) × (counted is_young entries ≡ 0)
+TrialFinds entries found = Finds (counted is_refused entries) (counted is_done entries + counted is_young entries) found
 
 -- It tells too what could not be opened of the first day that was refused for that.
 pub record TellsTried (entries : List Entry) (tried : Tried) : Type 0 where

@@ -2,7 +2,7 @@
 ghost use Rattle.std.specs.Prelude.{IfOk};
 ghost use Rattle.msr_devices.specs.Device.{CanCountCall};
 ghost use Rattle.msr_tree.specs.Calls.{Goes};
-ghost use Rattle.msr_trial.specs.Days.{OpensDay, PacksFrom, TriesDay, TriesFile, WasTried, WasTriedFor};
+ghost use Rattle.msr_trial.specs.Days.{OpensTriedDay, PacksFrom, TriesDay, TriesFile, WasTried, WasTriedFor};
 
 use msr_devices::{FromWrite, Source};
 use msr_making::{DayFault, day_length, is_young, repack_day_of};
@@ -23,7 +23,7 @@ pub(crate) struct OpenDay<R: Source> {
 fn open_day<T: Tree>(tree: &mut T, input: &str) -> Result<OpenDay<T::Reader>, TreeFault>
     ensures count { IfOk result (λ day. CanCountCall (T.Reader.device day.source)) }
     ensures goes { Goes (T.went tree.old) (T.went tree.new)
-        (OpensDay input.now (λ reader. T.Reader.device reader) result) }
+        (OpensTriedDay input.now (λ reader. T.Reader.device reader) result) }
 {
     let source = tree.follow(input)?;
     match tree.look_through(input)? {

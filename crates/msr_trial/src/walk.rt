@@ -136,6 +136,8 @@ impl EntryVisitor for Trier<'_> {
 
     ghost does = { λ _ _. OnlyReads };
 
+    ghost between = { λ _. OnlyReads };
+
     ghost holds = { λ _ _ _. Unit {0} };
 
     ghost listless = { λ _. Unit {0} };

@@ -5,11 +5,11 @@ use Rattle.msr_devices.proofs.Chaining.{takes_append}
 use Rattle.msr_folders.proofs.EntryLemmas.{folders_same, for_each_as}
 use Rattle.msr_folders.proofs.ReadingLemmas.{reads_same}
 use Rattle.msr_folders.proofs.VisitLemmas.{these_more}
-use Rattle.msr_folders.proofs.WalkedLemmas.{goes_then}
+use Rattle.msr_folders.proofs.WalkedLemmas.{IsSaidBetween, goes_then, said_each}
 use Rattle.msr_folders.specs.Entries.{AreEntriesOf, Entry, Left, Passed, Visit, WithoutList, unlisted_in}
 use Rattle.msr_folders.specs.Paths.{joined}
 use Rattle.msr_folders.specs.Visits.{IsWalk}
-use Rattle.msr_folders.specs.Walks.{IsSaidBetween, IsWalked, TellsWalk}
+use Rattle.msr_folders.specs.Walks.{IsWalked, TellsWalk}
 use Rattle.msr_folders.specs.declared.found.WalkFound.{WalkFound}
 use Rattle.msr_folders.specs.Names.{day_name}
 use Rattle.msr_options.specs.Days.{names_for}
@@ -164,9 +164,9 @@ module _ (old from to new : List Step) (before : OnlyReads old from) (after : On
 
 -- both walks
 both_told : (archive : Verifying) (visits records : List Visit) (entries orphans : List JudgedEntry) (old mid new : List Step)
-    → IsWalked (IsToldOfRoot archive.known (names_asked archive.names) archive.folders.root.now archive.folders.out.now archive.folders.reports.now) OnlyReads (Unit {0}) archive.folders.root.now
+    → IsWalked (IsToldOfRoot archive.known (names_asked archive.names) archive.folders.root.now archive.folders.out.now archive.folders.reports.now) OnlyReads OnlyReads (Unit {0}) archive.folders.root.now
     (λ past new. AreEntriesOf past archive.folders.root.now archive.below.items) visits entries old mid
-    → IsWalked (IsToldOfOut archive.known archive.folders.root.now archive.folders.out.now) OnlyReads (Unit {0}) archive.folders.out.now
+    → IsWalked (IsToldOfOut archive.known archive.folders.root.now archive.folders.out.now) OnlyReads OnlyReads (Unit {0}) archive.folders.out.now
     (λ past new. AreEntriesOf past archive.folders.out.now archive.below.items) records orphans mid new
     → IsArchiveVerified archive.known (names_asked archive.names) archive.folders.root.now archive.folders.out.now archive.folders.reports.now archive.below.items entries orphans old new
 both_told archive visits records entries orphans old mid new one two =
@@ -177,19 +177,21 @@ both_told archive visits records entries orphans old mid new one two =
       visits = visits;
       are = one.are;
       told = for_each_as (IsSaidBetween (IsToldOfRoot archive.known (names_asked archive.names) root out reports) OnlyReads old mid) (IsToldOfRoot archive.known (names_asked archive.names) root out reports old new) visits entries
-          (λ visit part said. root_there old said.from said.to new said.before (reads_then said.to mid new said.after two.does) archive.known (names_asked archive.names) root out reports visit part said.says) one.says;
+          (λ visit part said. root_there old said.from said.to new said.before (reads_then said.to mid new said.after two.does) archive.known (names_asked archive.names) root out reports visit part said.says)
+          (said_each (IsToldOfRoot archive.known (names_asked archive.names) root out reports) OnlyReads OnlyReads reads_then (λ from to reads. reads) old mid visits entries one.says);
       records = records;
       are_records = folders_same out old mid (reads_same out old mid one.does) archive.below.items records two.are;
       told_records = for_each_as (IsSaidBetween (IsToldOfOut archive.known root out) OnlyReads mid new) (IsToldOfOut archive.known root out old new) records orphans
-          (λ visit part said. out_there old said.from said.to new (reads_then old mid said.from one.does said.before) said.after archive.known root out visit part said.says) two.says;
+          (λ visit part said. out_there old said.from said.to new (reads_then old mid said.from one.does said.before) said.after archive.known root out visit part said.says)
+          (said_each (IsToldOfOut archive.known root out) OnlyReads OnlyReads reads_then (λ from to reads. reads) mid new records orphans two.says);
       unlisted = two.unlisted tt ∙ (ap (λ l. l ++ unlisted_in out records) (one.unlisted tt) ∙ append_assoc (unlisted_after old) (unlisted_in root visits) (unlisted_in out records));
       reads = reads_then old mid new one.does two.does;
     }
 
 pub archive_told : (archive : Verifying) (before mid after : List Step → Type 0) (out0 out1 out : Device) (tally0 tally1 tally : VerifyTally)
-    → TellsWalk (TellsEntries archive) (IsToldOfRoot archive.known (names_asked archive.names) archive.folders.root.now archive.folders.out.now archive.folders.reports.now) OnlyReads (Unit {0}) archive.folders.root.now
+    → TellsWalk (TellsEntries archive) (IsToldOfRoot archive.known (names_asked archive.names) archive.folders.root.now archive.folders.out.now archive.folders.reports.now) OnlyReads OnlyReads (Unit {0}) archive.folders.root.now
     (λ past new. AreEntriesOf past archive.folders.root.now archive.below.items) before mid out0 out1 tally0 tally1
-    → TellsWalk (TellsEntries archive) (IsToldOfOut archive.known archive.folders.root.now archive.folders.out.now) OnlyReads (Unit {0}) archive.folders.out.now
+    → TellsWalk (TellsEntries archive) (IsToldOfOut archive.known archive.folders.root.now archive.folders.out.now) OnlyReads OnlyReads (Unit {0}) archive.folders.out.now
     (λ past new. AreEntriesOf past archive.folders.out.now archive.below.items) mid after out1 out tally1 tally
     → TellsArchive archive before after out0 out tally0 tally
 archive_told archive before mid after out0 out1 out tally0 tally1 tally one two = record {

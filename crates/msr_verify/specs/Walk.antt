@@ -3,7 +3,7 @@ use Rattle.std.specs.Prelude.{ℕ, ◌+◌, Bool, true, false, List, [], ◌++�
 use Rattle.std.specs.Fmt.{decimal}
 use Rattle.msr_devices.specs.Device.{Device, Takes}
 use Rattle.msr_devices.specs.declared.fault.DeviceFault.{DeviceFault}
-use Rattle.msr_folders.specs.Visits.{IsWalk, IsWalkInPart, StopsTelling, Tells, TellsThese}
+use Rattle.msr_folders.specs.Visits.{IsWalk, IsWalkInPart, StopsTelling, TellsMore, TellsThese}
 use Rattle.msr_folders.specs.Found.{Finds}
 use Rattle.msr_folders.specs.declared.found.WalkFound.{WalkFound}
 use Rattle.msr_options.specs.Known.{knows_any}
@@ -71,7 +71,7 @@ judged_summary asked entries = judged_end asked (verify_tally_of entries)
 
 -- some more entries were told: their lines were printed, and they are counted
 abbrev pub TellsJudged : Verifying → Device → Device → VerifyTally → VerifyTally → Type 0
-TellsJudged asked out0 out tally0 tally = Tells (IsJudgedEntry asked) (IsToldLine asked) IsVerifyTally out0 out tally0 tally
+TellsJudged asked out0 out tally0 tally = TellsMore (IsJudgedEntry asked) (IsToldLine asked) IsVerifyTally out0 out tally0 tally
 
 -- these entries were told
 abbrev pub TellsEntries : Verifying → List JudgedEntry → Device → Device → VerifyTally → VerifyTally → Type 0

@@ -27,7 +27,7 @@ fn walk_archive<'a, T: Tree, O: Sink>(
 ) -> Result<(), DeviceFault>
     requires { CanCountCall (O.device out.old) }
     ensures told { OnOk result (TellsWalk (TellsEntries archive.now)
-        (IsToldOfRoot archive.now.known (names_asked archive.now.names) archive.now.folders.root.now archive.now.folders.out.now archive.now.folders.reports.now) OnlyReads (Unit {0})
+        (IsToldOfRoot archive.now.known (names_asked archive.now.names) archive.now.folders.root.now archive.now.folders.out.now archive.now.folders.reports.now) OnlyReads OnlyReads (Unit {0})
         archive.now.folders.root.now (λ past new. AreEntriesOf past archive.now.folders.root.now archive.now.below.items)
         (T.went tree.old) (T.went tree.new) (O.device out.old) (O.device out.new) tally.old tally.new) }
     ensures stops { IfErr result (StopsTellingJudged archive.now (O.device out.old) (O.device out.new)) }
@@ -52,7 +52,7 @@ fn walk_records<'a, T: Tree, O: Sink>(
 ) -> Result<(), DeviceFault>
     requires { CanCountCall (O.device out.old) }
     ensures told { OnOk result (TellsWalk (TellsEntries archive.now)
-        (IsToldOfOut archive.now.known archive.now.folders.root.now archive.now.folders.out.now) OnlyReads (Unit {0})
+        (IsToldOfOut archive.now.known archive.now.folders.root.now archive.now.folders.out.now) OnlyReads OnlyReads (Unit {0})
         archive.now.folders.out.now (λ past new. AreEntriesOf past archive.now.folders.out.now archive.now.below.items)
         (T.went tree.old) (T.went tree.new) (O.device out.old) (O.device out.new) tally.old tally.new) }
     ensures stops { IfErr result (StopsTellingJudged archive.now (O.device out.old) (O.device out.new)) }

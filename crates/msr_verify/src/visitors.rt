@@ -88,6 +88,8 @@ impl EntryVisitor for Judging<'_> {
 
     ghost does = { λ _ _. OnlyReads };
 
+    ghost between = { λ _. OnlyReads };
+
     ghost holds = { λ _ _ _. Unit {0} };
 
     ghost listless = { λ _. Unit {0} };
@@ -202,6 +204,8 @@ impl EntryVisitor for Searching<'_> {
     ghost says = { λ searching. IsToldOfOut searching.archive.now.known searching.archive.now.folders.root.now searching.archive.now.folders.out.now };
 
     ghost does = { λ _ _. OnlyReads };
+
+    ghost between = { λ _. OnlyReads };
 
     ghost holds = { λ _ _ _. Unit {0} };
 

@@ -49,11 +49,11 @@ use Rattle.msr_walk.proofs.DayApart.{day_apart}
 use Rattle.msr_walk.proofs.DayPaths.{day_within}
 use Rattle.msr_walk.proofs.Kept.{each_so}
 use Rattle.msr_walk.proofs.OtherDays.{none_of_other, other_day}
-use Rattle.msr_walk.proofs.Spared.{SparesNames, made_then, own_as, own_spared, shows_as, shows_spared}
+use Rattle.msr_walk.proofs.Spared.{SparesNames, made_spared, made_then, own_as, own_spared, shows_as, shows_spared}
 use Rattle.msr_walk.proofs.Waits.{waiting_beside}
-use Rattle.msr_walk.proofs.Working.{inputs_same, looks_work, none_of_day, settled_works, works_end, works_then}
+use Rattle.msr_walk.proofs.Working.{inputs_same, looks_work, none_of_day, settled_leaves, settled_works, works_end, works_then}
 use Rattle.msr_outcomes.specs.Entries.{IsDayOf, IsOutcomeOf}
-use Rattle.msr_walk.specs.Files.{AreNamesOfDay, DayNames, HaveNames, StaysMade, files_of, paths_of_names}
+use Rattle.msr_walk.specs.Files.{AreNamesOfDay, DayNames, HaveNames, LeavesMade, StaysMade, day_names, files_of, paths_of_names}
 use Rattle.msr_walk.specs.Handling.{AreNamesWithin, ChangesNames, IsSameBut, IsUnclaimed}
 use Rattle.msr_walk.specs.Waiting.{AreWaitingAt, AwaitsName, IsNoneWaiting, WaitsAs}
 use Rattle.msr_walk.specs.Kills.{KeepsReport, day_names_in}
@@ -392,6 +392,14 @@ module _ (archive : Archiving) (apart : StandApart archive.folders) (path : Path
       let none = λ (name : Name) (n : ℕ). none_of_other files (files_of its_names n) name (other_day archive.folders apart have other path another day number n (λ same. unlike (sym same))) in
       record { records = changes.spares files.records.path (none Records); report = changes.spares files.report.path (none Report); stamp = changes.spares files.stamp.path (none Stamp) }
 
+  -- what was made of another is as it was
+  pub others_left : (old new : List Step) → ChangesNames day_paths its_names old new → LeavesMade archive.folders.root.now outf reports (λ other. other ≡ path) old new
+  others_left old new changes = record {
+    each = λ have other another unlike.
+        let spares = spares_other have other another (λ same. unlike (sym same)) old new changes 0 in
+        made_spared (day_names_in archive other) old new changes.made changes.since spares.records spares.report;
+  }
+
   keeps_other : HaveNames outf reports → (other : Path) → IsDay other → path ≢ other → (old new : List Step) → ChangesNames day_paths its_names old new → KeepsReport archive.days (day_names_in archive other) old new
   keeps_other have other another unlike old new changes = record {
     each = λ number is_own own has.
@@ -591,9 +599,17 @@ module _ (archive : Archiving) (days : DayOptions) (path : Path) where
         }) second.says;
       }) one two
 
+-- One after another, what was made of days stays.
+pub left_then : (root out reports : Path) (But : Path → Type 0) (old mid new : List Step) → LeavesMade root out reports But old mid → LeavesMade root out reports But mid new
+    → LeavesMade root out reports But old new
+left_then root out reports But old mid new one two = record {
+  each = λ have path day unlike. made_then (day_names root out reports path) old mid new (one.each have path day unlike) (two.each have path day unlike);
+}
+
 -- What is told of a day of which nothing was touched before.
 pub record SaysOfDay {H E : Type 0} (outcome : H → Outcome) (archive : Archiving) (days : DayOptions) (path : Path) (result : Result H E) (old new : List Step) : Type 0 where
   pub works : WorksFor (is_ok result) archive old new
+  pub leaves : LeavesMade archive.folders.root.now archive.folders.out.now archive.folders.reports.now (λ other. other ≡ path) old new
   pub says : IfOk result (λ told. IsDayTold days (day_names_in archive path) archive.folders.out.now archive.folders.reports.now (outcome told) old new)
 
 -- others that waited wait no more
@@ -601,11 +617,13 @@ pub drops_works : (archive : Archiving) (path : Path) (before after : List Step 
 drops_works archive path before after goes = goes_so _ _ before after (λ old new went drops. settled_works archive true old new drops.works) goes
 
 pub says_dropped : {H E : Type 0} (outcome : H → Outcome) (archive : Archiving) (apart : StandApart archive.folders) (days : DayOptions) (path : Path) (result : Result H E) (before mid after : List Step → Type 0)
-    → Goes before mid (DropsWaiting archive path) → Goes mid after (TellsDay outcome archive days path result) → Goes before after (SaysOfDay outcome archive days path result)
-says_dropped outcome archive apart days path result before mid after one two = goes_then _ _ _ before mid after (λ old middle new first second.
+    → IsDay path → Goes before mid (DropsWaiting archive path) → Goes mid after (TellsDay outcome archive days path result) → Goes before after (SaysOfDay outcome archive days path result)
+says_dropped outcome archive apart days path result before mid after day one two = goes_then _ _ _ before mid after (λ old middle new first second.
     let works = settled_works archive true old middle first.works in
     record {
       works = works_then archive apart (is_ok result) old middle new works second.works;
+      leaves = left_then archive.folders.root.now archive.folders.out.now archive.folders.reports.now (λ other. other ≡ path) old middle new
+          (settled_leaves archive (λ other. other ≡ path) old middle first.works) (others_left archive apart path day middle new second.changes);
       says = if_ok_as result (λ t is. record {
         asked = is.asked;
         for_day = is.for_day;

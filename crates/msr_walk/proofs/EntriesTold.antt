@@ -55,10 +55,10 @@ pub tells_end : (entries : List Entry) (tally : Tally) (found : WalkFound) → I
     → Finds tally.refused (min (min (min (tally.done + tally.larger) (2 ^ 64 - 1) + tally.young) (2 ^ 64 - 1) + tally.known) (2 ^ 64 - 1)) found
     → TellsEnd entries found
 tells_end entries tally Well counts finds =
-    rw (← counts.refused, ← counts.done, ← counts.larger, ← counts.young, ← counts.known) (finds.0, grind (arith, finds.1))
+    rw (← counts.refused, ← counts.done, ← counts.larger, ← counts.young, ← counts.known) (finds.0, omega (arith, finds.1))
 tells_end entries tally Unwell counts finds = rw (← counts.refused) finds
 tells_end entries tally NoDay counts finds = rw (← counts.refused, ← counts.done, ← counts.larger, ← counts.young, ← counts.known)
-    (finds.0, omega (arith, finds.1), omega (arith, finds.1), omega (arith, finds.1), omega (arith, finds.1))
+    (finds.0, omega (arith, finds.1))
 
 pub walk_ends : (asked : Archiving) (out0 out1 out : Device) (tally0 tally : Tally) (walked : Walked) →
     (told : TellsOutcomes asked out0 out1 tally0 tally) → Takes out1 out (summary asked told.entries)

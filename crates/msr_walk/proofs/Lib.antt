@@ -13,3 +13,4 @@ pub mod Ours
 pub mod Spared
 pub mod Standing
 pub mod Waits
+pub mod Staying

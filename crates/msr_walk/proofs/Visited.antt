@@ -18,10 +18,11 @@ use Rattle.msr_tree.specs.declared.kind.FileKind.{FileKind}
 use Rattle.msr_tree.specs.declared.kind.FileKind.TheVariants.{Gone}
 use Rattle.msr_folders.specs.Names.{day_name}
 use Rattle.msr_options.specs.Days.{with_name}
-use Rattle.msr_walk.proofs.Days.{SaysOfDay, told_until}
-use Rattle.msr_walk.proofs.Working.{settled_works, works_none, works_then}
+use Rattle.msr_walk.proofs.Days.{SaysOfDay, left_then, told_until}
+use Rattle.msr_walk.proofs.Working.{settled_leaves, settled_works, works_none, works_then}
 use Rattle.msr_outcomes.specs.Entries.{Entry}
 use Rattle.msr_outcomes.specs.Known.{known_as}
+use Rattle.msr_walk.specs.Files.{LeavesMade}
 use Rattle.msr_walk.specs.Kills.{day_names_in}
 use Rattle.msr_walk.specs.Losses.{ChangesDays}
 use Rattle.msr_folders.specs.Paths.{told_folder}
@@ -77,9 +78,13 @@ module _ {P : Type 0} (tally : P → Tally) (asked : Archiving) where
           );
           other = λ some none. absurd (none day);
         },
+        left_then root outf reports (λ other. other ≡ path) old middle new first.leaves (settled_leaves asked (λ other. other ≡ path) middle new second),
       );
     }) one two;
   }
+
+  leaves_all : (But : Path → Type 0) (past : List Step) → LeavesMade root outf reports But past past
+  leaves_all But past = record { each = λ have path day unlike. record { records = refl; report = refl } }
 
   -- where nothing is done
   told_still : (visit : Visit) (entry : Entry) (before : List Step → Type 0) (out0 out : Device) (of0 of : P)
@@ -98,7 +103,7 @@ module _ {P : Type 0} (tally : P → Tally) (asked : Archiving) where
       → TellsOf (Found path kind) before before out0 out of0 of
   visited_other path kind fault before out0 out of0 of there none is told =
       told_still (Found path kind) (record { path = path; channel = []; outcome = known_as asked.known path (Skipped fault) }) before out0 out of0 of
-      (λ past. ([], Skipped fault, refl, record { gone = λ gone. absurd (there gone); day = λ some day. absurd (none day); other = λ some no_day. (fault, is, refl, refl) })) told
+      (λ past. ([], Skipped fault, refl, record { gone = λ gone. absurd (there gone); day = λ some day. absurd (none day); other = λ some no_day. (fault, is, refl, refl) }, leaves_all (λ other. other ≡ path) past)) told
 
   -- what is gone
   pub visited_gone : (path : Path) (kind : FileKind) (before : List Step → Type 0) (out0 out : Device) (of0 of : P) → kind ≡ Gone
@@ -106,7 +111,7 @@ module _ {P : Type 0} (tally : P → Tally) (asked : Archiving) where
       → TellsOf (Found path kind) before before out0 out of0 of
   visited_gone path kind before out0 out of0 of is told =
       told_still (Found path kind) (record { path = path; channel = []; outcome = known_as asked.known path (Refused WasGone) }) before out0 out of0 of
-      (λ past. ([], Refused WasGone, refl, record { gone = λ gone. (refl, refl); day = λ some day. absurd (some is); other = λ some no_day. absurd (some is) })) told
+      (λ past. ([], Refused WasGone, refl, record { gone = λ gone. (refl, refl); day = λ some day. absurd (some is); other = λ some no_day. absurd (some is) }, leaves_all (λ other. other ≡ path) past)) told
 
   -- a folder that has no list
   pub visited_unlisted : (folder path : Path) (before : List Step → Type 0) (out0 out : Device) (of0 of : P) → path ≡ told_folder folder
@@ -122,7 +127,7 @@ module _ {P : Type 0} (tally : P → Tally) (asked : Archiving) where
   visited_left folder before after out of0 of names goes told = record {
     lines = [];
     told = told;
-    goes = goes_so _ _ before after (λ old new went is. record { done = settled_works asked true old new is.works; says = refl }) goes;
+    goes = goes_so _ _ before after (λ old new went is. record { done = settled_works asked true old new is.works; says = (refl, settled_leaves asked (λ other. ⊥) old new is.works) }) goes;
   }
 
 -- A path that is read as no day.

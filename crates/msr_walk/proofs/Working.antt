@@ -9,7 +9,7 @@ use Rattle.msr_folders.proofs.WithinLemmas.{root_spares, within_then}
 use Rattle.msr_folders.specs.Days.{IsDay}
 use Rattle.msr_folders.specs.Entries.{StandsWithin}
 use Rattle.msr_folders.specs.Paths.{ended, joined}
-use Rattle.msr_folders.specs.Walks.{HoldsAt}
+use Rattle.msr_folders.specs.Walks.{HoldsAt, VisitDoes}
 use Rattle.msr_folders.specs.Within.{ChangesWithin, IsSeparate}
 use Rattle.msr_naming.proofs.Names.{seen_ready}
 use Rattle.msr_naming.specs.Naming.{AreDayNames, IsOther, day_paths}
@@ -36,12 +36,12 @@ use Rattle.msr_walk.proofs.OtherDays.{part_apart}
 use Rattle.msr_walk.proofs.Spared.{SparesNames, made_spared, made_then, own_as, own_spared, shows_spared}
 use Rattle.msr_walk.proofs.Standing.{stand_in}
 use Rattle.msr_walk.proofs.Waits.{SameInputs, Waits, all_so, found_waiting, none_of_stamps_by, of_days}
-use Rattle.msr_walk.specs.Files.{DayNames, HaveNames, IsStampWithin, files_of}
+use Rattle.msr_walk.specs.Files.{DayNames, HaveNames, IsStampWithin, LeavesMade, files_of}
 use Rattle.msr_walk.specs.Handling.{AreWithin}
 use Rattle.msr_walk.specs.Waiting.{ShareNoNames, AreOfDay, AreWaitingAt, IsWaiting, files_waiting}
 use Rattle.msr_walk.specs.Kills.{IsOwnOfDay, KeepsReports, day_names_in}
-use Rattle.msr_walk.specs.Laws.{days_end, days_none, days_then, input_now, none_failed, own_after, reports_then, stamp_later, within_joined}
-use Rattle.msr_walk.specs.Losses.{ChangesDays, IsStampOfDay, KeepsDays, SettlesDay}
+use Rattle.msr_walk.specs.Laws.{days_end, days_none, days_then, input_now, none_failed, own_after, reports_then, rests_none, stamp_later, within_joined}
+use Rattle.msr_walk.specs.Losses.{ChangesDays, IsStampOfDay, KeepsDays, RestsDays, SettlesDay}
 use Rattle.msr_walk.specs.Told.{SettlesNames, SettlesWaiting, StaysWithin, WorksFor}
 
 -- a name that is in neither folder is no other that is in one of them
@@ -98,6 +98,11 @@ module _ (archive : Archiving) where
 
   abbrev SafeOfAll : (old new : List Step) → Type 0
   SafeOfAll old new = HaveNames out_of reports_of → (path : Path) → IsDay path → SettlesDay archive.days (day_names_in archive path) old new
+
+  -- what waits is settled, and what was made of each day stays
+  pub settled_leaves : (But : Path → Type 0) (old new : List Step) → SettlesWaiting archive old new
+      → LeavesMade archive.folders.root.now out_of reports_of But old new
+  settled_leaves But old new settled = record { each = λ have path day none. (settled.does.safe have path day).stays }
 
   pub works_none : (goes_on : Bool) (past : List Step) → WorksFor goes_on archive past past
   works_none goes_on past = record { does = days_none archive goes_on past; lists_none = λ none. refl }
@@ -172,6 +177,17 @@ module _ (archive : Archiving) where
 
   pub goes_waiting : (goes_on : Bool) (before after : List Step → Type 0) → Goes before after (SettlesWaiting archive) → Goes before after (WorksFor goes_on archive)
   goes_waiting goes_on before after goes = goes_so _ _ before after (λ old new went settles. settled_works goes_on old new settles) goes
+
+  -- between visits
+  pub goes_rested : (names : List Path) (before after : List Step → Type 0) → Goes before after (SettlesNames archive names)
+      → Goes before after (VisitDoes (RestsDays archive) (Unit {0}))
+  goes_rested names before after goes = goes_so _ _ before after (λ old new went settles. record {
+    does = record { does = (settled_works true old new settles.works).does; leaves = settled_leaves (λ path. ⊥) old new settles.works };
+    lists_none = settles.works.lists_none;
+  }) goes
+
+  pub rests_nothing : (before : List Step → Type 0) → Goes before before (VisitDoes (RestsDays archive) (Unit {0}))
+  rests_nothing before = goes_none (VisitDoes (RestsDays archive) (Unit {0})) before (λ past. record { does = rests_none archive past; lists_none = λ none. refl })
 
   pub goes_settled : (goes_on : Bool) (names : List Path) (before after : List Step → Type 0) → Goes before after (SettlesNames archive names) → Goes before after (WorksFor goes_on archive)
   goes_settled goes_on names before after goes = goes_so _ _ before after (λ old new went settles. settled_works goes_on old new settles.works) goes

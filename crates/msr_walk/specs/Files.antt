@@ -1,6 +1,7 @@
 -- The names of files.
 use Rattle.std.specs.Prelude.{◌≡◌, ◌≢◌, ℕ, List, [], ◌∷◌, ◌++◌, codes}
 use Rattle.std.specs.Fmt.{decimal}
+use Rattle.msr_folders.specs.Days.{IsDay}
 use Rattle.msr_folders.specs.Entries.{StandsWithin}
 use Rattle.msr_folders.specs.Paths.{ended, joined}
 use Rattle.msr_making.specs.Places.{AreFileNames, DayPaths}
@@ -51,14 +52,18 @@ pub record StaysMade (names : DayNames) (old new : List Step) : Type 0 where
   pub records : now new names.records ≡ now old names.records
   pub report : now new names.report ≡ now old names.report
 
--- No two names of a day are the same, whatever number the claim has.
-pub record AreNamesOfDay (names : DayNames) : Type 0 where
-  pub are : (number : ℕ) → AreFileNames names.input (files_of names number)
-
 -- The folders of records and reports have names. Below an empty one no path stands.
 pub record HaveNames (out reports : Path) : Type 0 where
   pub out_some : out ≢ []
   pub reports_some : reports ≢ []
+
+-- What was made of each day is as it was, but for the days of these paths, if the folders of records and reports have names.
+pub record LeavesMade (root out reports : Path) (But : Path → Type 0) (old new : List Step) : Type 0 where
+  pub each : HaveNames out reports → (path : Path) → IsDay path → ¬ (But path) → StaysMade (day_names root out reports path) old new
+
+-- No two names of a day are the same, whatever number the claim has.
+pub record AreNamesOfDay (names : DayNames) : Type 0 where
+  pub are : (number : ℕ) → AreFileNames names.input (files_of names number)
 
 -- A stamp and what stands beside its name are within the folder of the reports, and if that has a name, none is a report.
 pub record IsStampWithin (reports : Path) (files : DayFiles) : Type 0 where

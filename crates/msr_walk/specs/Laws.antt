@@ -23,7 +23,7 @@ use Rattle.msr_tree.specs.declared.facts.Facts.{Facts}
 use Rattle.msr_walk.specs.Files.{files_of}
 use Rattle.msr_walk.specs.Waiting.{AreWaiting, IsWaiting, files_waiting}
 use Rattle.msr_walk.specs.Kills.{IsOwnOfDay, KeepsReports, day_names_in}
-use Rattle.msr_walk.specs.Losses.{ChangesDays, IsStampOfDay, KeepsDays}
+use Rattle.msr_walk.specs.Losses.{ChangesDays, IsStampOfDay, KeepsDays, RestsDays}
 
 pub seen_as : (name : Path) (old new : List Step) → now new name ≡ now old name → seen new name ≡ seen old name
 seen_as name old new same = ap (λ found. option_map (λ file. file.bytes) found) same
@@ -173,6 +173,32 @@ module _ (archive : Archiving) where
       safe = safe_then goes_on old mid new one two;
     }
 
+-- between visits
+module _ (archive : Archiving) where
+  pub rests_none : (past : List Step) → RestsDays archive past past
+  rests_none past = record {
+    does = days_none archive true past;
+    leaves = record { each = λ have path day none. record { records = refl; report = refl } };
+  }
+
+  pub rests_unlisted : (past : List Step) (place : Path) → RestsDays archive past (Failed ∷ Unlisted place ∷ past)
+  rests_unlisted past place = record {
+    does = days_unlisted archive true past place;
+    leaves = record { each = λ have path day none. record { records = refl; report = refl } };
+  }
+
+  pub rests_then : IsSeparate archive.folders.root.now archive.folders.out.now archive.folders.reports.now → (old mid new : List Step)
+      → RestsDays archive old mid → RestsDays archive mid new → RestsDays archive old new
+  rests_then apart old mid new one two = record {
+    does = days_then archive apart true old mid new one.does two.does;
+    leaves = record {
+      each = λ have path day none.
+          let sooner = one.leaves.each have path day none in
+          let later = two.leaves.each have path day none in
+          record { records = later.records ∙ sooner.records; report = later.report ∙ sooner.report };
+    };
+  }
+
 -- a folder that gives no list leaves what waits
 module _ (place : Path) where
   abbrev noted : List Step → List Step
@@ -229,7 +255,7 @@ pub days_laws : {V E T : Type 0} (is_entry : V → E → Type 0) (is_line : V �
     (archive : V → Archiving) → ((visitor : V) → IsSeparate (archive visitor).folders.root.now (archive visitor).folders.out.now (archive visitor).folders.reports.now) →
     VisitLaws {V = V} {L = E} {T = T} (λ visitor. TellsThese (is_entry visitor) (is_line visitor) is_tally)
     (λ visitor out0 out. StopsAt (TellsInPart (is_entry visitor) (is_line visitor) out0 out) out0 out)
-    (λ visitor goes_on. ChangesDays goes_on (archive visitor))
+    (λ visitor goes_on. ChangesDays goes_on (archive visitor)) (λ visitor. RestsDays (archive visitor))
 days_laws is_entry is_line is_tally archive separate =
     let laws = within_laws is_entry is_line is_tally (λ visitor. (archive visitor).folders.out.now) (λ visitor. (archive visitor).folders.reports.now) in
     record {
@@ -241,5 +267,8 @@ days_laws is_entry is_line is_tally archive separate =
       still = λ visitor. days_none (archive visitor) true;
       onward = λ visitor. days_then (archive visitor) (separate visitor);
       ends = λ visitor old new changes. days_end (archive visitor) true false old new (λ on. refl) changes;
-      unlisted = λ visitor. days_unlisted (archive visitor) true;
+      rests = λ visitor. rests_none (archive visitor);
+      rests_on = λ visitor. rests_then (archive visitor) (separate visitor);
+      resting = λ visitor old new rests. rests.does;
+      unlisted = λ visitor. rests_unlisted (archive visitor);
     }

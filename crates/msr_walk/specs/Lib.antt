@@ -6,3 +6,4 @@ pub mod Losses
 pub mod Told
 pub mod Waiting
 pub mod Walk
+pub mod Staying

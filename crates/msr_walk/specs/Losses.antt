@@ -8,7 +8,7 @@ use Rattle.msr_options.specs.declared.days.DayOptions.{DayOptions}
 use Rattle.msr_options.specs.declared.task.Archiving.{Archiving}
 use Rattle.msr_outcomes.specs.Outcomes.{IsForDay}
 use Rattle.msr_tree.specs.Steps.{AtEachMoment, Path, Step, failures}
-use Rattle.msr_walk.specs.Files.{DayNames, HaveNames, StaysMade, files_of}
+use Rattle.msr_walk.specs.Files.{DayNames, HaveNames, LeavesMade, StaysMade, files_of}
 use Rattle.msr_walk.specs.Kills.{IsOwnOfDay, KeepsReports, day_names_in}
 
 -- The stamp of a day's file is of the records and the report of a repack of what it has, in each length that may be asked for.
@@ -33,6 +33,11 @@ pub record ChangesDays (goes_on : Bool) (archive : Archiving) (old new : List St
   pub within : ChangesWithin archive.folders.out.now archive.folders.reports.now old new
   pub reports : KeepsReports archive old new
   pub safe : KeepsDays goes_on archive old new
+
+-- What is done between visits: what was made of each day stays.
+pub record RestsDays (archive : Archiving) (old new : List Step) : Type 0 where
+  pub does : ChangesDays true archive old new
+  pub leaves : LeavesMade archive.folders.root.now archive.folders.out.now archive.folders.reports.now (λ path. ⊥) old new
 
 -- A day that has its own keeps it whatever may come back of it; and what cannot come back still cannot. What was made of it
 -- is as it was.

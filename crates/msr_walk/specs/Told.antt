@@ -27,14 +27,14 @@ use Rattle.msr_tree.specs.declared.kind.FileKind.{FileKind}
 use Rattle.msr_tree.specs.declared.kind.FileKind.TheVariants.{Gone}
 use Rattle.msr_outcomes.specs.Entries.{Entry, IsTally}
 use Rattle.msr_outcomes.specs.Known.{IsEntry, known_as}
-use Rattle.msr_walk.specs.Files.{AreNamesOfDay, DayNames, HaveNames, StaysMade, day_names, files_of, paths_of_names}
+use Rattle.msr_walk.specs.Files.{AreNamesOfDay, DayNames, HaveNames, LeavesMade, StaysMade, day_names, files_of, paths_of_names}
 use Rattle.msr_walk.specs.Handling.{ChangesNames}
 use Rattle.msr_walk.specs.Kills.{day_names_in}
 use Rattle.msr_walk.specs.Losses.{ChangesDays, SettlesDays}
 use Rattle.msr_outcomes.specs.Lines.{IsEntryLine}
 use Rattle.msr_outcomes.specs.Outcomes.{IsForDay, of_day}
 use Rattle.msr_outcomes.specs.Summary.{summary}
-use Rattle.msr_walk.specs.Walk.{TellsWalk}
+use Rattle.msr_walk.specs.Walk.{TellsWalked}
 use Rattle.msr_walk.specs.declared.folders.Walked.{Walked}
 use Rattle.msr_outcomes.specs.declared.outcome.Outcome.{Outcome}
 use Rattle.msr_outcomes.specs.declared.outcome.Outcome.TheVariants.{Refused, Skipped}
@@ -112,18 +112,24 @@ pub record IsToldOfPath (days : DayOptions) (names : DayNames) (out reports path
   pub day : kind ≢ Gone → IsDay path → (name : SdsPath) × ReadsAsDay path name × IsDayTold (with_name (day_name name) days) names out reports outcome old new
   pub other : kind ≢ Gone → ¬ (IsDay path) → (fault : SdsFault) × IsNoDay path fault × (outcome ≡ Skipped fault) × (new ≡ old)
 
--- the one entry that is told of a visit, as known if it is
+-- the one entry that is told of a visit, as known if it is; what was made of other days stays
 abbrev pub IsToldOfVisit : (root out reports : Path) → Archiving → (old new : List Step) → Visit → List Entry → Type 0
 IsToldOfVisit root out reports asked old new (Found path kind) entries = (channel : Path) × (outcome : Outcome)
     × (entries ≡ record { path = path; channel = channel; outcome = known_as asked.known path outcome } ∷ [])
     × IsToldOfPath asked.days (day_names root out reports path) out reports path kind outcome old new
+    × LeavesMade root out reports (λ other. other ≡ path) old new
 IsToldOfVisit root out reports asked old new (WithoutList folder) entries = (entries ≡ record {
   path = told_folder folder;
   channel = [];
   outcome = known_as asked.known (told_folder folder) (Refused Listing);
 } ∷ []) × (new ≡ old)
 IsToldOfVisit root out reports asked old new (Passed folder) entries = ⊥
-IsToldOfVisit root out reports asked old new (Left folder) entries = entries ≡ []
+IsToldOfVisit root out reports asked old new (Left folder) entries = (entries ≡ []) × LeavesMade root out reports (λ other. ⊥) old new
+
+-- What is done between visits: only what stands within the two folders is changed, and what was made of each day stays.
+pub record RestsWithin (root out reports : Path) (old new : List Step) : Type 0 where
+  pub within : ChangesWithin out reports old new
+  pub leaves : LeavesMade root out reports (λ path. ⊥) old new
 
 -- these entries were told, and are counted in a part of what changes
 abbrev pub TellsOutcomesOf : {P : Type 0} → (P → Tally) → Archiving → List Entry → Device → Device → P → P → Type 0
@@ -133,8 +139,8 @@ TellsOutcomesOf tally asked = TellsThese (IsEntry asked) (IsEntryLine asked) (λ
 abbrev pub IsArchiveTold : Archiving → List Visit → List Entry → (old new : List Step) → Type 0
 IsArchiveTold archive visits entries old new =
     let folders = archive.folders in
-    IsWalked (IsToldOfVisit folders.root.now folders.out.now folders.reports.now archive) (ChangesWithin folders.out.now folders.reports.now) (Unit {0})
-    folders.root.now (λ past new. AreEntriesOf past folders.root.now archive.below.items) visits entries old new
+    IsWalked (IsToldOfVisit folders.root.now folders.out.now folders.reports.now archive) (ChangesWithin folders.out.now folders.reports.now)
+    (RestsWithin folders.root.now folders.out.now folders.reports.now) (Unit {0}) folders.root.now (λ past new. AreEntriesOf past folders.root.now archive.below.items) visits entries old new
 
 -- The whole text was printed: a line for each entry of the archive, in order, but for those that are left out, and then what
 -- all of these sum up to.
@@ -144,7 +150,7 @@ pub record WalksTree (archive : Archiving) (before after : List Step → Type 0)
   pub printed : List ℕ
   pub prints : Takes out0 out printed
   pub text : IsWalk (IsEntry archive) (IsEntryLine archive) (summary archive) printed entries
-  pub tells : TellsWalk entries walked
+  pub tells : TellsWalked entries walked
   pub goes : Goes before after (IsArchiveTold archive visits entries)
 
 -- At each moment the names within a folder lead to what they led to.

@@ -1,10 +1,10 @@
 -- What a walk prints, and how it ends.
-use Rattle.std.specs.Prelude.{◌≡◌, ◌⊎◌, ℕ, ◌<◌, List, Result, Ok, Err}
+use Rattle.std.specs.Prelude.{◌≡◌, ℕ, ◌+◌, List, Result, Ok, Err}
 use Rattle.msr_devices.specs.Device.{Device, Takes}
 use Rattle.msr_devices.specs.declared.fault.DeviceFault.{DeviceFault}
-use Rattle.msr_folders.specs.Visits.{IsWalk, IsWalkInPart, StopsTelling, Tells}
+use Rattle.msr_folders.specs.Found.{Finds}
+use Rattle.msr_folders.specs.Visits.{IsWalk, IsWalkInPart, StopsTelling, TellsMore}
 use Rattle.msr_folders.specs.declared.found.WalkFound.{WalkFound}
-use Rattle.msr_folders.specs.declared.found.WalkFound.TheVariants.{Well, Unwell, NoDay}
 use Rattle.msr_tool.specs.declared.fault.ToolFault.{ToolFault}
 use Rattle.msr_tool.specs.declared.fault.ToolFault.TheVariants.{Write, Memory}
 use Rattle.msr_options.specs.declared.task.Archiving.{Archiving}
@@ -18,7 +18,7 @@ use Rattle.msr_outcomes.specs.declared.tally.Tally.{Tally}
 -- some more entries were told: their lines were printed, and they are counted
 abbrev pub TellsOutcomes : Archiving → Device → Device → Tally → Tally → Type 0
 TellsOutcomes asked out0 out tally0 tally =
-    Tells (IsEntry asked) (IsEntryLine asked) IsTally out0 out tally0 tally
+    TellsMore (IsEntry asked) (IsEntryLine asked) IsTally out0 out tally0 tally
 
 -- that was printed when the walk stopped
 abbrev pub StopsTellingOutcomes : Archiving → Device → Device → DeviceFault → Type 0
@@ -27,21 +27,18 @@ StopsTellingOutcomes asked out0 out fault = StopsTelling (IsEntry asked) (IsEntr
 -- a walk that came to its end tells whether an entry was refused, and if none was, whether there was a day, young or not, or
 -- something known
 abbrev pub TellsEnd : List Entry → WalkFound → Type 0
-TellsEnd entries Well = (counted is_refused entries ≡ 0)
-    × ((0 < counted is_done entries) ⊎ ((0 < counted is_larger entries) ⊎ ((0 < counted is_young entries) ⊎ (0 < counted is_known entries))))
-TellsEnd entries Unwell = 0 < counted is_refused entries
-TellsEnd entries NoDay = (counted is_refused entries ≡ 0) × (counted is_done entries ≡ 0)
-    × (counted is_larger entries ≡ 0) × (counted is_young entries ≡ 0) × (counted is_known entries ≡ 0)
+TellsEnd entries found = Finds (counted is_refused entries)
+    (counted is_done entries + counted is_larger entries + counted is_young entries + counted is_known entries) found
 
 -- It tells too what could not be opened of the first day that was refused for that.
-pub record TellsWalk (entries : List Entry) (walked : Walked) : Type 0 where
+pub record TellsWalked (entries : List Entry) (walked : Walked) : Type 0 where
   pub end : TellsEnd entries walked.found
   pub first : walked.unopened ≡ first_unopened entries
 
 -- the whole text was printed, or a prefix of it when the walk stopped, which no input and no source can make it do
 abbrev pub WalkEnds : Archiving → (printed : List ℕ) → Result Walked ToolFault → Type 0
 WalkEnds asked printed (Ok walked) = (entries : List Entry)
-    × IsWalk (IsEntry asked) (IsEntryLine asked) (summary asked) printed entries × TellsWalk entries walked
+    × IsWalk (IsEntry asked) (IsEntryLine asked) (summary asked) printed entries × TellsWalked entries walked
 WalkEnds asked printed (Err Write) = IsWalkInPart (IsEntry asked) (IsEntryLine asked) (summary asked) printed
 WalkEnds asked printed (Err Memory) = IsWalkInPart (IsEntry asked) (IsEntryLine asked) (summary asked) printed
 WalkEnds asked printed (Err _) = ⊥

@@ -19,12 +19,12 @@ ghost use Rattle.msr_outcomes.specs.Known.{IsEntry, known_as};
 ghost use Rattle.msr_walk.specs.Waiting.{AreWaiting, AreWaitingAt, IsNoneWaiting, WaitsAs};
 ghost use Rattle.msr_walk.specs.Kills.{KeepsReports};
 ghost use Rattle.msr_walk.specs.Laws.{days_laws, waiting_listed};
-ghost use Rattle.msr_walk.specs.Losses.{ChangesDays, KeepsDays};
+ghost use Rattle.msr_walk.specs.Losses.{ChangesDays, KeepsDays, RestsDays};
 ghost use Rattle.msr_outcomes.specs.Lines.{IsEntryLine};
 ghost use Rattle.msr_outcomes.specs.Outcomes.{IsOutcomeOfDay};
 ghost use Rattle.msr_folders.specs.Names.{day_name};
 ghost use Rattle.msr_options.specs.Days.{with_name};
-ghost use Rattle.msr_walk.specs.Told.{IsToldOfVisit, SettlesWaiting, StaysWithin, TellsDay, TellsOutcomesOf, WalksTree, WorksFor};
+ghost use Rattle.msr_walk.specs.Told.{IsToldOfVisit, RestsWithin, SettlesWaiting, StaysWithin, TellsDay, TellsOutcomesOf, WalksTree, WorksFor};
 ghost use Rattle.msr_walk.specs.Walk.{StopsTellingOutcomes, Walks};
 
 use crate::batch::Batch;
@@ -267,7 +267,8 @@ impl<'a, C: Claims> Walker<'a, C> {
     ) -> Result<(), DeviceFault>
         requires count { CanCountCall (O.device out.old) }
         requires days { AreWaitingAt (T.went tree.old) self.now.archive.now (string_bytes progress.old.batch.folder) progress.old.batch.days.items }
-        ensures told { OnOk result (TellsVisits (TellsOutcomesOf (λ of. of.tally) self.now.archive.now) (IsToldOfVisit self.now.archive.now.folders.root.now self.now.archive.now.folders.out.now self.now.archive.now.folders.reports.now self.now.archive.now) (ChangesWithin self.now.archive.now.folders.out.now self.now.archive.now.folders.reports.now) (Unit {0}) self.now.archive.now.folders.root.now
+        ensures told { OnOk result (TellsVisits (TellsOutcomesOf (λ of. of.tally) self.now.archive.now) (IsToldOfVisit self.now.archive.now.folders.root.now self.now.archive.now.folders.out.now self.now.archive.now.folders.reports.now self.now.archive.now) (ChangesWithin self.now.archive.now.folders.out.now self.now.archive.now.folders.reports.now)
+            (RestsWithin self.now.archive.now.folders.root.now self.now.archive.now.folders.out.now self.now.archive.now.folders.reports.now) (Unit {0}) self.now.archive.now.folders.root.now
             (λ past new. AreEntriesOf past self.now.archive.now.folders.root.now self.now.archive.now.below.items)
             (T.went tree.old) (T.went tree.new) (O.device out.old) (O.device out.new) progress.old progress.new) }
         ensures stops { IfErr result (StopsTellingOutcomes self.now.archive.now (O.device out.old) (O.device out.new)) }
@@ -301,6 +302,8 @@ impl<'a, C: Claims> EntryVisitor for Walker<'a, C> {
     ghost says = { λ walker. IsToldOfVisit walker.archive.now.folders.root.now walker.archive.now.folders.out.now walker.archive.now.folders.reports.now walker.archive.now };
 
     ghost does = { λ walker goes_on. ChangesDays goes_on walker.archive.now };
+
+    ghost between = { λ walker. RestsDays walker.archive.now };
 
     ghost holds = { λ walker progress past. AreWaiting walker.archive.now (string_bytes progress.batch.folder) progress.batch.days.items past };
 

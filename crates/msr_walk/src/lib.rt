@@ -6,9 +6,11 @@ mod batch;
 mod claims;
 mod day;
 mod folders;
+mod laws;
 mod system;
 mod walker;
 
 pub use claims::{Asked, ClaimFault, Claims};
 pub use folders::{Walked, walk};
+pub use laws::days_stay;
 pub use system::{SystemClaim, SystemClaims, SystemLeft};

@@ -15,7 +15,7 @@ returns-then-is_empty-clause-told g c =
     let root : Path = c.args.walk.now.root.now in
     let none : c.args.walk.now.below.now ≡ [] = is_nothing c.args.walk.now.below.now c.is_empty.result c.is_empty.ensures c.if-is_empty.true in
     on_ok_as c.visit_folder.result (λ told. subst (λ folders. TellsWalk (g.V.EntryVisitor.tells visitor) (g.V.EntryVisitor.says visitor)
-    (g.V.EntryVisitor.does visitor true) (g.V.EntryVisitor.listless visitor) root (λ past new. AreEntriesBetween (g.V.EntryVisitor.does visitor true) past new root folders)
+    (g.V.EntryVisitor.does visitor true) (g.V.EntryVisitor.between visitor) (g.V.EntryVisitor.listless visitor) root (λ past new. AreEntriesBetween (g.V.EntryVisitor.does visitor true) past new root folders)
     (g.T.Tree.went c.args.tree.now) (g.T.Tree.went c.visit_folder.new.tree)
     (g.O.Sink.device c.args.out.now) (g.O.Sink.device c.visit_folder.new.out) c.args.tally.now c.visit_folder.new.tally) (sym none) told)
     c.visit_folder.ensures.told
@@ -31,7 +31,7 @@ returns-then-is_empty-clause-holds g c = c.visit_folder.ensures.holds
 
 pub loop-folder-init : goal.loop-folder-init
 loop-folder-init g c = record {
-  visited = no_folder_yet g.V.EntryVisitor.tells g.V.EntryVisitor.stops g.V.EntryVisitor.says g.V.EntryVisitor.does g.V.EntryVisitor.listless
+  visited = no_folder_yet g.V.EntryVisitor.tells g.V.EntryVisitor.stops g.V.EntryVisitor.says g.V.EntryVisitor.does g.V.EntryVisitor.between g.V.EntryVisitor.listless
       g.met.V.EntryVisitor.laws c.args.walk.now.visitor.now c.args.walk.now.root.now
       (g.T.Tree.went c.args.tree.now) (g.O.Sink.device c.args.out.now) c.args.tally.now;
   holds = c.requires.holds;
@@ -47,14 +47,14 @@ loop-folder-preserved g c =
     let one_more : take (i + 1) folders ≡ take i folders ++ folder ∷ [] = take_more folders i none c.loop-folder-test.true in
     let visited = c.in_ok-visit_folder.ensures.told in
     record {
-      visited = rw one_more (next_below g.V.EntryVisitor.tells g.V.EntryVisitor.stops g.V.EntryVisitor.says g.V.EntryVisitor.does g.V.EntryVisitor.listless
+      visited = rw one_more (next_below g.V.EntryVisitor.tells g.V.EntryVisitor.stops g.V.EntryVisitor.says g.V.EntryVisitor.does g.V.EntryVisitor.between g.V.EntryVisitor.listless
           g.met.V.EntryVisitor.laws c.args.walk.now.visitor.now c.args.walk.now.root.now _ c.levels_below.result folder (take i folders)
           (g.T.Tree.went c.args.tree.now) (g.T.Tree.went c.loop-folder.tree) (g.T.Tree.went c.visit_folder-in-loop-folder.new.tree)
           (g.O.Sink.device c.args.out.now) (g.O.Sink.device c.loop-folder.out) (g.O.Sink.device c.visit_folder-in-loop-folder.new.out)
           c.args.tally.now c.loop-folder.tally c.visit_folder-in-loop-folder.new.tally
           c.levels_below.ensures c.unwrap_or-levels.ensures c.loop-folder.invariant.visited visited);
       holds = c.visit_folder-in-loop-folder.ensures.holds;
-      count = told_can_count g.V.EntryVisitor.tells g.V.EntryVisitor.stops g.V.EntryVisitor.says g.V.EntryVisitor.does g.V.EntryVisitor.listless
+      count = told_can_count g.V.EntryVisitor.tells g.V.EntryVisitor.stops g.V.EntryVisitor.says g.V.EntryVisitor.does g.V.EntryVisitor.between g.V.EntryVisitor.listless
           g.met.V.EntryVisitor.laws c.args.walk.now.visitor.now c.args.walk.now.root.now visited.lines (g.O.Sink.device c.loop-folder.out) (g.O.Sink.device c.visit_folder-in-loop-folder.new.out)
           c.loop-folder.tally c.visit_folder-in-loop-folder.new.tally visited.told c.loop-folder.invariant.count;
     }
@@ -66,7 +66,7 @@ returns-in_err-visit_folder-clause-told g c =
 pub returns-in_err-visit_folder-clause-stops : goal.returns-in_err-visit_folder-clause-stops
 returns-in_err-visit_folder-clause-stops g c =
     let p = err_from_is_err_and c.from_residual.result c.from_residual.ensures.1 in
-    rw (p.1, p.2) (stops_later g.V.EntryVisitor.tells g.V.EntryVisitor.stops g.V.EntryVisitor.says g.V.EntryVisitor.does g.V.EntryVisitor.listless
+    rw (p.1, p.2) (stops_later g.V.EntryVisitor.tells g.V.EntryVisitor.stops g.V.EntryVisitor.says g.V.EntryVisitor.does g.V.EntryVisitor.between g.V.EntryVisitor.listless
     g.met.V.EntryVisitor.laws c.args.walk.now.visitor.now c.args.walk.now.root.now
     (λ past new. ForEach (AreEntriesBelow (IsMoment (g.V.EntryVisitor.does c.args.walk.now.visitor.now true) new) past c.args.walk.now.root.now) (take c.loop-folder.folder-index c.args.walk.now.below.now))
     (g.T.Tree.went c.args.tree.now) (g.T.Tree.went c.loop-folder.tree) (g.O.Sink.device c.args.out.now) (g.O.Sink.device c.loop-folder.out)
@@ -75,10 +75,10 @@ returns-in_err-visit_folder-clause-stops g c =
 pub returns-in_err-visit_folder-clause-does : goal.returns-in_err-visit_folder-clause-does
 returns-in_err-visit_folder-clause-does g c =
     let p = err_from_is_err_and c.from_residual.result c.from_residual.ensures.1 in
-    rw p.1 (does_both g.V.EntryVisitor.tells g.V.EntryVisitor.stops g.V.EntryVisitor.says g.V.EntryVisitor.does g.V.EntryVisitor.listless
+    rw p.1 (does_both g.V.EntryVisitor.tells g.V.EntryVisitor.stops g.V.EntryVisitor.says g.V.EntryVisitor.does g.V.EntryVisitor.between g.V.EntryVisitor.listless
     g.met.V.EntryVisitor.laws c.args.walk.now.visitor.now c.args.walk.now.root.now false
     (g.T.Tree.went c.args.tree.now) (g.T.Tree.went c.loop-folder.tree) (g.T.Tree.went c.visit_folder-in-loop-folder.new.tree)
-    (does_walk g.V.EntryVisitor.tells g.V.EntryVisitor.stops g.V.EntryVisitor.says g.V.EntryVisitor.does g.V.EntryVisitor.listless
+    (does_walk g.V.EntryVisitor.tells g.V.EntryVisitor.stops g.V.EntryVisitor.says g.V.EntryVisitor.does g.V.EntryVisitor.between g.V.EntryVisitor.listless
     g.met.V.EntryVisitor.laws c.args.walk.now.visitor.now c.args.walk.now.root.now
     (λ past new. ForEach (AreEntriesBelow (IsMoment (g.V.EntryVisitor.does c.args.walk.now.visitor.now true) new) past c.args.walk.now.root.now) (take c.loop-folder.folder-index c.args.walk.now.below.now))
     (g.T.Tree.went c.args.tree.now) (g.T.Tree.went c.loop-folder.tree) (g.O.Sink.device c.args.out.now) (g.O.Sink.device c.loop-folder.out)
@@ -93,19 +93,19 @@ returns-clause-told g c =
     let folders : List (Bor Path) = c.args.walk.now.below.now in
     let end : c.loop-folder.folder-index ≡ length folders = omega (arith, c.loop-folder-test.false, c.loop-folder.auto.folder-index-end) in
     let all : take c.loop-folder.folder-index folders ≡ folders = ap (λ n. take n folders) end ∙ take-length folders in
-    walked_folders g.V.EntryVisitor.tells g.V.EntryVisitor.stops g.V.EntryVisitor.says g.V.EntryVisitor.does g.V.EntryVisitor.listless
+    walked_folders g.V.EntryVisitor.tells g.V.EntryVisitor.stops g.V.EntryVisitor.says g.V.EntryVisitor.does g.V.EntryVisitor.between g.V.EntryVisitor.listless
     g.met.V.EntryVisitor.laws c.args.walk.now.visitor.now c.args.walk.now.root.now folders c.is_empty.result c.is_empty.ensures c.if-is_empty.false
     (g.T.Tree.went c.args.tree.now) (g.T.Tree.went c.loop-folder.tree) (g.O.Sink.device c.args.out.now) (g.O.Sink.device c.loop-folder.out)
     c.args.tally.now c.loop-folder.tally
     (subst (λ some. TellsWalk (g.V.EntryVisitor.tells c.args.walk.now.visitor.now) (g.V.EntryVisitor.says c.args.walk.now.visitor.now)
-    (g.V.EntryVisitor.does c.args.walk.now.visitor.now true) (g.V.EntryVisitor.listless c.args.walk.now.visitor.now) c.args.walk.now.root.now
+    (g.V.EntryVisitor.does c.args.walk.now.visitor.now true) (g.V.EntryVisitor.between c.args.walk.now.visitor.now) (g.V.EntryVisitor.listless c.args.walk.now.visitor.now) c.args.walk.now.root.now
     (λ past new. ForEach (AreEntriesBelow (IsMoment (g.V.EntryVisitor.does c.args.walk.now.visitor.now true) new) past c.args.walk.now.root.now) some)
     (g.T.Tree.went c.args.tree.now) (g.T.Tree.went c.loop-folder.tree) (g.O.Sink.device c.args.out.now) (g.O.Sink.device c.loop-folder.out)
     c.args.tally.now c.loop-folder.tally) all c.loop-folder.invariant.visited)
 
 pub returns-clause-does : goal.returns-clause-does
 returns-clause-does g c =
-    does_walk g.V.EntryVisitor.tells g.V.EntryVisitor.stops g.V.EntryVisitor.says g.V.EntryVisitor.does g.V.EntryVisitor.listless
+    does_walk g.V.EntryVisitor.tells g.V.EntryVisitor.stops g.V.EntryVisitor.says g.V.EntryVisitor.does g.V.EntryVisitor.between g.V.EntryVisitor.listless
     g.met.V.EntryVisitor.laws c.args.walk.now.visitor.now c.args.walk.now.root.now
     (λ past new. ForEach (AreEntriesBelow (IsMoment (g.V.EntryVisitor.does c.args.walk.now.visitor.now true) new) past c.args.walk.now.root.now) (take c.loop-folder.folder-index c.args.walk.now.below.now))
     (g.T.Tree.went c.args.tree.now) (g.T.Tree.went c.loop-folder.tree) (g.O.Sink.device c.args.out.now) (g.O.Sink.device c.loop-folder.out)

@@ -12,11 +12,11 @@ pub returns-clause-told : goal.returns-clause-told
 returns-clause-told g c =
     let archive = c.args.archive.now in
     let folders = archive.folders in
-    subst (λ below. OnOk c.visit_entries.result (TellsWalk (TellsEntries archive) (IsToldOfRoot archive.known (names_asked archive.names) folders.root.now folders.out.now folders.reports.now) OnlyReads (Unit {0})
+    subst (λ below. OnOk c.visit_entries.result (TellsWalk (TellsEntries archive) (IsToldOfRoot archive.known (names_asked archive.names) folders.root.now folders.out.now folders.reports.now) OnlyReads OnlyReads (Unit {0})
     folders.root.now (λ past new. AreEntriesOf past folders.root.now below) (g.T.Tree.went c.args.tree.now) (g.T.Tree.went c.visit_entries.new.tree)
     (g.O.Sink.device c.args.out.now) (g.O.Sink.device c.visit_entries.new.out) c.args.tally.now c.visit_entries.new.tally))
     c.as_slice.ensures.value
-    (on_ok_as c.visit_entries.result (λ told. tells_now (TellsEntries archive) (IsToldOfRoot archive.known (names_asked archive.names) folders.root.now folders.out.now folders.reports.now) OnlyReads (Unit {0})
+    (on_ok_as c.visit_entries.result (λ told. tells_now (TellsEntries archive) (IsToldOfRoot archive.known (names_asked archive.names) folders.root.now folders.out.now folders.reports.now) OnlyReads OnlyReads (Unit {0})
     folders.root.now c.as_slice.result.now (g.T.Tree.went c.args.tree.now) (g.T.Tree.went c.visit_entries.new.tree)
     (g.O.Sink.device c.args.out.now) (g.O.Sink.device c.visit_entries.new.out) c.args.tally.now c.visit_entries.new.tally
     (λ old new reads. reads_same folders.root.now old new reads) told) c.visit_entries.ensures.told)

@@ -17,7 +17,7 @@ use Rattle.msr_folders.proofs.entries.EntryWalk.+walk.Goals as goal
 pub visit_path-returns-then-eq-clause-told : goal.visit_path-returns-then-eq-clause-told
 visit_path-returns-then-eq-clause-told g t c =
     let is : c.in_ok-kind.kind ≡ Folder = grind (arith, c.eq.ensures, c.if-eq.true) in
-    on_ok_as c.visit_folder.result (λ told. next_folder g.V.EntryVisitor.tells g.V.EntryVisitor.stops g.V.EntryVisitor.says g.V.EntryVisitor.does
+    on_ok_as c.visit_folder.result (λ told. next_folder g.V.EntryVisitor.tells g.V.EntryVisitor.stops g.V.EntryVisitor.says g.V.EntryVisitor.does g.V.EntryVisitor.between
     g.V.EntryVisitor.listless g.met.V.EntryVisitor.laws c.args.self.now.visitor.now c.args.self.now.root.now c.args.levels c.args.path.now
     (g.T.Tree.went c.args.tree.now) (g.T.Tree.went c.visit_folder.new.tree) (g.O.Sink.device c.args.out.now) (g.O.Sink.device c.visit_folder.new.out)
     c.args.tally.now c.visit_folder.new.tally (c.in_ok-kind.ensures.some is) told) c.visit_folder.ensures.told
@@ -25,14 +25,14 @@ visit_path-returns-then-eq-clause-told g t c =
 pub visit_path-returns-clause-told : goal.visit_path-returns-clause-told
 visit_path-returns-clause-told g t c =
     let apart : c.in_ok-kind.kind ≢ Folder = λ is. absurd (grind (arith, c.eq.ensures, c.if-eq.false, is)) in
-    on_ok_as c.visit_entry.result (λ told. next_entry g.V.EntryVisitor.tells g.V.EntryVisitor.stops g.V.EntryVisitor.says g.V.EntryVisitor.does
+    on_ok_as c.visit_entry.result (λ told. next_entry g.V.EntryVisitor.tells g.V.EntryVisitor.stops g.V.EntryVisitor.says g.V.EntryVisitor.does g.V.EntryVisitor.between
     g.V.EntryVisitor.listless g.met.V.EntryVisitor.laws c.args.self.now.visitor.now c.args.self.now.root.now c.args.levels c.args.path.now c.in_ok-kind.kind
     (g.T.Tree.went c.args.tree.now) (g.T.Tree.went c.visit_entry.new.tree) (g.O.Sink.device c.args.out.now) (g.O.Sink.device c.visit_entry.new.out)
     c.args.tally.now c.visit_entry.new.tally apart c.in_ok-kind.ensures told) c.visit_entry.ensures.told
 
 pub visit_path-returns-clause-does : goal.visit_path-returns-clause-does
 visit_path-returns-clause-does g t c =
-    does_visit g.V.EntryVisitor.tells g.V.EntryVisitor.stops g.V.EntryVisitor.says g.V.EntryVisitor.does
+    does_visit g.V.EntryVisitor.tells g.V.EntryVisitor.stops g.V.EntryVisitor.says g.V.EntryVisitor.does g.V.EntryVisitor.between
     g.V.EntryVisitor.listless g.met.V.EntryVisitor.laws c.args.self.now.visitor.now c.args.self.now.root.now (is_ok c.visit_entry.result)
     (g.T.Tree.went c.args.tree.now) (g.T.Tree.went c.visit_entry.new.tree) c.visit_entry.ensures.does
 
@@ -45,13 +45,13 @@ visit_folder-loop-name-init g t c =
     let root : Path = c.args.self.now.root.now in
     let opened = rw c.in-Some.is at c.in_ok-opened.ensures.told in
     record {
-      visited = subst (λ items. TellsWalk (g.V.EntryVisitor.tells visitor) (g.V.EntryVisitor.says visitor) (g.V.EntryVisitor.does visitor true) (g.V.EntryVisitor.listless visitor) root
+      visited = subst (λ items. TellsWalk (g.V.EntryVisitor.tells visitor) (g.V.EntryVisitor.says visitor) (g.V.EntryVisitor.does visitor true) (g.V.EntryVisitor.between visitor) (g.V.EntryVisitor.listless visitor) root
           (λ past new. AreSoFar (IsMoment (g.V.EntryVisitor.does visitor true) new) root c.args.levels c.args.folder.now (listed items) [] past)
           (g.T.Tree.went c.args.tree.now) (g.T.Tree.went c.open_folder.new.tree)
           (g.O.Sink.device c.args.out.now) (g.O.Sink.device c.open_folder.new.out) c.args.tally.now c.open_folder.new.tally)
           (sym c.deref-name-items.ensures.value) opened;
       holds = c.open_folder.ensures.holds;
-      count = told_can_count g.V.EntryVisitor.tells g.V.EntryVisitor.stops g.V.EntryVisitor.says g.V.EntryVisitor.does
+      count = told_can_count g.V.EntryVisitor.tells g.V.EntryVisitor.stops g.V.EntryVisitor.says g.V.EntryVisitor.does g.V.EntryVisitor.between
           g.V.EntryVisitor.listless g.met.V.EntryVisitor.laws visitor root
           opened.lines (g.O.Sink.device c.args.out.now) (g.O.Sink.device c.open_folder.new.out) c.args.tally.now c.open_folder.new.tally opened.told (search rules);
     }
@@ -71,17 +71,17 @@ visit_folder-loop-name-preserved g t c =
     let named : name ≡ string_bytes c.name-item.result = name_at items i c.name-item.result c.loop-name-test.true (sym c.name-item.is) in
     let path : c.as_str-in-loop-name.result.now ≡ below folder name =
     c.as_str-in-loop-name.ensures.value ∙ (c.in_ok-path.ensures ∙ ap (λ n. below folder n) (c.as_str.ensures.value ∙ sym named)) in
-    let visited = subst (λ p. TellsWalk (g.V.EntryVisitor.tells visitor) (g.V.EntryVisitor.says visitor) (g.V.EntryVisitor.does visitor true) (g.V.EntryVisitor.listless visitor) root
+    let visited = subst (λ p. TellsWalk (g.V.EntryVisitor.tells visitor) (g.V.EntryVisitor.says visitor) (g.V.EntryVisitor.does visitor true) (g.V.EntryVisitor.between visitor) (g.V.EntryVisitor.listless visitor) root
     (λ past new. AreOfEntry (IsMoment (g.V.EntryVisitor.does visitor true) new) past root levels p) (g.T.Tree.went c.loop-name.tree) (g.T.Tree.went c.visit_path.new.tree)
     (g.O.Sink.device c.loop-name.out) (g.O.Sink.device c.visit_path.new.out) c.loop-name.tally c.visit_path.new.tally) path c.in_ok-visit_path.ensures.told in
     record {
-      visited = rw one_more (next_name g.V.EntryVisitor.tells g.V.EntryVisitor.stops g.V.EntryVisitor.says g.V.EntryVisitor.does
+      visited = rw one_more (next_name g.V.EntryVisitor.tells g.V.EntryVisitor.stops g.V.EntryVisitor.says g.V.EntryVisitor.does g.V.EntryVisitor.between
           g.V.EntryVisitor.listless g.met.V.EntryVisitor.laws visitor root levels folder name names (take i names)
           (g.T.Tree.went c.args.tree.now) (g.T.Tree.went c.loop-name.tree) (g.T.Tree.went c.visit_path.new.tree)
           (g.O.Sink.device c.args.out.now) (g.O.Sink.device c.loop-name.out) (g.O.Sink.device c.visit_path.new.out)
           c.args.tally.now c.loop-name.tally c.visit_path.new.tally c.loop-name.invariant.visited visited);
       holds = c.visit_path.ensures.holds;
-      count = told_can_count g.V.EntryVisitor.tells g.V.EntryVisitor.stops g.V.EntryVisitor.says g.V.EntryVisitor.does
+      count = told_can_count g.V.EntryVisitor.tells g.V.EntryVisitor.stops g.V.EntryVisitor.says g.V.EntryVisitor.does g.V.EntryVisitor.between
           g.V.EntryVisitor.listless g.met.V.EntryVisitor.laws visitor root
           visited.lines (g.O.Sink.device c.loop-name.out) (g.O.Sink.device c.visit_path.new.out) c.loop-name.tally c.visit_path.new.tally visited.told c.loop-name.invariant.count;
     }
@@ -96,12 +96,12 @@ visit_folder-returns-clause-told g t c =
     let names : List Path = listed items in
     let end : c.loop-name.name-index ≡ length names = omega (arith, c.loop-name-test.false, c.loop-name.auto.name-index-end, length-map items (λ s. string_bytes s)) in
     let all : take c.loop-name.name-index names ≡ names = ap (λ n. take n names) end ∙ take-length names in
-    on_ok_as c.leave_folder.result (λ left. all_names g.V.EntryVisitor.tells g.V.EntryVisitor.stops g.V.EntryVisitor.says g.V.EntryVisitor.does
+    on_ok_as c.leave_folder.result (λ left. all_names g.V.EntryVisitor.tells g.V.EntryVisitor.stops g.V.EntryVisitor.says g.V.EntryVisitor.does g.V.EntryVisitor.between
     g.V.EntryVisitor.listless g.met.V.EntryVisitor.laws visitor root levels folder names
     (g.T.Tree.went c.args.tree.now) (g.T.Tree.went c.loop-name.tree) (g.T.Tree.went c.leave_folder.new.tree)
     (g.O.Sink.device c.args.out.now) (g.O.Sink.device c.loop-name.out) (g.O.Sink.device c.leave_folder.new.out)
     c.args.tally.now c.loop-name.tally c.leave_folder.new.tally
-    (subst (λ taken. TellsWalk (g.V.EntryVisitor.tells visitor) (g.V.EntryVisitor.says visitor) (g.V.EntryVisitor.does visitor true) (g.V.EntryVisitor.listless visitor) root
+    (subst (λ taken. TellsWalk (g.V.EntryVisitor.tells visitor) (g.V.EntryVisitor.says visitor) (g.V.EntryVisitor.does visitor true) (g.V.EntryVisitor.between visitor) (g.V.EntryVisitor.listless visitor) root
     (λ past new. AreSoFar (IsMoment (g.V.EntryVisitor.does visitor true) new) root levels folder names taken past) (g.T.Tree.went c.args.tree.now) (g.T.Tree.went c.loop-name.tree)
     (g.O.Sink.device c.args.out.now) (g.O.Sink.device c.loop-name.out) c.args.tally.now c.loop-name.tally) all c.loop-name.invariant.visited) left)
     c.leave_folder.ensures.told
@@ -110,10 +110,10 @@ pub visit_folder-returns-clause-does : goal.visit_folder-returns-clause-does
 visit_folder-returns-clause-does g t c =
     let visitor = c.args.self.now.visitor.now in
     let root : Path = c.args.self.now.root.now in
-    does_then g.V.EntryVisitor.tells g.V.EntryVisitor.stops g.V.EntryVisitor.says g.V.EntryVisitor.does
+    does_then g.V.EntryVisitor.tells g.V.EntryVisitor.stops g.V.EntryVisitor.says g.V.EntryVisitor.does g.V.EntryVisitor.between
     g.V.EntryVisitor.listless g.met.V.EntryVisitor.laws visitor root (is_ok c.leave_folder.result)
     (g.T.Tree.went c.args.tree.now) (g.T.Tree.went c.loop-name.tree) (g.T.Tree.went c.leave_folder.new.tree)
-    (does_walk g.V.EntryVisitor.tells g.V.EntryVisitor.stops g.V.EntryVisitor.says g.V.EntryVisitor.does
+    (does_walk g.V.EntryVisitor.tells g.V.EntryVisitor.stops g.V.EntryVisitor.says g.V.EntryVisitor.does g.V.EntryVisitor.between
     g.V.EntryVisitor.listless g.met.V.EntryVisitor.laws visitor root
     (λ past new. AreSoFar (IsMoment (g.V.EntryVisitor.does visitor true) new) root c.args.levels c.args.folder.now
     (listed c.deref-name-items.result.now) (take c.loop-name.name-index (listed c.deref-name-items.result.now)) past)
@@ -123,7 +123,7 @@ visit_folder-returns-clause-does g t c =
 
 pub visit_folder-returns-clause-stops : goal.visit_folder-returns-clause-stops
 visit_folder-returns-clause-stops g t c =
-    if_err_as c.leave_folder.result (stops_later g.V.EntryVisitor.tells g.V.EntryVisitor.stops g.V.EntryVisitor.says g.V.EntryVisitor.does
+    if_err_as c.leave_folder.result (stops_later g.V.EntryVisitor.tells g.V.EntryVisitor.stops g.V.EntryVisitor.says g.V.EntryVisitor.does g.V.EntryVisitor.between
     g.V.EntryVisitor.listless g.met.V.EntryVisitor.laws c.args.self.now.visitor.now c.args.self.now.root.now
     (λ past new. AreSoFar (IsMoment (g.V.EntryVisitor.does c.args.self.now.visitor.now true) new) c.args.self.now.root.now c.args.levels c.args.folder.now
     (listed c.deref-name-items.result.now) (take c.loop-name.name-index (listed c.deref-name-items.result.now)) past)
@@ -148,7 +148,7 @@ visit_folder-returns-in_err-path-clause-told g t c =
 pub visit_folder-returns-in_err-path-clause-stops : goal.visit_folder-returns-in_err-path-clause-stops
 visit_folder-returns-in_err-path-clause-stops g t c =
     let p = err_from_is_err_and c.from_residual-in_err-path.result c.from_residual-in_err-path.ensures.1 in
-    rw (p.1, p.2) (stops_later g.V.EntryVisitor.tells g.V.EntryVisitor.stops g.V.EntryVisitor.says g.V.EntryVisitor.does
+    rw (p.1, p.2) (stops_later g.V.EntryVisitor.tells g.V.EntryVisitor.stops g.V.EntryVisitor.says g.V.EntryVisitor.does g.V.EntryVisitor.between
     g.V.EntryVisitor.listless g.met.V.EntryVisitor.laws c.args.self.now.visitor.now c.args.self.now.root.now
     (λ past new. AreSoFar (IsMoment (g.V.EntryVisitor.does c.args.self.now.visitor.now true) new) c.args.self.now.root.now c.args.levels c.args.folder.now
     (listed c.deref-name-items.result.now) (take c.loop-name.name-index (listed c.deref-name-items.result.now)) past)
@@ -159,10 +159,10 @@ visit_folder-returns-in_err-path-clause-stops g t c =
 pub visit_folder-returns-in_err-path-clause-does : goal.visit_folder-returns-in_err-path-clause-does
 visit_folder-returns-in_err-path-clause-does g t c =
     let p = err_from_is_err_and c.from_residual-in_err-path.result c.from_residual-in_err-path.ensures.1 in
-    rw p.1 (does_end g.V.EntryVisitor.tells g.V.EntryVisitor.stops g.V.EntryVisitor.says g.V.EntryVisitor.does
+    rw p.1 (does_end g.V.EntryVisitor.tells g.V.EntryVisitor.stops g.V.EntryVisitor.says g.V.EntryVisitor.does g.V.EntryVisitor.between
     g.V.EntryVisitor.listless g.met.V.EntryVisitor.laws c.args.self.now.visitor.now c.args.self.now.root.now
     (g.T.Tree.went c.args.tree.now) (g.T.Tree.went c.loop-name.tree)
-    (does_walk g.V.EntryVisitor.tells g.V.EntryVisitor.stops g.V.EntryVisitor.says g.V.EntryVisitor.does
+    (does_walk g.V.EntryVisitor.tells g.V.EntryVisitor.stops g.V.EntryVisitor.says g.V.EntryVisitor.does g.V.EntryVisitor.between
     g.V.EntryVisitor.listless g.met.V.EntryVisitor.laws c.args.self.now.visitor.now c.args.self.now.root.now
     (λ past new. AreSoFar (IsMoment (g.V.EntryVisitor.does c.args.self.now.visitor.now true) new) c.args.self.now.root.now c.args.levels c.args.folder.now
     (listed c.deref-name-items.result.now) (take c.loop-name.name-index (listed c.deref-name-items.result.now)) past)
@@ -180,7 +180,7 @@ visit_folder-returns-in_err-visit_path-clause-told g t c =
 pub visit_folder-returns-in_err-visit_path-clause-stops : goal.visit_folder-returns-in_err-visit_path-clause-stops
 visit_folder-returns-in_err-visit_path-clause-stops g t c =
     let p = err_from_is_err_and c.from_residual-in_err-visit_path.result c.from_residual-in_err-visit_path.ensures.1 in
-    rw (p.1, p.2) (stops_later g.V.EntryVisitor.tells g.V.EntryVisitor.stops g.V.EntryVisitor.says g.V.EntryVisitor.does
+    rw (p.1, p.2) (stops_later g.V.EntryVisitor.tells g.V.EntryVisitor.stops g.V.EntryVisitor.says g.V.EntryVisitor.does g.V.EntryVisitor.between
     g.V.EntryVisitor.listless g.met.V.EntryVisitor.laws c.args.self.now.visitor.now c.args.self.now.root.now
     (λ past new. AreSoFar (IsMoment (g.V.EntryVisitor.does c.args.self.now.visitor.now true) new) c.args.self.now.root.now c.args.levels c.args.folder.now
     (listed c.deref-name-items.result.now) (take c.loop-name.name-index (listed c.deref-name-items.result.now)) past)
@@ -191,10 +191,10 @@ visit_folder-returns-in_err-visit_path-clause-stops g t c =
 pub visit_folder-returns-in_err-visit_path-clause-does : goal.visit_folder-returns-in_err-visit_path-clause-does
 visit_folder-returns-in_err-visit_path-clause-does g t c =
     let p = err_from_is_err_and c.from_residual-in_err-visit_path.result c.from_residual-in_err-visit_path.ensures.1 in
-    rw p.1 (does_both g.V.EntryVisitor.tells g.V.EntryVisitor.stops g.V.EntryVisitor.says g.V.EntryVisitor.does
+    rw p.1 (does_both g.V.EntryVisitor.tells g.V.EntryVisitor.stops g.V.EntryVisitor.says g.V.EntryVisitor.does g.V.EntryVisitor.between
     g.V.EntryVisitor.listless g.met.V.EntryVisitor.laws c.args.self.now.visitor.now c.args.self.now.root.now false
     (g.T.Tree.went c.args.tree.now) (g.T.Tree.went c.loop-name.tree) (g.T.Tree.went c.visit_path.new.tree)
-    (does_walk g.V.EntryVisitor.tells g.V.EntryVisitor.stops g.V.EntryVisitor.says g.V.EntryVisitor.does
+    (does_walk g.V.EntryVisitor.tells g.V.EntryVisitor.stops g.V.EntryVisitor.says g.V.EntryVisitor.does g.V.EntryVisitor.between
     g.V.EntryVisitor.listless g.met.V.EntryVisitor.laws c.args.self.now.visitor.now c.args.self.now.root.now
     (λ past new. AreSoFar (IsMoment (g.V.EntryVisitor.does c.args.self.now.visitor.now true) new) c.args.self.now.root.now c.args.levels c.args.folder.now
     (listed c.deref-name-items.result.now) (take c.loop-name.name-index (listed c.deref-name-items.result.now)) past)
@@ -217,7 +217,7 @@ visit_path-returns-in_err-kind-clause-stops g t c =
 pub visit_path-returns-in_err-kind-clause-does : goal.visit_path-returns-in_err-kind-clause-does
 visit_path-returns-in_err-kind-clause-does g t c =
     let p = err_from_is_err_and c.from_residual.result c.from_residual.ensures.1 in
-    rw p.1 (does_end g.V.EntryVisitor.tells g.V.EntryVisitor.stops g.V.EntryVisitor.says g.V.EntryVisitor.does
+    rw p.1 (does_end g.V.EntryVisitor.tells g.V.EntryVisitor.stops g.V.EntryVisitor.says g.V.EntryVisitor.does g.V.EntryVisitor.between
     g.V.EntryVisitor.listless g.met.V.EntryVisitor.laws c.args.self.now.visitor.now c.args.self.now.root.now (g.T.Tree.went c.args.tree.now) (g.T.Tree.went c.args.tree.now)
     (goes_none (g.V.EntryVisitor.does c.args.self.now.visitor.now true) (g.T.Tree.went c.args.tree.now) (g.met.V.EntryVisitor.laws.still c.args.self.now.visitor.now)))
 

@@ -16,7 +16,7 @@ decreases-visit_folder g l = l.levels * 2 + 1
 abbrev pub invariant-visit_folder-loop-name : goal.invariant-visit_folder-loop-name
 invariant-visit_folder-loop-name g l = record {
   visited : TellsWalk (g.V.EntryVisitor.tells l.self.visitor.now) (g.V.EntryVisitor.says l.self.visitor.now)
-      (g.V.EntryVisitor.does l.self.visitor.now true) (g.V.EntryVisitor.listless l.self.visitor.now) l.self.root.now
+      (g.V.EntryVisitor.does l.self.visitor.now true) (g.V.EntryVisitor.between l.self.visitor.now) (g.V.EntryVisitor.listless l.self.visitor.now) l.self.root.now
       (λ past new. AreSoFar (IsMoment (g.V.EntryVisitor.does l.self.visitor.now true) new) l.self.root.now l.fn.levels l.fn.folder
       (listed l.name-items) (take l.name-index (listed l.name-items)) past)
       (g.T.Tree.went l.fn.tree) (g.T.Tree.went l.tree) (g.O.Sink.device l.fn.out) (g.O.Sink.device l.out) l.fn.tally l.tally;

@@ -18,7 +18,7 @@ returns-in_err-place-clause-stops g c =
 pub returns-in_err-place-clause-does : goal.returns-in_err-place-clause-does
 returns-in_err-place-clause-does g c =
     let p = err_from_is_err_and c.from_residual.result c.from_residual.ensures.1 in
-    rw p.1 (does_end g.V.EntryVisitor.tells g.V.EntryVisitor.stops g.V.EntryVisitor.says g.V.EntryVisitor.does g.V.EntryVisitor.listless
+    rw p.1 (does_end g.V.EntryVisitor.tells g.V.EntryVisitor.stops g.V.EntryVisitor.says g.V.EntryVisitor.does g.V.EntryVisitor.between g.V.EntryVisitor.listless
     g.met.V.EntryVisitor.laws c.args.self.now.visitor.now c.args.self.now.root.now (g.T.Tree.went c.args.tree.now) (g.T.Tree.went c.args.tree.now)
     (goes_none (g.V.EntryVisitor.does c.args.self.now.visitor.now true) (g.T.Tree.went c.args.tree.now) (g.met.V.EntryVisitor.laws.still c.args.self.now.visitor.now)))
 
@@ -29,12 +29,12 @@ returns-in_err-place-clause-holds g c = c.requires.holds
 pub returns-in-Ok-clause-told : goal.returns-in-Ok-clause-told
 returns-in-Ok-clause-told g c = λ levels.
     let at : c.as_str.result.now ≡ joined c.args.self.now.root.now c.args.folder.now = search rules in
-    walk_listed g.V.EntryVisitor.tells g.V.EntryVisitor.stops g.V.EntryVisitor.says g.V.EntryVisitor.does g.V.EntryVisitor.listless
+    walk_listed g.V.EntryVisitor.tells g.V.EntryVisitor.stops g.V.EntryVisitor.says g.V.EntryVisitor.does g.V.EntryVisitor.between g.V.EntryVisitor.listless
     g.met.V.EntryVisitor.laws c.args.self.now.visitor.now c.args.self.now.root.now levels c.args.folder.now c.as_str.result.now (listed c.in-Ok.names.items)
     (g.T.Tree.went c.args.tree.now) (g.T.Tree.went c.list.new.self) (g.O.Sink.device c.args.out.now) c.args.tally.now at c.in-Ok.ensures.went
 
 pub returns-in-Ok-clause-does : goal.returns-in-Ok-clause-does
-returns-in-Ok-clause-does g c = does_listed g.V.EntryVisitor.tells g.V.EntryVisitor.stops g.V.EntryVisitor.says g.V.EntryVisitor.does g.V.EntryVisitor.listless
+returns-in-Ok-clause-does g c = does_listed g.V.EntryVisitor.tells g.V.EntryVisitor.stops g.V.EntryVisitor.says g.V.EntryVisitor.does g.V.EntryVisitor.between g.V.EntryVisitor.listless
     g.met.V.EntryVisitor.laws c.args.self.now.visitor.now c.args.self.now.root.now c.as_str.result.now (λ names. listed names.items) c.list.result
     (g.T.Tree.went c.args.tree.now) (g.T.Tree.went c.list.new.self) c.list.ensures.went
 
@@ -48,9 +48,9 @@ returns-in-Err-Memory-clause-stops g c = g.met.V.EntryVisitor.laws.refused c.arg
 
 pub returns-in-Err-Memory-clause-does : goal.returns-in-Err-Memory-clause-does
 returns-in-Err-Memory-clause-does g c =
-    does_end g.V.EntryVisitor.tells g.V.EntryVisitor.stops g.V.EntryVisitor.says g.V.EntryVisitor.does g.V.EntryVisitor.listless
+    does_end g.V.EntryVisitor.tells g.V.EntryVisitor.stops g.V.EntryVisitor.says g.V.EntryVisitor.does g.V.EntryVisitor.between g.V.EntryVisitor.listless
     g.met.V.EntryVisitor.laws c.args.self.now.visitor.now c.args.self.now.root.now (g.T.Tree.went c.args.tree.now) (g.T.Tree.went c.list.new.self)
-    (does_listed g.V.EntryVisitor.tells g.V.EntryVisitor.stops g.V.EntryVisitor.says g.V.EntryVisitor.does g.V.EntryVisitor.listless
+    (does_listed g.V.EntryVisitor.tells g.V.EntryVisitor.stops g.V.EntryVisitor.says g.V.EntryVisitor.does g.V.EntryVisitor.between g.V.EntryVisitor.listless
     g.met.V.EntryVisitor.laws c.args.self.now.visitor.now c.args.self.now.root.now c.as_str.result.now (λ names. listed names.items) c.list.result
     (g.T.Tree.went c.args.tree.now) (g.T.Tree.went c.list.new.self) c.list.ensures.went)
 
@@ -81,10 +81,10 @@ pub returns-in_err-visit_unlisted-in-Err-Failed-clause-does :
     goal.returns-in_err-visit_unlisted-in-Err-Failed-clause-does
 returns-in_err-visit_unlisted-in-Err-Failed-clause-does g c =
     let p = err_from_is_err_and c.from_residual-in_err-visit_unlisted-in-Err-Failed.result c.from_residual-in_err-visit_unlisted-in-Err-Failed.ensures.1 in
-    rw p.1 (does_then g.V.EntryVisitor.tells g.V.EntryVisitor.stops g.V.EntryVisitor.says g.V.EntryVisitor.does g.V.EntryVisitor.listless
+    rw p.1 (does_then g.V.EntryVisitor.tells g.V.EntryVisitor.stops g.V.EntryVisitor.says g.V.EntryVisitor.does g.V.EntryVisitor.between g.V.EntryVisitor.listless
     g.met.V.EntryVisitor.laws c.args.self.now.visitor.now c.args.self.now.root.now false
     (g.T.Tree.went c.args.tree.now) (g.T.Tree.went c.list.new.self) (g.T.Tree.went c.visit_unlisted.new.tree)
-    (does_listed g.V.EntryVisitor.tells g.V.EntryVisitor.stops g.V.EntryVisitor.says g.V.EntryVisitor.does g.V.EntryVisitor.listless
+    (does_listed g.V.EntryVisitor.tells g.V.EntryVisitor.stops g.V.EntryVisitor.says g.V.EntryVisitor.does g.V.EntryVisitor.between g.V.EntryVisitor.listless
     g.met.V.EntryVisitor.laws c.args.self.now.visitor.now c.args.self.now.root.now c.as_str.result.now (λ names. listed names.items) c.list.result
     (g.T.Tree.went c.args.tree.now) (g.T.Tree.went c.list.new.self) c.list.ensures.went)
     c.in_err-visit_unlisted-in-Err-Failed.ensures.does)
@@ -97,7 +97,7 @@ pub returns-clause-told : goal.returns-clause-told
 returns-clause-told g c = λ levels.
     let at : c.as_str.result.now ≡ joined c.args.self.now.root.now c.args.folder.now = search rules in
     let lists = rw c.in-Err-Failed.field-0-is at c.in-Err-Failed.ensures.went in
-    walk_unlisted g.V.EntryVisitor.tells g.V.EntryVisitor.stops g.V.EntryVisitor.says g.V.EntryVisitor.does g.V.EntryVisitor.listless
+    walk_unlisted g.V.EntryVisitor.tells g.V.EntryVisitor.stops g.V.EntryVisitor.says g.V.EntryVisitor.does g.V.EntryVisitor.between g.V.EntryVisitor.listless
     g.met.V.EntryVisitor.laws c.args.self.now.visitor.now c.args.self.now.root.now levels c.args.folder.now c.as_str.result.now
     (g.T.Tree.went c.args.tree.now) (g.T.Tree.went c.list.new.self) (g.T.Tree.went c.visit_unlisted.new.tree)
     (g.O.Sink.device c.args.out.now) (g.O.Sink.device c.visit_unlisted.new.out)
@@ -105,10 +105,10 @@ returns-clause-told g c = λ levels.
 
 pub returns-clause-does : goal.returns-clause-does
 returns-clause-does g c =
-    does_then g.V.EntryVisitor.tells g.V.EntryVisitor.stops g.V.EntryVisitor.says g.V.EntryVisitor.does g.V.EntryVisitor.listless
+    does_then g.V.EntryVisitor.tells g.V.EntryVisitor.stops g.V.EntryVisitor.says g.V.EntryVisitor.does g.V.EntryVisitor.between g.V.EntryVisitor.listless
     g.met.V.EntryVisitor.laws c.args.self.now.visitor.now c.args.self.now.root.now true
     (g.T.Tree.went c.args.tree.now) (g.T.Tree.went c.list.new.self) (g.T.Tree.went c.visit_unlisted.new.tree)
-    (does_listed g.V.EntryVisitor.tells g.V.EntryVisitor.stops g.V.EntryVisitor.says g.V.EntryVisitor.does g.V.EntryVisitor.listless
+    (does_listed g.V.EntryVisitor.tells g.V.EntryVisitor.stops g.V.EntryVisitor.says g.V.EntryVisitor.does g.V.EntryVisitor.between g.V.EntryVisitor.listless
     g.met.V.EntryVisitor.laws c.args.self.now.visitor.now c.args.self.now.root.now c.as_str.result.now (λ names. listed names.items) c.list.result
     (g.T.Tree.went c.args.tree.now) (g.T.Tree.went c.list.new.self) c.list.ensures.went)
     c.in_ok-visit_unlisted-in-Err-Failed.ensures.does

@@ -25,7 +25,8 @@ returns-then-is_some-clause-told g c =
     (g.O.Sink.device c.args.out.now) c.args.progress.now (sym c.is_some.ensures ∙ c.if-is_some.true)
 
 pub returns-then-levels-gt0-clause-told : goal.returns-then-levels-gt0-clause-told
-returns-then-levels-gt0-clause-told g c = none_said (g.O.Sink.device c.args.out.now) c.args.progress.now
+returns-then-levels-gt0-clause-told g c =
+    (none_said (g.O.Sink.device c.args.out.now) c.args.progress.now, visit_still c.args.self.now.course c.args.self.now.work (g.T.Tree.went c.args.tree.now))
 
 pub returns-in_err-locked-clause-stops : goal.returns-in_err-locked-clause-stops
 returns-in_err-locked-clause-stops g c =
@@ -60,7 +61,11 @@ returns-in-Some-2-clause-told g c =
     (rw c.in-Some-2.is at c.in_ok-outcome.ensures.goes) c.in_ok-tell-2.ensures.told
 
 pub returns-clause-told : goal.returns-clause-told
-returns-clause-told g c = none_said (g.O.Sink.device c.args.out.now) c.args.progress.now
+returns-clause-told g c = (
+  none_said (g.O.Sink.device c.args.out.now) c.args.progress.now,
+  visit_does c.args.self.now.course c.args.self.now.work (DoesFor c.args.self.now.course c.args.self.now.work (Passes c.args.self.now.course c.args.self.now.work c.args.folder.now) c.begin.result)
+      (g.T.Tree.went c.args.tree.now) (g.T.Tree.went c.begin.new.tree) (λ old new is. is.later) c.begin.ensures.goes,
+)
 
 pub returns-then-is_some-clause-does : goal.returns-then-is_some-clause-does
 returns-then-is_some-clause-does g c = visit_still c.args.self.now.course c.args.self.now.work (g.T.Tree.went c.args.tree.now)

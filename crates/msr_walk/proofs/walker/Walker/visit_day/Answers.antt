@@ -60,7 +60,7 @@ returns-clause-told g c =
     c.args.path.now c.as_str.result.now kind (g.T.Tree.went c.args.tree.now) (g.T.Tree.went c.handle.new.tree) (g.T.Tree.went c.wait.new.tree)
     (g.O.Sink.device c.args.out.now) (g.O.Sink.device c.tell-told.new.out) c.args.progress.now c.wait.new.self
     c.args.self.now.apart there (c.args.name.now, c.requires.day)
-    (says_dropped (λ told. told.outcome) c.args.self.now.archive.now c.args.self.now.apart _ c.args.path.now _ _ _ _ c.make_way.ensures.works c.in_ok-handled.ensures.goes) c.wait.ensures.works told) told
+    (says_dropped (λ told. told.outcome) c.args.self.now.archive.now c.args.self.now.apart _ c.args.path.now _ _ _ _ (c.args.name.now, c.requires.day) c.make_way.ensures.works c.in_ok-handled.ensures.goes) c.wait.ensures.works told) told
 
 pub returns-clause-stops : goal.returns-clause-stops
 returns-clause-stops g c =
