@@ -78,11 +78,12 @@ module _ (archive : Archiving) (path : Path) (have : HaveNames archive.folders.o
       (stays_said visits said.2 said.0 new (others_rest path visit visits others) said.4))
 
   day_stays : (before after : List Visit) (kind : FileKind) (entries : List Entry) (old new : List Step) → kind ≢ Gone → AreOfOthers path after
-      → Said old new (before ++ Found path kind ∷ after) entries → StaysTold archive path entries new
+      → Said old new (before ++ Found path kind ∷ after) entries → StaysTold archive path entries old new
   day_stays [] after kind entries old new there others said =
       let first = said.3 in
       let says = first.says in
       let of = says.3.day there day in
+      let rest = said_does Says (ChangesWithin out reports) (RestsWithin root out reports) (within_then out reports) (λ from to rests. rests.within) said.0 new after said.2 said.4 in
       record {
         before = [];
         entry = record { path = path; channel = says.0; outcome = known_as archive.known path says.1 };
@@ -94,11 +95,12 @@ module _ (archive : Archiving) (path : Path) (have : HaveNames archive.folders.o
         name = of.0;
         reads = of.1;
         from = first.from;
-        told = told_on _ names out reports says.1 first.from said.0 new of.2
-            (said_does Says (ChangesWithin out reports) (RestsWithin root out reports) (within_then out reports) (λ from to rests. rests.within) said.0 new after said.2 said.4)
-            (stays_said after said.2 said.0 new others said.4);
+        since = first.before.within;
+        until = within_then out reports first.from said.0 new first.does rest;
+        told = told_on _ names out reports says.1 first.from said.0 new of.2 rest (stays_said after said.2 said.0 new others said.4);
       }
   day_stays (visit ∷ before) after kind entries old new there others said =
+      let first = said.3 in
       let later = day_stays before after kind said.2 said.0 new there others said.4 in
       record {
         before = said.1 ++ later.before;
@@ -111,6 +113,8 @@ module _ (archive : Archiving) (path : Path) (have : HaveNames archive.folders.o
         name = later.name;
         reads = later.reads;
         from = later.from;
+        since = within_then out reports old said.0 later.from (within_then out reports old first.from said.0 first.before.within first.does) later.since;
+        until = later.until;
         told = later.told;
       }
 

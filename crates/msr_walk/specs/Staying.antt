@@ -3,6 +3,7 @@ use Rattle.std.specs.Prelude.{◌≡◌, ◌≢◌, List, [], ◌∷◌, ◌++�
 use Rattle.msr_folders.specs.Days.{IsDay}
 use Rattle.msr_folders.specs.Entries.{Entry as Found, Left, Passed, Visit, WithoutList}
 use Rattle.msr_folders.specs.Names.{day_name}
+use Rattle.msr_folders.specs.Within.{ChangesWithin}
 use Rattle.msr_options.specs.Days.{with_name}
 use Rattle.msr_options.specs.declared.task.Archiving.{Archiving}
 use Rattle.msr_outcomes.specs.Entries.{Entry}
@@ -24,8 +25,9 @@ AreOfOthers path (WithoutList folder ∷ visits) = AreOfOthers path visits
 AreOfOthers path (Passed folder ∷ visits) = AreOfOthers path visits
 AreOfOthers path (Left folder ∷ visits) = AreOfOthers path visits
 
--- An entry tells the outcome of a day, and it was so from a moment of the walk to its end.
-pub record StaysTold (archive : Archiving) (path : Path) (entries : List Entry) (new : List Step) : Type 0 where
+-- An entry tells the outcome of a day, and it was so from a moment of the walk to its end. Until then and from then on only
+-- what stands within the folders of records and reports was changed.
+pub record StaysTold (archive : Archiving) (path : Path) (entries : List Entry) (old new : List Step) : Type 0 where
   pub before : List Entry
   pub entry : Entry
   pub after : List Entry
@@ -36,6 +38,8 @@ pub record StaysTold (archive : Archiving) (path : Path) (entries : List Entry) 
   pub name : SdsPath
   pub reads : ReadsAsDay path name
   pub from : List Step
+  pub since : ChangesWithin archive.folders.out.now archive.folders.reports.now old from
+  pub until : ChangesWithin archive.folders.out.now archive.folders.reports.now from new
   pub told : IsDayTold (with_name (day_name name) archive.days) (day_names_in archive path) archive.folders.out.now archive.folders.reports.now outcome from new
 
 -- what was told of a day stays so to the end of the walk, if the day is not visited once more
@@ -43,7 +47,7 @@ abbrev pub ToldDayStays : Type 0
 ToldDayStays = (archive : Archiving) (before after : List Visit) (path : Path) (kind : FileKind) (entries : List Entry) (old new : List Step)
     → IsArchiveTold archive (before ++ Found path kind ∷ after) entries old new
     → HaveNames archive.folders.out.now archive.folders.reports.now → kind ≢ Gone → IsDay path → AreOfOthers path after
-    → StaysTold archive path entries new
+    → StaysTold archive path entries old new
 
 -- and what was made before of a day that is not visited stays
 abbrev pub UnvisitedDayStays : Type 0
